@@ -1,0 +1,4 @@
+pub mod Flags
+pub mod Job
+pub mod Settings
+pub mod Status

@@ -1,0 +1,21 @@
+//! The values of data mover jobs: a job and its operation, flags, statuses, completion records, settings and ranges.
+//!
+//! The numbers and layouts are those of Intel's DSA and of `linux/idxd.h`. The definitions of `specs/` say
+//! what a job does; the contracts of every crate above cite them.
+#![tactic(auto)]
+
+mod flags;
+mod jobs;
+mod limits;
+mod operations;
+mod records;
+mod spans;
+mod statuses;
+
+pub use flags::JobFlags;
+pub use jobs::Job;
+pub use limits::Settings;
+pub use operations::{Direction, Op};
+pub use records::{BatchRecord, Record};
+pub use spans::Span;
+pub use statuses::Status;

@@ -1,4 +1,10 @@
+pub mod Descriptor
+pub mod First
 pub mod Flags
 pub mod Job
+pub mod Memory
+pub mod Pattern
+pub mod Range
+pub mod Refusal
 pub mod Settings
 pub mod Status

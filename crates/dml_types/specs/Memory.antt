@@ -1,0 +1,68 @@
+-- A memory image: pages that are present or absent, and the bytes from address 0 on.
+use Rattle.std.specs.Prelude.{◌≡◌, ℕ, ◌+◌, ◌-◌, ◌*◌, ◌/◌, ◌≤◌, Bool, false, not, List, [], ◌∷◌, ◌++◌, length, take, drop, slice_index, slice_index_or, slice_range, nat_eq}
+use Rattle.dml_types.specs.First.{first}
+use Rattle.dml_types.specs.declared.operations.Direction.{Direction}
+use Rattle.dml_types.specs.declared.operations.Direction.TheVariants.{Forward, Backward}
+
+abbrev pub page_size : ℕ
+page_size = 4096
+
+pub record Memory : Type 0 where
+  pub present : List Bool
+  pub bytes : List ℕ
+
+-- it has each byte of each of its pages
+pub record IsWhole (memory : Memory) : Type 0 where
+  pub each_page : length memory.bytes ≡ page_size * length memory.present
+
+-- whether a byte is present; past the last page none is
+abbrev pub has : Memory → ℕ → Bool
+has memory address = slice_index_or memory.present (address / page_size) false
+
+-- what every image keeps: 1 to 4,096 whole pages, and an absent byte stands as 0
+pub record IsMemory (memory : Memory) : Type 0 where
+  pub least_pages : 1 ≤ length memory.present
+  pub most_pages : length memory.present ≤ 4096
+  pub whole : IsWhole memory
+  pub absent : (address : ℕ) → has memory address ≡ false → slice_index memory.bytes address ≡ 0
+
+-- the offset that comes i-th where n offsets are worked on in a direction
+abbrev pub offset_in : Direction → ℕ → ℕ → ℕ
+offset_in Forward n i = i
+offset_in Backward n i = n - 1 - i
+
+-- how many of n bytes come before the first absent one
+abbrev pub present_toward : Direction → Memory → ℕ → ℕ → ℕ
+present_toward direction memory address n = first n (λ i. not (has memory (address + offset_in direction n i)))
+
+abbrev pub present_bytes : Memory → ℕ → ℕ → ℕ
+present_bytes memory address n = first n (λ i. not (has memory (address + i)))
+
+abbrev pub has_all : Memory → ℕ → ℕ → Bool
+has_all memory address n = nat_eq (present_bytes memory address n) n
+
+abbrev pub byte_at : Memory → ℕ → ℕ
+byte_at memory address = slice_index memory.bytes address
+
+abbrev pub bytes_at : Memory → ℕ → ℕ → List ℕ
+bytes_at memory address n = slice_range memory.bytes address (address + n)
+
+-- a list with another list written over it from a place on
+unfoldable pub overwrite : {X : Type 0} → List X → ℕ → List X → List X
+overwrite old place new = take place old ++ (new ++ drop (place + length new) old)
+
+abbrev pub put : Memory → ℕ → List ℕ → Memory
+put memory address bytes = record memory { bytes = overwrite memory.bytes address bytes }
+
+-- bytes to be written from an address on
+pub record Put : Type 0 where
+  pub address : ℕ
+  pub bytes : List ℕ
+
+abbrev pub put_of : ℕ → List ℕ → Put
+put_of address bytes = record { address = address; bytes = bytes }
+
+-- the memory after puts, one after another
+abbrev pub puts_made : Memory → List Put → Memory
+puts_made memory [] = memory
+puts_made memory (p ∷ puts) = puts_made (put memory p.address p.bytes) puts

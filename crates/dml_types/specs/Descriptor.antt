@@ -1,12 +1,7 @@
 -- The 64 bytes of a descriptor and the 32 of a completion record, with the layout of `linux/idxd.h`. All numbers
 -- are little-endian.
-use Rattle.std.specs.Prelude.{ℕ, ◌+◌, ◌%◌, ◌^◌, List, ◌∷◌, ◌++◌, Option, None, Some, replicate, slice_index, slice_range}
-use Rattle.std.specs.Int.{from_le_bytes, to_le_bytes, w32, w64}
-use Rattle.dml_types.specs.declared.jobs.Job.{Job}
-use Rattle.dml_types.specs.declared.operations.Op.{Op}
-use Rattle.dml_types.specs.declared.operations.Op.TheVariants.{NoOp, Move, Fill, Compare, ComparePattern, CreateDelta, ApplyDelta, Dualcast}
-use Rattle.dml_types.specs.declared.records.Record.{Record}
-use Rattle.dml_types.specs.declared.records.BatchRecord.{BatchRecord}
+use Rattle.std.specs.Prelude.{ℕ, ◌+◌, ◌%◌, ◌^◌, List, ◌∷◌, ◌++◌, Option, Some, replicate, slice_index, slice_range}
+use Rattle.dml_types.specs.Types.{Job, Op, Compare, ComparePattern, CreateDelta, ApplyDelta, Dualcast, Record, BatchRecord, from_le_bytes, to_le_bytes, w32, w64}
 use Rattle.dml_types.specs.Job.{plain, op_of}
 use Rattle.dml_types.specs.Status.{code_of}
 
@@ -27,16 +22,13 @@ common_fields bytes =
 
 -- those that an operation adds; elsewhere its descriptor is read past
 abbrev pub with_own_fields : Option Op → List ℕ → Job → Job
-with_own_fields None bytes job = job
-with_own_fields (Some NoOp) bytes job = job
-with_own_fields (Some Move) bytes job = job
-with_own_fields (Some Fill) bytes job = job
 with_own_fields (Some Compare) bytes job = record job { expected = u8_at bytes 40 }
 with_own_fields (Some ComparePattern) bytes job = record job { expected = u8_at bytes 40 }
 with_own_fields (Some CreateDelta) bytes job =
     record job { extra = u64_at bytes 40; delta_size = u32_at bytes 48; expected = u8_at bytes 56 }
 with_own_fields (Some ApplyDelta) bytes job = record job { delta_size = u32_at bytes 40 }
 with_own_fields (Some Dualcast) bytes job = record job { extra = u64_at bytes 40 }
+with_own_fields _ bytes job = job
 
 -- the job of a descriptor
 unfoldable pub decoded : List ℕ → Job

@@ -1,6 +1,6 @@
 -- The first index at which a test passes.
 use Rattle.std.specs.Prelude.{ℕ, Bool}
-use Rattle.std.specs.List.{position_or_len, range_with_len}
+use Rattle.dml_types.specs.Types.{position_or_len, range_with_len}
 
 -- the least i below n with test i, and n where there is none
 unfoldable pub first : ℕ → (ℕ → Bool) → ℕ

@@ -1,9 +1,6 @@
 -- A job: its operation, and the jobs that the constructors make. A field that is not named is 0.
-use Rattle.std.specs.Prelude.{ℕ, List, [], ◌∷◌, Option, nat_eq, find}
-use Rattle.std.specs.Option.{option_map}
-use Rattle.dml_types.specs.declared.jobs.Job.{Job}
-use Rattle.dml_types.specs.declared.operations.Op.{Op}
-use Rattle.dml_types.specs.declared.operations.Op.TheVariants.{NoOp, Move, Fill, Compare, ComparePattern, CreateDelta, ApplyDelta, Dualcast}
+use Rattle.std.specs.Prelude.{option_map, ℕ, List, [], ◌∷◌, Option, nat_eq, find}
+use Rattle.dml_types.specs.Types.{Job, Op, NoOp, Move, Fill, Compare, ComparePattern, CreateDelta, ApplyDelta, Dualcast}
 
 -- the operations by their opcodes; every other opcode is unsupported
 abbrev pub operations : List (ℕ × Op)

@@ -1,4 +1,9 @@
+pub mod Compare
+pub mod Conflict
+pub mod Copy
+pub mod Delta
 pub mod Descriptor
+pub mod Effect
 pub mod First
 pub mod Flags
 pub mod Job
@@ -6,5 +11,8 @@ pub mod Memory
 pub mod Pattern
 pub mod Range
 pub mod Refusal
+pub mod Rest
 pub mod Settings
 pub mod Status
+pub mod Step
+pub mod Types

@@ -1,8 +1,7 @@
 -- A memory image: pages that are present or absent, and the bytes from address 0 on.
 use Rattle.std.specs.Prelude.{◌≡◌, ℕ, ◌+◌, ◌-◌, ◌*◌, ◌/◌, ◌≤◌, Bool, false, not, List, [], ◌∷◌, ◌++◌, length, take, drop, slice_index, slice_index_or, slice_range, nat_eq}
 use Rattle.dml_types.specs.First.{first}
-use Rattle.dml_types.specs.declared.operations.Direction.{Direction}
-use Rattle.dml_types.specs.declared.operations.Direction.TheVariants.{Forward, Backward}
+use Rattle.dml_types.specs.Types.{Direction, Forward, Backward}
 
 abbrev pub page_size : ℕ
 page_size = 4096

@@ -1,7 +1,6 @@
 -- The 8 bytes of a pattern, low byte first, repeated.
 use Rattle.std.specs.Prelude.{ℕ, ◌%◌, List, map, slice_index}
-use Rattle.std.specs.List.{range_with_len}
-use Rattle.std.specs.Int.{to_le_bytes, w64}
+use Rattle.dml_types.specs.Types.{range_with_len, to_le_bytes, w64}
 
 abbrev pub pattern_byte : ℕ → ℕ → ℕ
 pattern_byte pattern i = slice_index (to_le_bytes w64 pattern) (i % 8)

@@ -1,10 +1,6 @@
 -- Ranges of addresses, and those that a job's descriptor names. Addresses are whole numbers: nothing wraps.
 use Rattle.std.specs.Prelude.{ℕ, ◌+◌, ◌^◌, max, min, Bool, List, [], ◌∷◌, nat_lt}
-use Rattle.std.specs.List.{list_any}
-use Rattle.dml_types.specs.declared.jobs.Job.{Job}
-use Rattle.dml_types.specs.declared.spans.Span.{Span}
-use Rattle.dml_types.specs.declared.operations.Op.{Op}
-use Rattle.dml_types.specs.declared.operations.Op.TheVariants.{NoOp, Move, Fill, Compare, ComparePattern, CreateDelta, ApplyDelta, Dualcast}
+use Rattle.dml_types.specs.Types.{Job, Span, Op, Move, Fill, Compare, ComparePattern, CreateDelta, ApplyDelta, Dualcast, list_any}
 
 abbrev pub span : ℕ → ℕ → Span
 span start len = record { start = start; len = len }
@@ -22,22 +18,19 @@ is_past a = nat_lt (2 ^ 64) (a.start + a.len)
 
 -- the ranges that a job reads, in the descriptor's order
 abbrev pub reads : Op → Job → List Span
-reads NoOp job = []
 reads Move job = span job.source job.size ∷ []
-reads Fill job = []
 reads Compare job = span job.source job.size ∷ span job.target job.size ∷ []
 reads ComparePattern job = span job.source job.size ∷ []
 reads CreateDelta job = span job.source job.size ∷ span job.target job.size ∷ []
 reads ApplyDelta job = span job.source job.delta_size ∷ []
 reads Dualcast job = span job.source job.size ∷ []
+reads _ job = []
 
 -- those that it writes; a create's record range has its maximum size
 abbrev pub writes : Op → Job → List Span
-writes NoOp job = []
 writes Move job = span job.target job.size ∷ []
 writes Fill job = span job.target job.size ∷ []
-writes Compare job = []
-writes ComparePattern job = []
 writes CreateDelta job = span job.extra job.delta_size ∷ []
 writes ApplyDelta job = span job.target job.size ∷ []
 writes Dualcast job = span job.target job.size ∷ span job.extra job.size ∷ []
+writes _ job = []

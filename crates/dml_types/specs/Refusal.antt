@@ -1,37 +1,21 @@
 -- When a job is refused: the rules in order, each with the status that answers where the job breaks it.
-use Rattle.std.specs.Prelude.{ℕ, ◌*◌, ◌/◌, ◌%◌, Bool, false, not, ◌||◌, ◌==◌, List, [], ◌∷◌, ◌++◌, Option, None, Some, find, nat_eq, nat_lt, bit_and}
-use Rattle.std.specs.Option.{option_map}
-use Rattle.std.specs.List.{list_any}
-use Rattle.dml_types.specs.declared.jobs.Job.{Job}
-use Rattle.dml_types.specs.declared.operations.Op.{Op}
-use Rattle.dml_types.specs.declared.operations.Op.TheVariants.{NoOp, Move, Fill, Compare, ComparePattern, CreateDelta, ApplyDelta, Dualcast}
-use Rattle.dml_types.specs.declared.statuses.Status.{Status}
-use Rattle.dml_types.specs.declared.statuses.Status.TheVariants.{BadOpcode, BadFlags, BadSize, BadDeltaSize, Misaligned, DualcastBits, Overlap, RangePast, StagingRefused}
+use Rattle.std.specs.Prelude.{unwrap_or, option_map, ℕ, ◌*◌, ◌/◌, ◌%◌, Bool, false, not, ◌||◌, ◌==◌, List, [], ◌∷◌, ◌++◌, Option, None, Some, find, nat_lt, bit_and}
+use Rattle.dml_types.specs.Types.{Job, Op, NoOp, Move, CreateDelta, ApplyDelta, Dualcast, Status, BadOpcode, BadFlags, BadSize, BadDeltaSize, Misaligned, DualcastBits, Overlap, RangePast, StagingRefused, list_any}
 use Rattle.dml_types.specs.Flags.{accepted_flags}
 use Rattle.dml_types.specs.Job.{op_of}
 use Rattle.dml_types.specs.Range.{span, shares, any_shares, is_past, reads, writes}
 
 -- the staging that a job needs
 abbrev pub need_of : Op → Job → ℕ
-need_of NoOp job = 0
 need_of Move job = job.size
-need_of Fill job = 0
-need_of Compare job = 0
-need_of ComparePattern job = 0
 need_of CreateDelta job = 10 * (job.size / 8)
 need_of ApplyDelta job = job.delta_size
 need_of Dualcast job = job.size
+need_of _ job = 0
 
 -- a job with an unsupported opcode needs none
-abbrev pub need_under : Option Op → Job → ℕ
-need_under None job = 0
-need_under (Some op) job = need_of op job
-
 abbrev pub need : Job → ℕ
-need job = need_under (op_of job) job
-
-abbrev pub is_multiple : ℕ → ℕ → Bool
-is_multiple unit n = nat_eq (n % unit) 0
+need job = unwrap_or (option_map (λ op. need_of op job) (op_of job)) 0
 
 -- a flag bit that is not accepted is set
 abbrev pub has_bad_flags : Job → Bool
@@ -39,56 +23,32 @@ has_bad_flags job = not (bit_and job.flags accepted_flags == job.flags)
 
 abbrev pub has_bad_size : Op → Job → Bool
 has_bad_size NoOp job = false
-has_bad_size Move job = nat_lt 1048576 job.size
-has_bad_size Fill job = nat_lt 1048576 job.size
-has_bad_size Compare job = nat_lt 1048576 job.size
-has_bad_size ComparePattern job = nat_lt 1048576 job.size
-has_bad_size CreateDelta job = nat_lt 0x80000 job.size || not (is_multiple 8 job.size)
-has_bad_size ApplyDelta job = nat_lt 0x80000 job.size || not (is_multiple 8 job.size)
-has_bad_size Dualcast job = nat_lt 1048576 job.size
+has_bad_size CreateDelta job = nat_lt 0x80000 job.size || not (job.size % 8 == 0)
+has_bad_size ApplyDelta job = nat_lt 0x80000 job.size || not (job.size % 8 == 0)
+has_bad_size _ job = nat_lt 1048576 job.size
 
 abbrev pub has_bad_delta_size : Op → Job → Bool
-has_bad_delta_size NoOp job = false
-has_bad_delta_size Move job = false
-has_bad_delta_size Fill job = false
-has_bad_delta_size Compare job = false
-has_bad_delta_size ComparePattern job = false
-has_bad_delta_size CreateDelta job = nat_lt job.delta_size 10 || nat_lt 655360 job.delta_size || not (is_multiple 10 job.delta_size)
-has_bad_delta_size ApplyDelta job = nat_lt 655360 job.delta_size || not (is_multiple 10 job.delta_size)
-has_bad_delta_size Dualcast job = false
+has_bad_delta_size CreateDelta job = nat_lt job.delta_size 10 || nat_lt 655360 job.delta_size || not (job.delta_size % 10 == 0)
+has_bad_delta_size ApplyDelta job = nat_lt 655360 job.delta_size || not (job.delta_size % 10 == 0)
+has_bad_delta_size _ job = false
 
 abbrev pub is_misaligned : Op → Job → Bool
-is_misaligned NoOp job = false
-is_misaligned Move job = false
-is_misaligned Fill job = false
-is_misaligned Compare job = false
-is_misaligned ComparePattern job = false
-is_misaligned CreateDelta job = not (is_multiple 8 job.source) || not (is_multiple 8 job.target)
-is_misaligned ApplyDelta job = not (is_multiple 8 job.target)
-is_misaligned Dualcast job = false
+is_misaligned CreateDelta job = not (job.source % 8 == 0) || not (job.target % 8 == 0)
+is_misaligned ApplyDelta job = not (job.target % 8 == 0)
+is_misaligned _ job = false
 
 -- bits 11:0 of the two destinations differ
 abbrev pub has_dualcast_bits : Op → Job → Bool
-has_dualcast_bits NoOp job = false
-has_dualcast_bits Move job = false
-has_dualcast_bits Fill job = false
-has_dualcast_bits Compare job = false
-has_dualcast_bits ComparePattern job = false
-has_dualcast_bits CreateDelta job = false
-has_dualcast_bits ApplyDelta job = false
 has_dualcast_bits Dualcast job = not (job.target % 4096 == job.extra % 4096)
+has_dualcast_bits _ job = false
 
 -- a written range shares a byte with a read one, or the two destinations share one
 abbrev pub has_overlap : Op → Job → Bool
-has_overlap NoOp job = false
-has_overlap Move job = false
-has_overlap Fill job = false
-has_overlap Compare job = false
-has_overlap ComparePattern job = false
 has_overlap CreateDelta job = any_shares (writes CreateDelta job) (reads CreateDelta job)
 has_overlap ApplyDelta job = any_shares (writes ApplyDelta job) (reads ApplyDelta job)
 has_overlap Dualcast job =
     any_shares (writes Dualcast job) (reads Dualcast job) || shares (span job.target job.size) (span job.extra job.size)
+has_overlap _ job = false
 
 abbrev pub has_range_past : Op → Job → Bool
 has_range_past op job = list_any is_past (reads op job ++ writes op job)

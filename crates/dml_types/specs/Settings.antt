@@ -1,6 +1,6 @@
 -- The limits of an engine's settings.
 use Rattle.std.specs.Prelude.{◌≡◌, ◌≤◌, ◌%◌}
-use Rattle.dml_types.specs.declared.limits.Settings.{Settings}
+use Rattle.dml_types.specs.Types.{Settings}
 
 pub record IsValid (settings : Settings) : Type 0 where
   pub staging : settings.staging ≤ 16777216

@@ -1,7 +1,6 @@
 -- Statuses and their codes in a completion record.
 use Rattle.std.specs.Prelude.{ℕ, List, [], ◌∷◌, Option, nat_eq, find}
-use Rattle.dml_types.specs.declared.statuses.Status.{Status}
-use Rattle.dml_types.specs.declared.statuses.Status.TheVariants.{Success, FalsePredicate, ReadFault, BatchFailed, NotRising, OffsetRange, BadOpcode, BadFlags, BadSize, BadDeltaSize, Overlap, DualcastBits, Misaligned, RangePast, StagingRefused, WriteFault}
+use Rattle.dml_types.specs.Types.{Status, Success, FalsePredicate, ReadFault, BatchFailed, NotRising, OffsetRange, BadOpcode, BadFlags, BadSize, BadDeltaSize, Overlap, DualcastBits, Misaligned, RangePast, StagingRefused, WriteFault}
 
 abbrev pub code_of : Status → ℕ
 code_of Success = 0x01

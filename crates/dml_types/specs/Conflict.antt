@@ -1,0 +1,37 @@
+-- Which jobs of a list have to wait for earlier ones.
+use Rattle.std.specs.Prelude.{unwrap_or, option_map, ℕ, zero, suc, ◌+◌, max, Bool, ◌||◌, List, [], ◌∷◌, ◌++◌, map, filter, slice_index, slice_index_or}
+use Rattle.dml_types.specs.Types.{Job, Span, range_with_len}
+use Rattle.dml_types.specs.Job.{op_of, no_op_job}
+use Rattle.dml_types.specs.Range.{any_shares, reads, writes}
+
+-- the ranges of a job, by its descriptor alone
+abbrev pub reads_of : Job → List Span
+reads_of job = unwrap_or (option_map (λ op. reads op job) (op_of job)) []
+
+abbrev pub writes_of : Job → List Span
+writes_of job = unwrap_or (option_map (λ op. writes op job) (op_of job)) []
+
+-- a written range of one shares a byte with a range of the other
+abbrev pub conflict : Job → Job → Bool
+conflict a b =
+    any_shares (writes_of a) (reads_of b) || any_shares (writes_of a) (writes_of b) || any_shares (reads_of a) (writes_of b)
+
+-- the jobs of a list are named by their places
+abbrev pub job_at : List Job → ℕ → Job
+job_at jobs i = slice_index_or jobs i no_op_job
+
+abbrev pub clash_of : List Job → ℕ → ℕ → Bool
+clash_of jobs i k = conflict (job_at jobs i) (job_at jobs k)
+
+abbrev pub greatest : List ℕ → ℕ
+greatest [] = 0
+greatest (x ∷ xs) = max x (greatest xs)
+
+-- one more than the greatest level of an earlier job that job i clashes with, and 0 where there is none
+abbrev pub level_over : (ℕ → ℕ → Bool) → List ℕ → ℕ → ℕ
+level_over clash levels i = greatest (map (λ k. slice_index levels k + 1) (filter (λ k. clash k i) (range_with_len 0 i)))
+
+-- the levels of the first n jobs
+abbrev pub levels_of : (ℕ → ℕ → Bool) → ℕ → List ℕ
+levels_of clash zero = []
+levels_of clash (suc n) = levels_of clash n ++ level_over clash (levels_of clash n) n ∷ []

@@ -1,0 +1,98 @@
+-- Create and apply a delta record: a list of entries of 10 bytes, a 2-byte block number and the block's 8 bytes.
+use Rattle.std.specs.Prelude.{ℕ, ◌+◌, ◌-◌, ◌*◌, ◌/◌, ◌%◌, ◌^◌, Bool, not, ◌&&◌, List, [], ◌∷◌, ◌++◌, map, length, take, filter, flat_map, find, Option, None, Some, is_some, option_map, if◌then◌else◌, ◌==◌, nat_lt, nat_le, slice_index, bytes_eq}
+use Rattle.dml_types.specs.Types.{Job, Record, Success, NotRising, OffsetRange, range_with_len, from_le_bytes, to_le_bytes, w16}
+use Rattle.dml_types.specs.First.{first}
+use Rattle.dml_types.specs.Memory.{Memory, Put, put_of, present_bytes, has_all, bytes_at}
+use Rattle.dml_types.specs.Effect.{Effect, effect_of, Fault, read_fault, write_fault, ended, faulted, judged}
+
+abbrev pub first_absent : Memory → ℕ → ℕ → ℕ
+first_absent memory address n = address + present_bytes memory address n
+
+-- block b of a range
+abbrev pub has_block : Memory → ℕ → ℕ → Bool
+has_block memory address b = has_all memory (address + 8 * b) 8
+
+abbrev pub block_at : Memory → ℕ → ℕ → List ℕ
+block_at memory address b = bytes_at memory (address + 8 * b) 8
+
+-- Create.
+-- how many blocks come before the first that has an absent byte in a source
+abbrev pub readable_blocks : Memory → Job → ℕ
+readable_blocks memory job = first (job.size / 8) (λ b. not (has_block memory job.source b && has_block memory job.target b))
+
+-- of these, the blocks whose two contents differ, upwards
+abbrev pub differing : Memory → Job → List ℕ
+differing memory job =
+    filter (λ b. not (bytes_eq (block_at memory job.source b) (block_at memory job.target b))) (range_with_len 0 (readable_blocks memory job))
+
+-- how many entries come before the first that has an absent byte
+abbrev pub entry_room : Memory → Job → ℕ
+entry_room memory job = first (job.delta_size / 10) (λ x. not (has_all memory (job.extra + 10 * x) 10))
+
+abbrev pub entry_for : Memory → Job → ℕ → List ℕ
+entry_for memory job b = to_le_bytes w16 b ++ block_at memory job.target b
+
+-- bit r of the mask says that result r is expected
+abbrev pub expects : Job → ℕ → Bool
+expects job outcome = job.expected / 2 ^ outcome % 2 == 1
+
+-- the read fault of a block, of source before source 2
+abbrev pub block_fault : Memory → Job → ℕ → Fault
+block_fault memory job b =
+    let address = (if has_block memory job.source b then job.target else job.source) in
+    read_fault (first_absent memory (address + 8 * b) 8)
+
+-- the record where the entry for a block has no room: overflow at the maximum, else a write fault
+abbrev pub crowded : Memory → Job → ℕ → ℕ → Record
+crowded memory job room b =
+    if room == job.delta_size / 10 then ended (judged job (expects job 2)) 2 (8 * b) (10 * room)
+    else faulted (write_fault (first_absent memory (job.extra + 10 * room) 10)) 0 (8 * b) (10 * room)
+
+-- the record where all entries were written: a read fault at the first block that is not readable, else the end
+abbrev pub written_out : Memory → Job → ℕ → Record
+written_out memory job entries =
+    let s = readable_blocks memory job in
+    let outcome = (if entries == 0 then 0 else 1) in
+    if s == job.size / 8 then ended (judged job (expects job outcome)) outcome job.size (10 * entries)
+    else faulted (block_fault memory job s) 0 (8 * s) (10 * entries)
+
+unfoldable pub created : Memory → Job → Effect
+created memory job =
+    let blocks = differing memory job in
+    let room = entry_room memory job in
+    effect_of (put_of job.extra (flat_map (entry_for memory job) (take room blocks)) ∷ [])
+    (if nat_lt room (length blocks) then crowded memory job room (slice_index blocks room)
+    else written_out memory job (length blocks))
+
+-- Apply.
+abbrev pub offset_at : Memory → Job → ℕ → ℕ
+offset_at memory job x = from_le_bytes w16 (bytes_at memory (job.source + 10 * x) 2)
+
+-- the causes for which an entry is bad, in order, each with its status and address
+abbrev pub entry_causes : Memory → Job → ℕ → List (Bool × Fault)
+entry_causes memory job x =
+    let offset = offset_at memory job x in
+    (not (has_all memory (job.source + 10 * x) 10), read_fault (first_absent memory (job.source + 10 * x) 10))
+    ∷ (nat_lt 0 x && nat_le offset (offset_at memory job (x - 1)), record { status = NotRising; address = 0 })
+    ∷ (nat_le (job.size / 8) offset, record { status = OffsetRange; address = 0 })
+    ∷ (not (has_block memory job.target offset), write_fault (first_absent memory (job.target + 8 * offset) 8)) ∷ []
+
+abbrev pub entry_fault : Memory → Job → ℕ → Option Fault
+entry_fault memory job x = option_map (λ cause. cause.1) (find (λ cause. cause.0) (entry_causes memory job x))
+
+-- how many entries come before the first bad one
+abbrev pub good_entries : Memory → Job → ℕ
+good_entries memory job = first (job.delta_size / 10) (λ x. is_some (entry_fault memory job x))
+
+abbrev pub entry_put : Memory → Job → ℕ → Put
+entry_put memory job x = put_of (job.target + 8 * offset_at memory job x) (bytes_at memory (job.source + 10 * x + 2) 8)
+
+abbrev pub apply_answer : ℕ → Option Fault → Record
+apply_answer x None = ended Success 0 (10 * x) 0
+apply_answer x (Some fault) = faulted fault 0 (10 * x) 0
+
+unfoldable pub applied : Memory → Job → Effect
+applied memory job =
+    let x = good_entries memory job in
+    effect_of (map (entry_put memory job) (range_with_len 0 x))
+    (apply_answer x (if x == job.delta_size / 10 then None else entry_fault memory job x))

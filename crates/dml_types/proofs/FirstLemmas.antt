@@ -32,8 +32,8 @@ first_is n test k within before here =
     position_or_len_is test (range_with_len 0 n) k 0 (omega (arith, length-range_with_len 0 n))
     (λ i low. let below : i < n = omega arith in ap test (get_or-range_with_len 0 n i 0 below ∙ omega arith) ∙ before i low)
     (λ low.
-        let below : k < n = omega (arith, length-range_with_len 0 n) in
-        ap test (get_or-range_with_len 0 n k 0 below ∙ omega arith) ∙ here below)
+    let below : k < n = omega (arith, length-range_with_len 0 n) in
+    ap test (get_or-range_with_len 0 n k 0 below ∙ omega arith) ∙ here below)
 
 pub first_agree : (n : ℕ) (one other : ℕ → Bool) → ((i : ℕ) → i < n → one i ≡ other i) → first n one ≡ first n other
 first_agree n one other same =
@@ -51,10 +51,10 @@ first_right m n test none =
     let rest : ℕ → Bool = λ i. test (m + i) in
     first_is (m + n) test (m + first n rest) (omega (arith, first_le n rest))
     (λ i before.
-        ⊎_elim (λ low. fails_before m test i (omega (arith, none))) (λ high.
-            let at : m + (i - m) ≡ i = omega arith in
-            ap test (sym at) ∙ fails_before n rest (i - m) (omega arith))
-        (cases_lt i m))
+    ⊎_elim (λ low. fails_before m test i (omega (arith, none))) (λ high.
+    let at : m + (i - m) ≡ i = omega arith in
+    ap test (sym at) ∙ fails_before n rest (i - m) (omega arith))
+    (cases_lt i m))
     (λ below. passes_at n rest (omega arith))
 
 -- no index passes where the first is n, and conversely

@@ -1,2 +1,4 @@
 pub mod FirstLemmas
 pub mod MemoryLemmas
+pub mod MoveLemmas
+pub mod StepLemmas

@@ -52,12 +52,12 @@ read_beside memory address bytes from n within apart = same_lists _ _ (search (r
 pub has_within : (memory : Memory) (address : ℕ) → IsWhole memory → has memory address ≡ true → address < length memory.bytes
 has_within memory address whole present =
     ⊎_elim (λ low. omega (arith, whole.each_page, div-lt address (length memory.present) low)) (λ high.
-        let absent : has memory address ≡ false = get_or_past memory.present (address / page_size) false high in
-        absurd (false≢true (sym absent ∙ present)))
+    let absent : has memory address ≡ false = get_or_past memory.present (address / page_size) false high in
+    absurd (false≢true (sym absent ∙ present)))
     (cases_lt (address / page_size) (length memory.present))
   where
-  div-lt : (a pages : ℕ) → a / 4096 < pages → a < 4096 * pages
-  div-lt a pages low = omega arith
+    div-lt : (a pages : ℕ) → a / 4096 < pages → a < 4096 * pages
+    div-lt a pages low = omega arith
 
 pub has_all_at : (memory : Memory) (address n i : ℕ) → has_all memory address n ≡ true → i < n → has memory (address + i) ≡ true
 has_all_at memory address n i all below =
@@ -98,12 +98,28 @@ put_keeps memory address (x ∷ xs) good all =
       most_pages = good.most_pages;
       whole = put_whole memory address (x ∷ xs) good.whole within;
       absent = λ k gone.
-        ⊎_elim (λ low. overwrite_below memory.bytes address (x ∷ xs) k 0 within low ∙ good.absent k gone) (λ high.
-            ⊎_elim (λ inside.
-                let at : address + (k - address) ≡ k = omega arith in
-                let here = has_all_at memory address (length (x ∷ xs)) (k - address) all (omega arith) in
-                absurd (false≢true (sym gone ∙ (ap (has memory) (sym at) ∙ here))))
-            (λ past. overwrite_past memory.bytes address (x ∷ xs) k 0 within past ∙ good.absent k gone)
-            (cases_lt k (address + length (x ∷ xs))))
-        (cases_lt k address)
+          ⊎_elim (λ low. overwrite_below memory.bytes address (x ∷ xs) k 0 within low ∙ good.absent k gone) (λ high.
+          ⊎_elim (λ inside.
+          let at : address + (k - address) ≡ k = omega arith in
+          let here = has_all_at memory address (length (x ∷ xs)) (k - address) all (omega arith) in
+          absurd (false≢true (sym gone ∙ (ap (has memory) (sym at) ∙ here))))
+          (λ past. overwrite_past memory.bytes address (x ∷ xs) k 0 within past ∙ good.absent k gone)
+          (cases_lt k (address + length (x ∷ xs))))
+          (cases_lt k address);
     }
+
+-- no bytes: nothing is read, and nothing is written
+pub bytes_at_none : (memory : Memory) (address n : ℕ) → n ≡ 0 → bytes_at memory address n ≡ []
+bytes_at_none memory address n none =
+    let nothing : address + n - address ≡ 0 = omega arith in ap (λ (k : ℕ). take k (drop address memory.bytes)) nothing
+
+pub put_nil : (memory : Memory) (address : ℕ) → put memory address [] ≡ memory
+put_nil memory address = ap (λ (items : List ℕ). record memory { bytes = items }) (overwrite_nil memory.bytes address)
+
+pub put_comm : (memory : Memory) (a : ℕ) (xs : List ℕ) (b : ℕ) (ys : List ℕ) → a + length xs ≤ b → b + length ys ≤ length memory.bytes → put (put memory a xs) b ys ≡ put (put memory b ys) a xs
+put_comm memory a xs b ys apart within =
+    ap (λ (items : List ℕ). record memory { bytes = items }) (overwrite_comm memory.bytes a xs b ys apart within)
+
+pub put_append : (memory : Memory) (a : ℕ) (xs ys : List ℕ) → a + (length xs + length ys) ≤ length memory.bytes → put (put memory a xs) (a + length xs) ys ≡ put memory a (xs ++ ys)
+put_append memory a xs ys within =
+    ap (λ (items : List ℕ). record memory { bytes = items }) (overwrite_append memory.bytes a xs ys within)

@@ -6,6 +6,7 @@
 
 mod flags;
 mod jobs;
+mod laws;
 mod limits;
 mod operations;
 mod records;
@@ -14,6 +15,7 @@ mod statuses;
 
 pub use flags::JobFlags;
 pub use jobs::Job;
+pub use laws::{law_of_first, law_of_folds, law_of_moves, law_of_puts, law_of_steps};
 pub use limits::Settings;
 pub use operations::{Direction, Op};
 pub use records::{BatchRecord, Record};

@@ -1,0 +1,67 @@
+//! What the definitions mean, as laws of theirs: each is the contract of a function that does nothing.
+
+ghost use Rattle.std.specs.Prelude.{◌≡◌, ℕ, ◌+◌, ◌<◌, ◌≤◌, ◌⊎◌, Bool, true, false, List, [], ◌∷◌, ◌++◌, length, Some, None};
+ghost use Rattle.dml_types.specs.Types.{Job, Status, NoOp, Move};
+ghost use Rattle.dml_types.specs.Job.{op_of};
+ghost use Rattle.dml_types.specs.First.{first};
+ghost use Rattle.dml_types.specs.Memory.{Memory, IsWhole, bytes_at, put};
+ghost use Rattle.dml_types.specs.Refusal.{refusal};
+ghost use Rattle.dml_types.specs.Effect.{ended};
+ghost use Rattle.dml_types.specs.Copy.{direction_of, done_from, move_length};
+ghost use Rattle.dml_types.specs.Step.{step, memory_after, records_of};
+
+/// The first index: none before it passes, it passes where it is within the range, and in a range cut in two it is
+/// that of the front where it lies there, else that of the back.
+pub fn law_of_first()
+    ensures within { (n : ℕ) (test : ℕ → Bool) → first n test ≤ n }
+    ensures fails_before { (n : ℕ) (test : ℕ → Bool) (i : ℕ) → i < first n test → test i ≡ false }
+    ensures passes { (n : ℕ) (test : ℕ → Bool) → first n test < n → test (first n test) ≡ true }
+    ensures in_front { (m n : ℕ) (test : ℕ → Bool) → first m test < m → first (m + n) test ≡ first m test }
+    ensures in_back { (m n : ℕ) (test : ℕ → Bool) → first m test ≡ m → first (m + n) test ≡ m + first n (λ i. test (m + i)) }
+{}
+
+/// Puts: what was written is read, a read beside it is as before, disjoint puts commute, and puts side by side are
+/// one put.
+pub fn law_of_puts()
+    ensures written { (memory : Memory) (address : ℕ) (bytes : List ℕ) → address + length bytes ≤ length memory.bytes →
+        bytes_at (put memory address bytes) address (length bytes) ≡ bytes }
+    ensures beside { (memory : Memory) (address : ℕ) (bytes : List ℕ) (from n : ℕ) → address + length bytes ≤ length memory.bytes →
+        (from + n ≤ address) ⊎ (address + length bytes ≤ from) →
+        bytes_at (put memory address bytes) from n ≡ bytes_at memory from n }
+    ensures commute { (memory : Memory) (a : ℕ) (xs : List ℕ) (b : ℕ) (ys : List ℕ) → a + length xs ≤ b →
+        b + length ys ≤ length memory.bytes → put (put memory a xs) b ys ≡ put (put memory b ys) a xs }
+    ensures side_by_side { (memory : Memory) (a : ℕ) (xs ys : List ℕ) → a + (length xs + length ys) ≤ length memory.bytes →
+        put (put memory a xs) (a + length xs) ys ≡ put memory a (xs ++ ys) }
+{}
+
+/// Steps: presence never changes, a refused job leaves the image and answers its status alone, and a no-op leaves
+/// the image.
+pub fn law_of_steps()
+    ensures presence { (memory : Memory) (job : Job) (staging : ℕ) → (step memory job staging).0.present ≡ memory.present }
+    ensures refused { (memory : Memory) (job : Job) (staging : ℕ) (status : Status) → refusal job staging ≡ Some status →
+        step memory job staging ≡ (memory, ended status 0 0 0) }
+    ensures no_op { (memory : Memory) (job : Job) (staging : ℕ) → op_of job ≡ Some NoOp → (step memory job staging).0 ≡ memory }
+{}
+
+/// Folds: a list cut in two is done in parts, there is a record for each job, and presence never changes.
+pub fn law_of_folds()
+    ensures image_in_parts { (memory : Memory) (jobs more : List Job) (staging : ℕ) →
+        memory_after memory (jobs ++ more) staging ≡ memory_after (memory_after memory jobs staging) more staging }
+    ensures records_in_parts { (memory : Memory) (jobs more : List Job) (staging : ℕ) →
+        records_of memory (jobs ++ more) staging
+        ≡ records_of memory jobs staging ++ records_of (memory_after memory jobs staging) more staging }
+    ensures as_many { (memory : Memory) (jobs : List Job) (staging : ℕ) → length (records_of memory jobs staging) ≡ length jobs }
+    ensures presence { (memory : Memory) (jobs : List Job) (staging : ℕ) → (memory_after memory jobs staging).present ≡ memory.present }
+{}
+
+/// Moves: the part of the destination that was done holds the source as it stood before the job, whatever was
+/// overwritten on the way, and all else is as before.
+pub fn law_of_moves()
+    ensures source_as_it_stood { (memory : Memory) (job : Job) (staging : ℕ) → IsWhole memory → op_of job ≡ Some Move → refusal job staging ≡ None →
+        let k = move_length memory job in let from = done_from (direction_of job) job.size k in
+        bytes_at (step memory job staging).0 (job.target + from) k ≡ bytes_at memory (job.source + from) k }
+    ensures beside { (memory : Memory) (job : Job) (staging address n : ℕ) → IsWhole memory → op_of job ≡ Some Move → refusal job staging ≡ None →
+        let k = move_length memory job in let from = done_from (direction_of job) job.size k in
+        (address + n ≤ job.target + from) ⊎ (job.target + from + k ≤ address) →
+        bytes_at (step memory job staging).0 address n ≡ bytes_at memory address n }
+{}

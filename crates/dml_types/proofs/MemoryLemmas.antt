@@ -1,10 +1,9 @@
 -- The laws of puts, reads and presence.
-use Rattle.std.proofs.Common.{◌≡◌, ℕ, ◌+◌, ◌-◌, ◌*◌, ◌/◌, ◌%◌, ◌<◌, ◌≤◌, Bool, true, false, not, List, [], ◌∷◌, ◌++◌, length, get_or, set, take, drop, refl, sym, ◌∙◌, ap, subst, arith, rules, ◌⊎◌, inl, inr, ⊎_elim, eq-eqb, eqb-true, nat_eq}
+use Rattle.std.proofs.Common.{◌≡◌, ℕ, ◌+◌, ◌-◌, ◌*◌, ◌/◌, ◌<◌, ◌≤◌, true, false, not, List, [], ◌∷◌, ◌++◌, length, get_or, take, drop, refl, sym, ◌∙◌, ap, subst, arith, rules, ◌⊎◌, ⊎_elim, eq-eqb, eqb-true}
 use Rattle.std.proofs.lemmas.List.{places, same_lists, get_or_past}
-use Rattle.std.proofs.lemmas.Bool.{cases_lt, false≢true, not-false, not_from_true}
-use Rattle.dml_types.specs.First.{first}
-use Rattle.dml_types.specs.Memory.{Memory, IsMemory, IsWhole, page_size, has, has_all, present_bytes, bytes_at, byte_at, overwrite, put, Put, puts_made}
-use Rattle.dml_types.proofs.FirstLemmas.{first_le, first_is, first_none, none_pass, fails_before, passes_at}
+use Rattle.std.proofs.lemmas.Bool.{cases_lt, false≢true, not-false}
+use Rattle.dml_types.specs.Memory.{Memory, IsMemory, IsWhole, page_size, has, has_all, present_bytes, bytes_at, overwrite, put, Put, puts_made}
+use Rattle.dml_types.proofs.FirstLemmas.{first_none, none_pass, fails_before}
 
 -- overwrite: its length, and each of its elements
 pub length_overwrite : {X : Type 0} (old : List X) (place : ℕ) (new : List X) → place + length new ≤ length old → length (overwrite old place new) ≡ length old

@@ -1,13 +1,11 @@
 -- A move reads its source as it stood before the job, whatever it overwrites on the way.
-use Rattle.std.proofs.Common.{◌≡◌, ℕ, ◌+◌, ◌-◌, ◌<◌, ◌≤◌, Bool, true, false, not, ◌&&◌, List, [], ◌∷◌, length, Option, None, Some, refl, sym, ◌∙◌, ap, subst, arith, rules, inl, inr, ◌⊎◌, ⊎_elim}
+use Rattle.std.proofs.Common.{◌≡◌, ℕ, ◌+◌, ◌-◌, ◌<◌, ◌≤◌, true, not, List, length, None, Some, sym, ◌∙◌, ap, subst, arith, inl, inr, ◌⊎◌, ⊎_elim}
 use Rattle.std.proofs.lemmas.Bool.{cases_lt, not-false, and_parts}
-use Rattle.std.proofs.lemmas.List.{places, same_lists}
-use Rattle.dml_types.specs.Types.{Job, Record, Direction, Forward, Backward, Op, Move}
+use Rattle.dml_types.specs.Types.{Job, Record, Direction, Forward, Backward, Move}
 use Rattle.dml_types.specs.Job.{op_of}
-use Rattle.dml_types.specs.First.{first}
-use Rattle.dml_types.specs.Memory.{Memory, IsWhole, has, bytes_at, offset_in, overwrite, put, puts_made}
+use Rattle.dml_types.specs.Memory.{Memory, IsWhole, bytes_at, offset_in, put, puts_made}
 use Rattle.dml_types.specs.Refusal.{refusal}
-use Rattle.dml_types.specs.Effect.{Effect, is_clear}
+use Rattle.dml_types.specs.Effect.{is_clear}
 use Rattle.dml_types.specs.Copy.{direction_of, done_from, move_faults, move_length, moved}
 use Rattle.dml_types.specs.Step.{step}
 use Rattle.dml_types.proofs.FirstLemmas.{first_le, fails_before}

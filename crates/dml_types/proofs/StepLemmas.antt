@@ -1,10 +1,10 @@
 -- The laws of effects, steps and folds.
-use Rattle.std.proofs.Common.{◌≡◌, ℕ, ◌+◌, List, [], ◌∷◌, ◌++◌, length, Option, None, Some, refl, sym, ◌∙◌, ap, arith}
+use Rattle.std.proofs.Common.{◌≡◌, ℕ, List, [], ◌∷◌, ◌++◌, length, Option, None, Some, refl, ◌∙◌, ap, arith}
 use Rattle.dml_types.specs.Types.{Job, Record, Op, NoOp, Status}
 use Rattle.dml_types.specs.Job.{op_of}
-use Rattle.dml_types.specs.Memory.{Memory, put, puts_made}
+use Rattle.dml_types.specs.Memory.{Memory, puts_made}
 use Rattle.dml_types.specs.Refusal.{refusal}
-use Rattle.dml_types.specs.Effect.{Effect, effect_of, ended, refused}
+use Rattle.dml_types.specs.Effect.{Effect, ended, refused}
 use Rattle.dml_types.specs.Step.{effect, effect_by, effect_unless, step, memory_after, records_of}
 use Rattle.dml_types.proofs.MemoryLemmas.{puts_present}
 

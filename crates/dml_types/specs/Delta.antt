@@ -16,14 +16,20 @@ abbrev pub block_at : Memory → ℕ → ℕ → List ℕ
 block_at memory address b = bytes_at memory (address + 8 * b) 8
 
 -- Create.
--- how many blocks come before the first that has an absent byte in a source
+-- a block with all its bytes in both sources, and one whose two contents differ
+abbrev pub is_readable : Memory → Job → ℕ → Bool
+is_readable memory job b = has_block memory job.source b && has_block memory job.target b
+
+abbrev pub differs : Memory → Job → ℕ → Bool
+differs memory job b = not (bytes_eq (block_at memory job.source b) (block_at memory job.target b))
+
+-- how many blocks come before the first that is not readable
 abbrev pub readable_blocks : Memory → Job → ℕ
-readable_blocks memory job = first (job.size / 8) (λ b. not (has_block memory job.source b && has_block memory job.target b))
+readable_blocks memory job = first (job.size / 8) (λ b. not (is_readable memory job b))
 
 -- of these, the blocks whose two contents differ, upwards
 abbrev pub differing : Memory → Job → List ℕ
-differing memory job =
-    filter (λ b. not (bytes_eq (block_at memory job.source b) (block_at memory job.target b))) (range_with_len 0 (readable_blocks memory job))
+differing memory job = filter (differs memory job) (range_with_len 0 (readable_blocks memory job))
 
 -- how many entries come before the first that has an absent byte
 abbrev pub entry_room : Memory → Job → ℕ
@@ -68,21 +74,21 @@ created memory job =
 abbrev pub offset_at : Memory → Job → ℕ → ℕ
 offset_at memory job x = from_le_bytes w16 (bytes_at memory (job.source + 10 * x) 2)
 
--- the causes for which an entry is bad, in order, each with its status and address
-abbrev pub entry_causes : Memory → Job → ℕ → List (Bool × Fault)
-entry_causes memory job x =
+-- the causes for which entry x is bad, in order, each with its status and address; the rise is judged behind an entry
+abbrev pub entry_causes : ℕ → Memory → Job → ℕ → List (Bool × Fault)
+entry_causes behind memory job x =
     let offset = offset_at memory job x in
     (not (has_all memory (job.source + 10 * x) 10), read_fault (first_absent memory (job.source + 10 * x) 10))
-    ∷ (nat_lt 0 x && nat_le offset (offset_at memory job (x - 1)), record { status = NotRising; address = 0 })
+    ∷ (nat_lt behind x && nat_le offset (offset_at memory job (x - 1)), record { status = NotRising; address = 0 })
     ∷ (nat_le (job.size / 8) offset, record { status = OffsetRange; address = 0 })
     ∷ (not (has_block memory job.target offset), write_fault (first_absent memory (job.target + 8 * offset) 8)) ∷ []
 
-abbrev pub entry_fault : Memory → Job → ℕ → Option Fault
-entry_fault memory job x = option_map (λ cause. cause.1) (find (λ cause. cause.0) (entry_causes memory job x))
+abbrev pub entry_fault : ℕ → Memory → Job → ℕ → Option Fault
+entry_fault behind memory job x = option_map (λ cause. cause.1) (find (λ cause. cause.0) (entry_causes behind memory job x))
 
 -- how many entries come before the first bad one
 abbrev pub good_entries : Memory → Job → ℕ
-good_entries memory job = first (job.delta_size / 10) (λ x. is_some (entry_fault memory job x))
+good_entries memory job = first (job.delta_size / 10) (λ x. is_some (entry_fault 0 memory job x))
 
 abbrev pub entry_put : Memory → Job → ℕ → Put
 entry_put memory job x = put_of (job.target + 8 * offset_at memory job x) (bytes_at memory (job.source + 10 * x + 2) 8)
@@ -95,4 +101,4 @@ unfoldable pub applied : Memory → Job → Effect
 applied memory job =
     let x = good_entries memory job in
     effect_of (map (entry_put memory job) (range_with_len 0 x))
-    (apply_answer x (if x == job.delta_size / 10 then None else entry_fault memory job x))
+    (apply_answer x (if x == job.delta_size / 10 then None else entry_fault 0 memory job x))

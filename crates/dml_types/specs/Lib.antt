@@ -1,3 +1,4 @@
+pub mod Chunk
 pub mod Compare
 pub mod Conflict
 pub mod Copy

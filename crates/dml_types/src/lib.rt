@@ -4,6 +4,7 @@
 //! what a job does; the contracts of every crate above cite them.
 #![tactic(auto)]
 
+mod findings;
 mod flags;
 mod jobs;
 mod laws;
@@ -13,6 +14,7 @@ mod records;
 mod spans;
 mod statuses;
 
+pub use findings::Found;
 pub use flags::JobFlags;
 pub use jobs::Job;
 pub use laws::{law_of_first, law_of_folds, law_of_moves, law_of_puts, law_of_steps};

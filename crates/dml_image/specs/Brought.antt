@@ -1,0 +1,11 @@
+-- A new image, and an image after a page was brought.
+use Rattle.std.specs.Prelude.{ℕ, ◌*◌, Bool, true, false, List, replicate, slice_set}
+use Rattle.dml_types.specs.Memory.{Memory, page_size, put}
+
+-- no page is present
+abbrev pub all_absent : ℕ → Memory
+all_absent pages = record { present = replicate pages false; bytes = replicate (page_size * pages) 0 }
+
+-- the page is present with these bytes
+abbrev pub brought : Memory → ℕ → List ℕ → Memory
+brought memory page bytes = put (record memory { present = slice_set memory.present page true }) (page_size * page) bytes

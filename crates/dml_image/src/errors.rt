@@ -1,0 +1,15 @@
+use thiserror::Error;
+
+/// Why a call of an image was refused.
+#[derive(Debug, Drop, Error)]
+pub enum ImageError {
+    /// An image has 1 to 4,096 pages.
+    #[error("an image has 1 to 4096 pages")]
+    BadPages,
+    /// The image has no page of this number.
+    #[error("there is no such page")]
+    NoSuchPage,
+    /// A growth was refused.
+    #[error("out of memory")]
+    NoMemory,
+}

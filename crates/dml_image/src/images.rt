@@ -1,0 +1,193 @@
+ghost use Rattle.std.specs.Prelude.{◌≡◌, ◌≢◌, ◌+◌, ◌^◌, ◌<◌, ◌≤◌, ◌↔◌, ◌⊎◌, length, IfOk, OnErr, OnOk, IsTrue, MatchOption, if◌then◌else◌};
+ghost use Rattle.dml_types.specs.Memory.{IsMemory, has, has_all, byte_at, bytes_at, present_toward, put};
+ghost use Rattle.dml_types.specs.Pattern.{pattern_bytes};
+ghost use Rattle.dml_image.specs.Brought.{all_absent, brought};
+
+use std::alloc::Global;
+use std::marker::Model;
+
+use dml_types::Direction;
+
+use crate::errors::ImageError;
+use crate::slices::{fill_at, write_at};
+
+const PAGE_SIZE: usize = 4096;
+const MAX_PAGES: u32 = 4096;
+
+/// A memory of 1 to 4,096 pages of 4,096 bytes, from address 0 on.
+///
+/// Each page is present or absent, and no byte past the last page is present.
+#[derive(Drop)]
+pub struct Image {
+    present: Vec<bool>,
+    content: Vec<u8>,
+}
+
+impl Model for Image {
+    ghost use Rattle.dml_types.specs.Memory.{Memory, IsMemory};
+
+    ghost Value = { Memory };
+
+    ghost view = { λ i. record { present = i.present.items; bytes = i.content.items } };
+
+    ghost invariant = { λ i. IsMemory (record { present = i.present.items; bytes = i.content.items }) };
+}
+
+impl Image {
+    /// An image of so many pages, all absent.
+    ///
+    /// # Errors
+    /// `BadPages` unless there are 1 to 4,096 pages, and `NoMemory`.
+    pub fn new(alloc: Global, pages: u32) -> Result<Image, ImageError>
+        ensures image { IfOk result (λ image. image ≡ all_absent pages) }
+        ensures memory { IfOk result IsMemory }
+        ensures bad_pages { (result ≡ Err ImageError.BadPages) ↔ ((pages < 1) ⊎ (4096 < pages)) }
+        ensures no_page_is_named { result ≢ Err ImageError.NoSuchPage }
+    {
+        if pages < 1 || pages > MAX_PAGES {
+            return Err(ImageError::BadPages);
+        }
+        let pages = pages as usize;
+        let present = vec![in alloc; false; pages].map_err(|_| ImageError::NoMemory)?;
+        let content = vec![in alloc; 0; PAGE_SIZE * pages].map_err(|_| ImageError::NoMemory)?;
+        Ok(Image { present, content })
+    }
+
+    /// The number of pages.
+    pub fn pages(&self) -> u32
+        ensures value { result ≡ length self.now.present }
+        ensures memory { IsMemory self.now }
+    {
+        self.present.len() as u32
+    }
+
+    /// Makes a page present with these bytes; a page that is present is overwritten.
+    ///
+    /// # Errors
+    /// `NoSuchPage` where the image has no page of this number; nothing is changed then. For now no call
+    /// answers `NoMemory`.
+    pub fn bring(&mut self, page: u32, bytes: &[u8; 4096]) -> Result<(), ImageError>
+        ensures ok { OnOk result (self.new ≡ brought self.old page bytes.now) }
+        ensures err { OnErr result (self.new ≡ self.old) }
+        ensures no_such_page { (result ≡ Err ImageError.NoSuchPage) ↔ (length self.old.present ≤ page) }
+        ensures no_count_is_bad { result ≢ Err ImageError.BadPages }
+        ensures memory { IsMemory self.new }
+    {
+        let page = page as usize;
+        if page >= self.present.len() {
+            return Err(ImageError::NoSuchPage);
+        }
+        write_at(self.content.as_mut_slice(), PAGE_SIZE * page, bytes);
+        self.present[page] = true;
+        Ok(())
+    }
+
+    /// Whether the byte at this address is present.
+    pub fn has(&self, addr: u64) -> bool
+        ensures value { result ≡ has self.now addr }
+        ensures memory { IsMemory self.now }
+    {
+        self.present
+            .get(addr as usize / PAGE_SIZE)
+            .is_some_and(|present| *present)
+    }
+
+    /// The byte at this address, where it is present.
+    pub fn byte(&self, addr: u64) -> Option<u8>
+        ensures value { result ≡ (if has self.now addr then Some (byte_at self.now addr) else None) }
+        ensures memory { IsMemory self.now }
+    {
+        if self.has(addr) {
+            Some(self.content[addr as usize])
+        } else {
+            None
+        }
+    }
+
+    /// Reads bytes from this address on into the whole buffer.
+    pub fn read_into(&self, addr: u64, buffer: &mut [u8])
+        requires { IsTrue (has_all self.now addr (length buffer.old)) }
+        ensures bytes { buffer.new ≡ bytes_at self.now addr (length buffer.old) }
+        ensures memory { IsMemory self.now }
+    {
+        if buffer.is_empty() {
+            return;
+        }
+        let place = addr as usize;
+        buffer.copy_from_slice(&self.content[place..place + buffer.len()]);
+    }
+
+    /// Writes bytes from this address on.
+    pub fn write(&mut self, addr: u64, bytes: &[u8])
+        requires { IsTrue (has_all self.old addr (length bytes.now)) }
+        ensures bytes { self.new ≡ put self.old addr bytes.now }
+        ensures memory { IsMemory self.new }
+    {
+        if bytes.is_empty() {
+            return;
+        }
+        write_at(self.content.as_mut_slice(), addr as usize, bytes);
+    }
+
+    /// Repeats the 8 bytes of a pattern, low byte first, over `len` bytes from this address on.
+    pub fn fill(&mut self, addr: u64, len: u32, pattern: u64)
+        requires { IsTrue (has_all self.old addr len) }
+        ensures bytes { self.new ≡ put self.old addr (pattern_bytes pattern len) }
+        ensures memory { IsMemory self.new }
+    {
+        if len == 0 {
+            return;
+        }
+        fill_at(self.content.as_mut_slice(), addr as usize, len as usize, pattern);
+    }
+
+    /// How many of `len` bytes from this address on come before the first absent one, in the order of
+    /// `direction`; `None` where all are present.
+    pub fn first_absent(&self, addr: u64, len: u32, direction: Direction) -> Option<u32>
+        requires { addr + len ≤ 2 ^ 64 }
+        ensures count { MatchOption result (present_toward direction self.now addr len ≡ len) (λ k. (k < len) × (present_toward direction self.now addr len ≡ k)) }
+        ensures memory { IsMemory self.now }
+    {
+        let present = match direction {
+            Direction::Forward => self.present_upwards(addr, len),
+            Direction::Backward => self.present_downwards(addr, len),
+        };
+        (present < len).then_some(present)
+    }
+
+    /// How many bytes come before the first absent one upwards.
+    #[tactic(auto, using(crate::proofs::RunLemmas::present_toward_is, crate::proofs::RunLemmas::present_toward_stops, crate::proofs::RunLemmas::has_above))]
+    fn present_upwards(&self, addr: u64, len: u32) -> u32
+        requires { addr + len ≤ 2 ^ 64 }
+        ensures { result ≡ present_toward Direction.Forward self.now addr len }
+    {
+        let mut done = 0;
+        while done < len {
+            let place = addr + u64::from(done);
+            if !self.has(place) {
+                return done;
+            }
+            let of_page = PAGE_SIZE as u32 - (place % PAGE_SIZE as u64) as u32;
+            done += of_page.min(len - done);
+        }
+        done
+    }
+
+    /// How many bytes come before the first absent one downwards.
+    #[tactic(auto, using(crate::proofs::RunLemmas::present_toward_is, crate::proofs::RunLemmas::present_toward_stops, crate::proofs::RunLemmas::has_below))]
+    fn present_downwards(&self, addr: u64, len: u32) -> u32
+        requires { addr + len ≤ 2 ^ 64 }
+        ensures { result ≡ present_toward Direction.Backward self.now addr len }
+    {
+        let mut done = 0;
+        while done < len {
+            let place = addr + u64::from(len - 1 - done);
+            if !self.has(place) {
+                return done;
+            }
+            let of_page = (place % PAGE_SIZE as u64) as u32 + 1;
+            done += of_page.min(len - done);
+        }
+        done
+    }
+}

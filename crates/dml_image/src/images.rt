@@ -8,10 +8,11 @@ use std::marker::Model;
 
 use dml_types::Direction;
 
+use crate::PAGE_SIZE;
 use crate::errors::ImageError;
+use crate::runs::{is_present, present_downwards, present_upwards};
 use crate::slices::{fill_at, write_at};
 
-const PAGE_SIZE: usize = 4096;
 const MAX_PAGES: u32 = 4096;
 
 /// A memory of 1 to 4,096 pages of 4,096 bytes, from address 0 on.
@@ -87,9 +88,7 @@ impl Image {
         ensures value { result ≡ has self.now addr }
         ensures memory { IsMemory self.now }
     {
-        self.present
-            .get(addr as usize / PAGE_SIZE)
-            .is_some_and(|present| *present)
+        is_present(self.present.as_slice(), addr)
     }
 
     /// The byte at this address, where it is present.
@@ -110,10 +109,10 @@ impl Image {
         ensures bytes { buffer.new ≡ bytes_at self.now addr (length buffer.old) }
         ensures memory { IsMemory self.now }
     {
-        if buffer.is_empty() {
-            return;
-        }
         let place = addr as usize;
+        if place >= self.content.len() {
+            return; // no byte there is present, so the range is empty
+        }
         buffer.copy_from_slice(&self.content[place..place + buffer.len()]);
     }
 
@@ -123,10 +122,11 @@ impl Image {
         ensures bytes { self.new ≡ put self.old addr bytes.now }
         ensures memory { IsMemory self.new }
     {
-        if bytes.is_empty() {
-            return;
+        let place = addr as usize;
+        if place >= self.content.len() {
+            return; // no byte there is present, so the range is empty
         }
-        write_at(self.content.as_mut_slice(), addr as usize, bytes);
+        write_at(self.content.as_mut_slice(), place, bytes);
     }
 
     /// Repeats the 8 bytes of a pattern, low byte first, over `len` bytes from this address on.
@@ -135,10 +135,11 @@ impl Image {
         ensures bytes { self.new ≡ put self.old addr (pattern_bytes pattern len) }
         ensures memory { IsMemory self.new }
     {
-        if len == 0 {
-            return;
+        let place = addr as usize;
+        if place >= self.content.len() {
+            return; // no byte there is present, so the range is empty
         }
-        fill_at(self.content.as_mut_slice(), addr as usize, len as usize, pattern);
+        fill_at(self.content.as_mut_slice(), place, len as usize, pattern);
     }
 
     /// How many of `len` bytes from this address on come before the first absent one, in the order of
@@ -148,46 +149,11 @@ impl Image {
         ensures count { MatchOption result (present_toward direction self.now addr len ≡ len) (λ k. (k < len) × (present_toward direction self.now addr len ≡ k)) }
         ensures memory { IsMemory self.now }
     {
-        let present = match direction {
-            Direction::Forward => self.present_upwards(addr, len),
-            Direction::Backward => self.present_downwards(addr, len),
+        let pages = self.present.as_slice();
+        let done = match direction {
+            Direction::Forward => present_upwards(pages, addr, len),
+            Direction::Backward => present_downwards(pages, addr, len),
         };
-        (present < len).then_some(present)
-    }
-
-    /// How many bytes come before the first absent one upwards.
-    #[tactic(auto, using(crate::proofs::RunLemmas::present_toward_is, crate::proofs::RunLemmas::present_toward_stops, crate::proofs::RunLemmas::has_above))]
-    fn present_upwards(&self, addr: u64, len: u32) -> u32
-        requires { addr + len ≤ 2 ^ 64 }
-        ensures { result ≡ present_toward Direction.Forward self.now addr len }
-    {
-        let mut done = 0;
-        while done < len {
-            let place = addr + u64::from(done);
-            if !self.has(place) {
-                return done;
-            }
-            let of_page = PAGE_SIZE as u32 - (place % PAGE_SIZE as u64) as u32;
-            done += of_page.min(len - done);
-        }
-        done
-    }
-
-    /// How many bytes come before the first absent one downwards.
-    #[tactic(auto, using(crate::proofs::RunLemmas::present_toward_is, crate::proofs::RunLemmas::present_toward_stops, crate::proofs::RunLemmas::has_below))]
-    fn present_downwards(&self, addr: u64, len: u32) -> u32
-        requires { addr + len ≤ 2 ^ 64 }
-        ensures { result ≡ present_toward Direction.Backward self.now addr len }
-    {
-        let mut done = 0;
-        while done < len {
-            let place = addr + u64::from(len - 1 - done);
-            if !self.has(place) {
-                return done;
-            }
-            let of_page = (place % PAGE_SIZE as u64) as u32 + 1;
-            done += of_page.min(len - done);
-        }
-        done
+        if done < len { Some(done) } else { None }
     }
 }

@@ -6,7 +6,10 @@
 
 mod errors;
 mod images;
+mod runs;
 mod slices;
 
 pub use errors::ImageError;
 pub use images::Image;
+
+const PAGE_SIZE: usize = 4096;

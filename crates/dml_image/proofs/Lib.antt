@@ -1,3 +1,3 @@
 pub mod RunLemmas
 pub mod SliceLemmas
-pub mod MemoryLemmas
+pub mod WriteLemmas

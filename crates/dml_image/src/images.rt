@@ -67,6 +67,7 @@ impl Image {
     /// # Errors
     /// `NoSuchPage` where the image has no page of this number; nothing is changed then. For now no call
     /// answers `NoMemory`.
+    #[tactic(auto, using(crate::proofs::WriteLemmas::bring_keeps))]
     pub fn bring(&mut self, page: u32, bytes: &[u8; 4096]) -> Result<(), ImageError>
         ensures ok { OnOk result (self.new ≡ brought self.old page bytes.now) }
         ensures err { OnErr result (self.new ≡ self.old) }
@@ -104,6 +105,7 @@ impl Image {
     }
 
     /// Reads bytes from this address on into the whole buffer.
+    #[tactic(auto, using(crate::proofs::WriteLemmas::all_within, crate::proofs::WriteLemmas::read_past))]
     pub fn read_into(&self, addr: u64, buffer: &mut [u8])
         requires { IsTrue (has_all self.now addr (length buffer.old)) }
         ensures bytes { buffer.new ≡ bytes_at self.now addr (length buffer.old) }
@@ -117,6 +119,7 @@ impl Image {
     }
 
     /// Writes bytes from this address on.
+    #[tactic(auto, using(crate::proofs::WriteLemmas::all_within, crate::proofs::WriteLemmas::put_past, crate::proofs::WriteLemmas::write_keeps))]
     pub fn write(&mut self, addr: u64, bytes: &[u8])
         requires { IsTrue (has_all self.old addr (length bytes.now)) }
         ensures bytes { self.new ≡ put self.old addr bytes.now }
@@ -130,6 +133,7 @@ impl Image {
     }
 
     /// Repeats the 8 bytes of a pattern, low byte first, over `len` bytes from this address on.
+    #[tactic(auto, using(crate::proofs::WriteLemmas::all_within, crate::proofs::WriteLemmas::put_past, crate::proofs::SliceLemmas::length_pattern_bytes))]
     pub fn fill(&mut self, addr: u64, len: u32, pattern: u64)
         requires { IsTrue (has_all self.old addr len) }
         ensures bytes { self.new ≡ put self.old addr (pattern_bytes pattern len) }

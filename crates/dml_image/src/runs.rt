@@ -19,7 +19,8 @@ pub fn is_present(pages: &[bool], addr: u64) -> bool
 #[tactic(auto, using(crate::proofs::RunLemmas::present_toward_is, crate::proofs::RunLemmas::present_toward_stops, crate::proofs::RunLemmas::has_above))]
 pub fn present_upwards(pages: &[bool], addr: u64, len: u32) -> u32
     requires { addr + len ≤ 2 ^ 64 }
-    ensures { result ≡ present_toward Direction.Forward (with_pages pages.now) addr len }
+    ensures within { result ≤ len }
+    ensures value { result ≡ present_toward Direction.Forward (with_pages pages.now) addr len }
 {
     let mut done = 0;
     while done < len {
@@ -37,7 +38,8 @@ pub fn present_upwards(pages: &[bool], addr: u64, len: u32) -> u32
 #[tactic(auto, using(crate::proofs::RunLemmas::present_toward_is, crate::proofs::RunLemmas::present_toward_stops, crate::proofs::RunLemmas::has_below))]
 pub fn present_downwards(pages: &[bool], addr: u64, len: u32) -> u32
     requires { addr + len ≤ 2 ^ 64 }
-    ensures { result ≡ present_toward Direction.Backward (with_pages pages.now) addr len }
+    ensures within { result ≤ len }
+    ensures value { result ≡ present_toward Direction.Backward (with_pages pages.now) addr len }
 {
     let mut done = 0;
     while done < len {

@@ -21,7 +21,7 @@ pub fn fill_at(target: &mut [u8], place: usize, len: usize, pattern: u64)
 }
 
 /// Repeats the 8 bytes of a pattern, low byte first, over a slice.
-#[tactic(auto, using(crate::proofs::SliceLemmas::pattern_bytes_more, std::proofs::lemmas::Slice::overwrites))]
+#[tactic(auto, using(crate::proofs::SliceLemmas::pattern_bytes_none, crate::proofs::SliceLemmas::pattern_bytes_more, std::proofs::lemmas::Slice::overwrites))]
 fn repeat(target: &mut [u8], pattern: u64)
     ensures { target.new ≡ pattern_bytes pattern (length target.old) }
 {

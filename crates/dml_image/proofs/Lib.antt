@@ -1,3 +1,4 @@
+pub mod PatternLemmas
 pub mod RunLemmas
 pub mod SliceLemmas
 pub mod WriteLemmas

@@ -133,7 +133,7 @@ impl Image {
     }
 
     /// Repeats the 8 bytes of a pattern, low byte first, over `len` bytes from this address on.
-    #[tactic(auto, using(crate::proofs::WriteLemmas::all_within, crate::proofs::WriteLemmas::put_past, crate::proofs::SliceLemmas::length_pattern_bytes))]
+    #[tactic(auto, using(crate::proofs::WriteLemmas::all_within, crate::proofs::WriteLemmas::put_past, crate::proofs::PatternLemmas::length_pattern_bytes))]
     pub fn fill(&mut self, addr: u64, len: u32, pattern: u64)
         requires { IsTrue (has_all self.old addr len) }
         ensures bytes { self.new ≡ put self.old addr (pattern_bytes pattern len) }

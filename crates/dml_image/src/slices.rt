@@ -2,6 +2,9 @@ ghost use Rattle.std.specs.Prelude.{◌≡◌, ◌+◌, ◌≤◌, length};
 ghost use Rattle.dml_types.specs.Memory.{overwrite};
 ghost use Rattle.dml_types.specs.Pattern.{pattern_bytes};
 
+// A fill writes so many bytes at once: four times the pattern.
+const BLOCK_SIZE: usize = 32;
+
 /// Writes bytes over a slice from a place on.
 #[tactic(auto, using(crate::proofs::SliceLemmas::put_mid_overwrite))]
 pub fn write_at(target: &mut [u8], place: usize, bytes: &[u8])
@@ -21,15 +24,28 @@ pub fn fill_at(target: &mut [u8], place: usize, len: usize, pattern: u64)
 }
 
 /// Repeats the 8 bytes of a pattern, low byte first, over a slice.
-#[tactic(auto, using(crate::proofs::SliceLemmas::pattern_bytes_none, crate::proofs::SliceLemmas::pattern_bytes_more, std::proofs::lemmas::Slice::overwrites))]
+#[tactic(auto, using(crate::proofs::PatternLemmas::pattern_bytes_none, crate::proofs::PatternLemmas::pattern_blocks_more, std::proofs::lemmas::Slice::overwrites))]
 fn repeat(target: &mut [u8], pattern: u64)
     ensures { target.new ≡ pattern_bytes pattern (length target.old) }
 {
-    let bytes = pattern.to_le_bytes();
-    let whole = target.len() / 8;
+    let block = block_of(pattern);
+    let whole = target.len() / BLOCK_SIZE;
     for k in 0..whole {
-        target[8 * k..8 * k + 8].copy_from_slice(&bytes);
+        target[BLOCK_SIZE * k..BLOCK_SIZE * k + BLOCK_SIZE].copy_from_slice(&block);
     }
-    let rest = target.len() - 8 * whole;
-    target[8 * whole..].copy_from_slice(&bytes[..rest]);
+    let rest = target.len() - BLOCK_SIZE * whole;
+    target[BLOCK_SIZE * whole..].copy_from_slice(&block[..rest]);
+}
+
+/// The 8 bytes of a pattern, low byte first, four times.
+#[tactic(auto, using(crate::proofs::PatternLemmas::pattern_bytes_none, crate::proofs::PatternLemmas::pattern_words_more, std::proofs::lemmas::Slice::overwrites))]
+fn block_of(pattern: u64) -> [u8; BLOCK_SIZE]
+    ensures { result ≡ pattern_bytes pattern 32 }
+{
+    let bytes = pattern.to_le_bytes();
+    let mut block = [0; BLOCK_SIZE];
+    for k in 0..BLOCK_SIZE / 8 {
+        block[8 * k..8 * k + 8].copy_from_slice(&bytes);
+    }
+    block
 }

@@ -1,5 +1,5 @@
 use Rattle.std.proofs.Common.{arith}
-use Rattle.dml_image.proofs.SliceLemmas.{length_pattern_bytes}
+use Rattle.dml_image.proofs.PatternLemmas.{length_pattern_bytes}
 use Rattle.dml_image.proofs.WriteLemmas.{write_keeps}
 use Rattle.dml_image.proofs.images.Image.fill.Goals as goal
 

@@ -25,14 +25,14 @@ pattern_bytes_append pattern a b words =
     let long : length (pattern_bytes pattern a) ≡ a = length_pattern_bytes pattern a in
     let all : length (pattern_bytes pattern a ++ pattern_bytes pattern b) ≡ a + b = omega (arith, length-append (pattern_bytes pattern a) (pattern_bytes pattern b), long, length_pattern_bytes pattern b) in
     same_lists _ _ (all ∙ sym (length_pattern_bytes pattern (a + b))) (λ i d h.
-        ⊎_elim (λ low.
-            get_or_append_left (pattern_bytes pattern a) (pattern_bytes pattern b) d i (omega arith)
-            ∙ (get_or_pattern_bytes pattern a i d low ∙ sym (get_or_pattern_bytes pattern (a + b) i d (omega arith)))) (λ high.
-            let turned : (i - a) % 8 ≡ i % 8 = omega arith in
-            get_or-append_right (pattern_bytes pattern a) (pattern_bytes pattern b) a i d long high
-            ∙ (get_or_pattern_bytes pattern b (i - a) d (omega arith)
-            ∙ (ap (λ n. get_or (to_le_bytes w64 pattern) n 0) turned ∙ sym (get_or_pattern_bytes pattern (a + b) i d (omega arith)))))
-        (cases_lt i a))
+    ⊎_elim (λ low.
+    get_or_append_left (pattern_bytes pattern a) (pattern_bytes pattern b) d i (omega arith)
+    ∙ (get_or_pattern_bytes pattern a i d low ∙ sym (get_or_pattern_bytes pattern (a + b) i d (omega arith)))) (λ high.
+    let turned : (i - a) % 8 ≡ i % 8 = omega arith in
+    get_or-append_right (pattern_bytes pattern a) (pattern_bytes pattern b) a i d long high
+    ∙ (get_or_pattern_bytes pattern b (i - a) d (omega arith)
+    ∙ (ap (λ n. get_or (to_le_bytes w64 pattern) n 0) turned ∙ sym (get_or_pattern_bytes pattern (a + b) i d (omega arith)))))
+    (cases_lt i a))
 
 -- one word more, one block more
 pub pattern_words_more : (pattern k : ℕ) → pattern_bytes pattern (8 * k) ++ to_le_bytes w64 pattern ≡ pattern_bytes pattern (8 * k + 8)

@@ -11,4 +11,3 @@ use Rattle.dml_types.specs.Pattern.{pattern_bytes, pattern_byte}
 pub put_mid_overwrite : (place count : ℕ) (old new : List ℕ) → length new ≡ count → put_mid place count old new ≡ overwrite old place new
 unfolding overwrite
 put_mid_overwrite place count old new h = rw (drop-drop, h) refl
-

@@ -47,17 +47,17 @@ brought_keeps memory page bytes good inside long =
       absent = λ k gone. absent k gone within;
     }
   where
-  absent : (k : ℕ) → has (brought memory page bytes) k ≡ false → 4096 * page + length bytes ≤ length memory.bytes → get_or (brought memory page bytes).bytes k 0 ≡ 0
-  absent k gone within =
-    ⊎_elim (λ same.
+    absent : (k : ℕ) → has (brought memory page bytes) k ≡ false → 4096 * page + length bytes ≤ length memory.bytes → get_or (brought memory page bytes).bytes k 0 ≡ 0
+    absent k gone within =
+        ⊎_elim (λ same.
         absurd (false≢true (sym gone ∙ (ap (λ place. get_or (set memory.present page true) place false) same ∙ get_or-set_same memory.present page true false inside))))
-    (λ other.
+        (λ other.
         let before : has memory k ≡ false = sym (get_or-set_other memory.present page (k / 4096) true false other) ∙ gone in
         ⊎_elim (λ low. overwrite_below memory.bytes (4096 * page) bytes k 0 within low ∙ good.absent k before) (λ high.
-            let past : 4096 * page + length bytes ≤ k = omega arith in
-            overwrite_past memory.bytes (4096 * page) bytes k 0 within past ∙ good.absent k before)
+        let past : 4096 * page + length bytes ≤ k = omega arith in
+        overwrite_past memory.bytes (4096 * page) bytes k 0 within past ∙ good.absent k before)
         (cases_lt k (4096 * page)))
-    (cases_eq (k / 4096) page)
+        (cases_eq (k / 4096) page)
 
 -- the bytes behind a `Vec` after a write to its slice
 with_overwrite : {Z : Type 0} (content : Vec ℕ Z) (place : ℕ) (bytes slice written : List ℕ) → place + length bytes ≤ length content.items → slice ≡ content.items → written ≡ overwrite slice place bytes → (with_items content written).items ≡ overwrite content.items place bytes

@@ -1,10 +1,14 @@
 -- A new image, and an image after a page was brought.
-use Rattle.std.specs.Prelude.{ℕ, ◌*◌, Bool, true, false, List, [], replicate, slice_set}
+use Rattle.std.specs.Prelude.{ℕ, ◌*◌, Bool, true, false, List, [], replicate, slice_index_or, slice_set}
 use Rattle.dml_types.specs.Memory.{Memory, page_size, put}
 
 -- no page is present
 abbrev pub all_absent : ℕ → Memory
 all_absent pages = record { present = replicate pages false; bytes = replicate (page_size * pages) 0 }
+
+-- whether the page is present
+abbrev pub has_page : Memory → ℕ → Bool
+has_page memory page = slice_index_or memory.present page false
 
 -- the page is present with these bytes
 abbrev pub brought : Memory → ℕ → List ℕ → Memory

@@ -1,7 +1,7 @@
 use thiserror::Error;
 
 /// Why a call of an image was refused.
-#[derive(Debug, Drop, Error)]
+#[derive(Clone, Copy, PartialEq, Eq, Debug, Error)]
 pub enum ImageError {
     /// An image has 1 to 4,096 pages.
     #[error("an image has 1 to 4096 pages")]

@@ -1,17 +1,16 @@
-ghost use Rattle.std.specs.Prelude.{◌≡◌, ◌≢◌, ◌+◌, ◌^◌, ◌<◌, ◌≤◌, ◌↔◌, ◌⊎◌, length, IfOk, OnErr, OnOk, IsTrue, MatchOption, if◌then◌else◌};
+ghost use Rattle.std.specs.Prelude.{◌≡◌, ◌≢◌, ◌+◌, ◌^◌, ◌<◌, ◌≤◌, ◌↔◌, ◌⊎◌, length, IfOk, OnErr, OnOk, IsOk, IsTrue, MatchOption, if◌then◌else◌};
 ghost use Rattle.dml_types.specs.Memory.{IsMemory, has, has_all, byte_at, bytes_at, present_toward, put};
 ghost use Rattle.dml_types.specs.Pattern.{pattern_bytes};
-ghost use Rattle.dml_image.specs.Brought.{all_absent, brought};
-
-use std::alloc::Global;
-use std::marker::Model;
-
-use dml_types::Direction;
+ghost use Rattle.dml_image.specs.Brought.{all_absent, brought, has_page};
 
 use crate::PAGE_SIZE;
 use crate::errors::ImageError;
 use crate::runs::{is_present, present_downwards, present_upwards};
 use crate::slices::{fill_at, write_at};
+use dml_types::Direction;
+use std::alloc::Global;
+use std::fmt;
+use std::marker::Model;
 
 const MAX_PAGES: u32 = 4096;
 
@@ -43,7 +42,7 @@ impl Image {
         ensures image { IfOk result (λ image. image ≡ all_absent pages) }
         ensures memory { IfOk result IsMemory }
         ensures bad_pages { (result ≡ Err ImageError.BadPages) ↔ ((pages < 1) ⊎ (4096 < pages)) }
-        ensures no_page_is_named { result ≢ Err ImageError.NoSuchPage }
+        ensures never_no_such_page { result ≢ Err ImageError.NoSuchPage }
     {
         if pages < 1 || pages > MAX_PAGES {
             return Err(ImageError::BadPages);
@@ -65,14 +64,15 @@ impl Image {
     /// Makes a page present with these bytes; a page that is present is overwritten.
     ///
     /// # Errors
-    /// `NoSuchPage` where the image has no page of this number; nothing is changed then. For now no call
-    /// answers `NoMemory`.
+    /// `NoSuchPage` where the image has no page of this number, and `NoMemory`, which a page that is
+    /// present never meets. Both leave the image as it was.
     #[tactic(auto, using(crate::proofs::WriteLemmas::bring_keeps))]
     pub fn bring(&mut self, page: u32, bytes: &[u8; 4096]) -> Result<(), ImageError>
         ensures ok { OnOk result (self.new ≡ brought self.old page bytes.now) }
         ensures err { OnErr result (self.new ≡ self.old) }
         ensures no_such_page { (result ≡ Err ImageError.NoSuchPage) ↔ (length self.old.present ≤ page) }
-        ensures no_count_is_bad { result ≢ Err ImageError.BadPages }
+        ensures never_bad_pages { result ≢ Err ImageError.BadPages }
+        ensures again { IsTrue (has_page self.old page) → IsOk result }
         ensures memory { IsMemory self.new }
     {
         let page = page as usize;
@@ -161,3 +161,14 @@ impl Image {
         if done < len { Some(done) } else { None }
     }
 }
+
+impl fmt::Debug for Image {
+    fn fmt<W: fmt::Write>(&self, f: &mut fmt::Formatter<W>) -> fmt::Result {
+        f.debug_struct("Image")
+            .field("pages", &self.pages())
+            .finish_non_exhaustive()
+    }
+}
+
+#[cfg(test)]
+mod tests;

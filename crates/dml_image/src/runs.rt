@@ -2,9 +2,8 @@ ghost use Rattle.std.specs.Prelude.{◌≡◌, ◌+◌, ◌^◌, ◌≤◌};
 ghost use Rattle.dml_types.specs.Memory.{has, present_toward};
 ghost use Rattle.dml_image.specs.Brought.{with_pages};
 
-use dml_types::Direction;
-
 use crate::PAGE_SIZE;
+use dml_types::Direction;
 
 /// Whether the byte at an address is present, where `pages` says which pages are.
 pub fn is_present(pages: &[bool], addr: u64) -> bool

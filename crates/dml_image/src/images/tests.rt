@@ -1,0 +1,197 @@
+use super::Image;
+use crate::errors::ImageError;
+use dml_types::Direction;
+use std::alloc::Global;
+use std::process::Abort;
+use std::test::Fail;
+
+/// An image of `pages` pages, those of `brought` present and full of 0.
+fn image_with(alloc: Global, pages: u32, brought: &[u32]) -> Result<Image, ImageError> {
+    let mut image = Image::new(alloc, pages)?;
+    for page in brought {
+        image.bring(*page, &[0; 4096])?;
+    }
+    Ok(image)
+}
+
+/// Byte `i` of a pattern that is repeated from its low byte on.
+fn pattern_byte(pattern: u64, i: u32) -> u8 {
+    ((pattern >> (8 * (i % 8))) & 0xff) as u8
+}
+
+#[test]
+fn new_image_is_absent(rt: HostRuntime) -> Result<(), Fail> {
+    let image = Image::new(rt.alloc(), 1)?;
+    assert_eq!(rt; image.pages(), 1);
+    assert!(rt; !image.has(0));
+    assert_eq!(rt; image.byte(0), None);
+    assert_eq!(rt; image.first_absent(0, 1, Direction::Forward), Some(0));
+    Ok(())
+}
+
+#[test]
+fn arguments_refused(rt: HostRuntime) -> Result<(), Fail> {
+    assert_eq!(rt; Image::new(rt.alloc(), 0).err(), Some(ImageError::BadPages));
+    assert_eq!(rt;
+        Image::new(rt.alloc(), 4097).err(),
+        Some(ImageError::BadPages)
+    );
+    let mut image = Image::new(rt.alloc(), 1)?;
+    assert_eq!(rt; image.bring(1, &[7; 4096]), Err(ImageError::NoSuchPage));
+    assert!(rt;
+        matches!(
+            image.bring(u32::MAX, &[7; 4096]),
+            Err(ImageError::NoSuchPage)
+        )
+    );
+    assert!(rt; !image.has(0));
+    Ok(())
+}
+
+#[test]
+fn last_page(rt: HostRuntime) -> Result<(), Fail> {
+    let mut image = Image::new(rt.alloc(), 4096)?;
+    image.bring(4095, &[0x5a; 4096])?;
+    assert!(rt; image.has(16_777_215));
+    assert_eq!(rt; image.byte(16_777_215), Some(0x5a));
+    assert!(rt; !image.has(16_773_119));
+    assert!(rt; !image.has(16_777_216));
+    assert_eq!(rt;
+        image.first_absent(16_773_120, 4097, Direction::Forward),
+        Some(4096)
+    );
+    Ok(())
+}
+
+#[test]
+fn write_over_page_edge(rt: HostRuntime) -> Result<(), Fail> {
+    let mut image = image_with(rt.alloc(), 2, &[0, 1])?;
+    assert!(rt; image.first_absent(4094, 4, Direction::Forward).is_none());
+    image.write(4094, &[1, 2, 3, 4]);
+    let mut read = [9; 6];
+    assert!(rt; image.first_absent(4093, 6, Direction::Forward).is_none());
+    image.read_into(4093, &mut read);
+    assert_eq!(rt; read, [0, 1, 2, 3, 4, 0]);
+    image.bring(0, &[0; 4096])?;
+    assert!(rt; image.first_absent(4094, 4, Direction::Forward).is_none());
+    let mut read = [9; 4];
+    image.read_into(4094, &mut read);
+    assert_eq!(rt; read, [0, 0, 3, 4]);
+    Ok(())
+}
+
+#[test]
+fn first_absent_both_ways(rt: HostRuntime) -> Result<(), Fail> {
+    let image = image_with(rt.alloc(), 4, &[0, 2, 3])?;
+    let end = u64::MAX - 7; // 8 bytes below 2^64
+    let rows = [
+        // address, length, forward, backward
+        (0, 4096, None, None),
+        (0, 4097, Some(4096), Some(0)),
+        (4090, 4102, Some(6), Some(0)),
+        (4090, 4103, Some(6), Some(1)),
+        (4090, 4112, Some(6), Some(10)),
+        (4096, 1, Some(0), Some(0)),
+        (4095, 1, None, None),
+        (8192, 8192, None, None),
+        (8191, 8193, Some(0), Some(8192)),
+        (8192, 8193, Some(8192), Some(0)),
+        (12280, 20, None, None),
+        (5000, 3192, Some(0), Some(0)),
+        (5000, 3193, Some(0), Some(1)),
+        (0, 0, None, None),
+        (4096, 0, None, None),
+        (1 << 40, 0, None, None),
+        (1 << 40, 5, Some(0), Some(0)),
+        (u64::MAX, 0, None, None),
+        (u64::MAX, 1, Some(0), Some(0)),
+        (end, 8, Some(0), Some(0)),
+        (0, u32::MAX, Some(4096), Some(0)),
+    ];
+    for (addr, len, forward, backward) in rows {
+        assert!(rt; addr as u128 + len as u128 <= 1 << 64);
+        assert_eq!(rt;
+            image.first_absent(addr, len, Direction::Forward),
+            forward,
+            "{len} from {addr} on"
+        );
+        assert_eq!(rt;
+            image.first_absent(addr, len, Direction::Backward),
+            backward,
+            "{len} from {addr} on, backward"
+        );
+    }
+    Ok(())
+}
+
+#[test]
+fn fills_over_a_page_edge(rt: HostRuntime) -> Result<(), Fail> {
+    let mut image = image_with(rt.alloc(), 2, &[0, 1])?;
+    let pattern = 0x8877_6655_4433_2211;
+    for shift in 0..8u64 {
+        for len in 0..40u32 {
+            image.bring(0, &[0xee; 4096])?;
+            image.bring(1, &[0xee; 4096])?;
+            let addr = 4072 + shift;
+            assert!(rt; image.first_absent(addr, len, Direction::Forward).is_none());
+            image.fill(addr, len, pattern);
+            assert_eq!(rt; image.byte(addr - 1), Some(0xee));
+            for i in 0..len {
+                assert_eq!(rt;
+                    image.byte(addr + i as u64),
+                    Some(pattern_byte(pattern, i)),
+                    "byte {i} of {len} at {addr}"
+                );
+            }
+            assert_eq!(rt; image.byte(addr + len as u64), Some(0xee));
+        }
+    }
+    Ok(())
+}
+
+#[test]
+fn empty_ranges_past_the_end(rt: HostRuntime) -> Result<(), Fail> {
+    let mut image = image_with(rt.alloc(), 1, &[0])?;
+    for addr in [4096, 1 << 40, u64::MAX] {
+        assert!(rt; image.first_absent(addr, 0, Direction::Forward).is_none());
+        image.write(addr, &[]);
+        image.fill(addr, 0, 1);
+        image.read_into(addr, &mut []);
+        assert!(rt; !image.has(addr));
+    }
+    Ok(())
+}
+
+/// Whether each byte of page 0 has this value, looked at from both ends.
+fn check_page(rt: &impl Abort, image: &Image, value: Option<u8>) {
+    for addr in [0, 1, 4094, 4095] {
+        assert_eq!(rt; image.byte(addr), value, "byte {addr}");
+    }
+}
+
+// The two below take either answer: they are also run with each growth refused in turn.
+
+#[test]
+fn refused_new(rt: HostRuntime) {
+    match Image::new(rt.alloc(), 3) {
+        Ok(image) => {
+            assert_eq!(rt; image.pages(), 3);
+            check_page(&rt, &image, None);
+        }
+        Err(error) => assert_eq!(rt; error, ImageError::NoMemory),
+    }
+}
+
+#[test]
+fn refused_bring(rt: HostRuntime) {
+    let Ok(mut image) = Image::new(rt.alloc(), 3) else {
+        return;
+    };
+    match image.bring(0, &[0x5a; 4096]) {
+        Ok(()) => check_page(&rt, &image, Some(0x5a)),
+        Err(error) => {
+            assert_eq!(rt; error, ImageError::NoMemory);
+            check_page(&rt, &image, None);
+        }
+    }
+}

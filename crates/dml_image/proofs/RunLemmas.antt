@@ -1,5 +1,5 @@
 -- Runs of present bytes, page by page.
-use Rattle.std.proofs.Common.{◌≡◌, ℕ, ◌+◌, ◌-◌, ◌*◌, ◌/◌, ◌%◌, ◌<◌, ◌≤◌, List, Bool, true, false, not, get_or, ap, sym, ◌∙◌, refl, arith}
+use Rattle.std.proofs.Common.{◌≡◌, ℕ, ◌+◌, ◌-◌, ◌/◌, ◌%◌, ◌<◌, ◌≤◌, List, Bool, true, false, not, get_or, ap, sym, ◌∙◌, arith}
 use Rattle.dml_types.specs.Memory.{Memory, has, present_toward, offset_in}
 use Rattle.dml_types.specs.declared.operations.Direction.{Direction}
 use Rattle.dml_types.proofs.FirstLemmas.{first_is}

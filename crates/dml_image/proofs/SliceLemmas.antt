@@ -1,4 +1,4 @@
--- Writes to a part of a slice, and repeated patterns.
+-- Writes to a part of a slice.
 use Rattle.std.proofs.Common.{◌≡◌, ℕ, List, length, refl}
 use Rattle.std.proofs.lemmas.List.{drop-drop}
 use borrow.Rule.Slice.PartMut.{put_mid}

@@ -1,3 +1,4 @@
+pub mod Checked
 pub mod Chunk
 pub mod Compare
 pub mod Conflict
@@ -12,6 +13,7 @@ pub mod Memory
 pub mod Pattern
 pub mod Range
 pub mod Refusal
+pub mod RefusalLaws
 pub mod Rest
 pub mod Settings
 pub mod Status

@@ -1,0 +1,102 @@
+ghost use Rattle.std.specs.Prelude.{◌≡◌, IfOk, IfErr, None, Some, nat_lt};
+ghost use Rattle.dml_types.specs.Refusal.{refusal, need_of};
+ghost use Rattle.dml_types.specs.Refusal as rule;
+ghost use Rattle.dml_types.specs.Checked.{IsChecked, KeepsRules};
+
+use crate::rules;
+use dml_types::{Job, Op, Status};
+use std::marker::Model;
+
+/// A job that breaks no rule. It is made by `check` alone.
+#[derive(Clone, Copy)]
+pub struct Checked {
+    job: Job,
+    op: Op,
+}
+
+impl Model for Checked {
+    ghost use Rattle.dml_types.specs.declared.jobs.Job.{Job};
+    ghost use Rattle.dml_types.specs.Checked.{KeepsRules};
+    ghost use Rattle.dml_desc.specs.Operation.{operation_of};
+
+    ghost Value = { Job };
+
+    ghost view = { λ c. c.job };
+
+    ghost invariant = { λ c. KeepsRules c.op c.job };
+
+    ghost inverse = { λ j. record { job = j; op = operation_of j } };
+}
+
+impl Checked {
+    /// The job.
+    pub fn job(&self) -> &Job
+        ensures job { result.now ≡ self.now }
+        ensures checked { IsChecked self.now }
+    {
+        &self.job
+    }
+
+    /// Its operation.
+    pub fn op(&self) -> Op
+        ensures { KeepsRules result self.now }
+    {
+        self.op
+    }
+}
+
+/// The bytes of staging that an operation takes for a job.
+fn need_for(op: Op, job: &Job) -> u64
+    ensures { result ≡ need_of op job.now }
+{
+    match op {
+        Op::Move | Op::Dualcast => u64::from(job.size),
+        Op::CreateDelta => 10 * u64::from(job.size / 8),
+        Op::ApplyDelta => u64::from(job.delta_size),
+        Op::NoOp | Op::Fill | Op::Compare | Op::ComparePattern => 0,
+    }
+}
+
+/// The bytes of staging that a job takes; 0 where its opcode is unsupported.
+pub fn need(job: &Job) -> u64
+    ensures { result ≡ rule.need job.now }
+{
+    job.op().map_or(0, |op| need_for(op, job))
+}
+
+/// The job as a checked one where it breaks no rule, and else the status of the first rule that it breaks, at a
+/// staging size in bytes.
+pub fn check(job: &Job, staging: u32) -> Result<Checked, Status>
+    ensures same { IfOk result (λ checked. checked ≡ job.now) }
+    ensures accepted { IfOk result (λ _. refusal job.now staging ≡ None) }
+    ensures refused { IfErr result (λ status. refusal job.now staging ≡ Some status) }
+{
+    let Some(op) = job.op() else {
+        return Err(Status::BadOpcode);
+    };
+    if rules::has_bad_flags(job) {
+        return Err(Status::BadFlags);
+    }
+    if rules::has_bad_size(op, job) {
+        return Err(Status::BadSize);
+    }
+    if rules::has_bad_delta_size(op, job) {
+        return Err(Status::BadDeltaSize);
+    }
+    if rules::is_misaligned(op, job) {
+        return Err(Status::Misaligned);
+    }
+    if rules::has_dualcast_bits(op, job) {
+        return Err(Status::DualcastBits);
+    }
+    if rules::has_overlap(op, job) {
+        return Err(Status::Overlap);
+    }
+    if rules::has_range_past(op, job) {
+        return Err(Status::RangePast);
+    }
+    if need_for(op, job) > u64::from(staging) {
+        return Err(Status::StagingRefused);
+    }
+    Ok(Checked { job: *job, op })
+}

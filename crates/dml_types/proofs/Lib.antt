@@ -1,3 +1,4 @@
+pub mod CheckedLemmas
 pub mod FirstLemmas
 pub mod MemoryLemmas
 pub mod MoveLemmas

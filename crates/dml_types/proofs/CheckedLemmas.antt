@@ -1,0 +1,176 @@
+-- What is known of a job that passed the checks: rule by rule, and as limits of its sizes and addresses.
+use Rattle.std.proofs.Common.{◌≡◌, ◌≢◌, ℕ, ◌+◌, ◌<◌, ◌≤◌, ◌⊎◌, Bool, true, false, not, List, [], ◌∷◌, Option, None, Some, nat_eq, nat_lt, refl, sym, ap, subst, ◌∙◌, arith, rules}
+use Rattle.std.proofs.lemmas.Bool.{ltb-false, or_parts}
+use Rattle.std.proofs.lemmas.Bool.Decides.{nat_tests}
+use Rattle.dml_types.specs.declared.jobs.Job.{Job}
+use Rattle.dml_types.specs.declared.spans.Span.{Span}
+use Rattle.dml_types.specs.declared.operations.Op.{Op}
+use Rattle.dml_types.specs.declared.operations.Op.TheVariants.{NoOp, Move, Fill, Compare, ComparePattern, CreateDelta, ApplyDelta, Dualcast}
+use Rattle.dml_types.specs.declared.statuses.Status.{Status}
+use Rattle.dml_types.specs.declared.statuses.Status.TheVariants.{BadFlags, BadSize, BadDeltaSize, Misaligned, DualcastBits, Overlap, RangePast, StagingRefused}
+use Rattle.dml_types.specs.Checked.{IsChecked, KeepsRules, Limits, SourceLimits, TargetLimits, PairLimits, CreateLimits, ApplyLimits, DualcastLimits}
+use Rattle.dml_types.specs.Job.{op_of}
+use Rattle.dml_types.specs.Range.{shares}
+use Rattle.dml_types.specs.Refusal.{first_broken, refusal, refusal_under, need, need_of, need_under}
+use Rattle.dml_types.specs.RefusalLaws.{BreaksNone}
+use Rattle.dml_types.proofs.RefusalLemmas.{accepted_where_none_broken}
+
+-- what a job breaks no rule means, rule by rule
+rules_of_accepted : (job : Job) (staging : ℕ) (op : Op) → op_of job ≡ Some op → BreaksNone job staging → KeepsRules op job × (need_of op job ≤ staging)
+rules_of_accepted job staging op operation none =
+    let same : none.op ≡ op = cc (sym none.operation ∙ operation) in
+    let kept : KeepsRules none.op job = record {
+      operation = none.operation;
+      flags = none.kept 0;
+      size = none.kept 1;
+      delta_size = none.kept 2;
+      alignment = none.kept 3;
+      dualcast_bits = none.kept 4;
+      overlap = none.kept 5;
+      ranges = none.kept 6;
+    } in
+    let staged : nat_lt staging (need_of none.op job) ≡ false = none.kept 7 in
+    let enough : need_of none.op job ≤ staging = grind (arith, nat_tests) in
+    (subst (λ (o : Op). KeepsRules o job) same kept, subst (λ (o : Op). need_of o job ≤ staging) same enough)
+
+-- a job that is accepted at some staging size
+pub rules_kept_at : (job : Job) (staging : ℕ) (op : Op) → op_of job ≡ Some op → refusal job staging ≡ None → KeepsRules op job
+rules_kept_at job staging op operation accepted =
+    (rules_of_accepted job staging op operation ((accepted_where_none_broken job staging).0 accepted)).0
+
+pub need_within : (job : Job) (staging : ℕ) → refusal job staging ≡ None → need job ≤ staging
+need_within job staging accepted =
+    let none = (accepted_where_none_broken job staging).0 accepted in
+    let within = (rules_of_accepted job staging none.op none.operation none).1 in
+    subst (λ (o : Option Op). need_under o job ≤ staging) (sym none.operation) within
+
+none_of : (flags size delta_size alignment bits overlap ranges staging : Bool)
+    → flags ≡ false → size ≡ false → delta_size ≡ false → alignment ≡ false → bits ≡ false → overlap ≡ false → ranges ≡ false → staging ≡ false
+    → first_broken ((flags, BadFlags) ∷ (size, BadSize) ∷ (delta_size, BadDeltaSize) ∷ (alignment, Misaligned) ∷ (bits, DualcastBits)
+      ∷ (overlap, Overlap) ∷ (ranges, RangePast) ∷ (staging, StagingRefused) ∷ []) ≡ None
+none_of flags size delta_size alignment bits overlap ranges staging a b c d e f g h = rw (a, b, c, d, e, f, g, h) refl
+
+-- with as much staging as a job needs, the rules that it keeps are all
+pub accepted_by_rules : (op : Op) (job : Job) (staging : ℕ) → KeepsRules op job → need_of op job ≤ staging → refusal job staging ≡ None
+accepted_by_rules op job staging kept enough =
+    let staged : nat_lt staging (need_of op job) ≡ false = grind (arith, nat_tests) in
+    let none = none_of _ _ _ _ _ _ _ _ kept.flags kept.size kept.delta_size kept.alignment kept.dualcast_bits kept.overlap kept.ranges staged in
+    ap (λ o. refusal_under o job staging) kept.operation ∙ none
+
+pub checked_by_rules : (op : Op) (job : Job) → KeepsRules op job → IsChecked job
+checked_by_rules op job kept =
+    let enough : need_of op job ≤ need job = subst (λ (o : Option Op). need_of op job ≤ need_under o job) (sym kept.operation) (omega arith) in
+    record { accepted = accepted_by_rules op job (need job) kept enough }
+
+pub checked_where_accepted : (job : Job) (staging : ℕ) → refusal job staging ≡ None → IsChecked job
+checked_where_accepted job staging accepted =
+    let none = (accepted_where_none_broken job staging).0 accepted in
+    checked_by_rules none.op job (rules_kept_at job staging none.op none.operation accepted)
+
+-- a checked job
+pub has_operation : (job : Job) → IsChecked job → (op : Op) × (op_of job ≡ Some op)
+has_operation job checked =
+    let none = (accepted_where_none_broken job (need job)).0 checked.accepted in (none.op, none.operation)
+
+pub rules_kept : (op : Op) (job : Job) → IsChecked job → op_of job ≡ Some op → KeepsRules op job
+rules_kept op job checked operation = rules_kept_at job (need job) op operation checked.accepted
+
+pub accepted_with : (job : Job) (staging : ℕ) → IsChecked job → need job ≤ staging → refusal job staging ≡ None
+accepted_with job staging checked enough =
+    let h = has_operation job checked in
+    let same : need job ≡ need_of h.0 job = ap (λ o. need_under o job) h.1 in
+    accepted_by_rules h.0 job staging (rules_kept h.0 job checked h.1) (omega arith)
+
+-- the limits of its sizes and addresses
+at_most : (limit n : ℕ) → nat_lt limit n ≡ false → n ≤ limit
+at_most limit n h = ltb-false limit n h
+
+is_whole : (n : ℕ) → not (nat_eq n 0) ≡ false → n ≡ 0
+is_whole n h = grind (arith, nat_tests)
+
+pub limits_kept : (op : Op) (job : Job) → KeepsRules op job → Limits op job
+limits_kept NoOp job k = tt
+limits_kept Move job k = grind (arith, nat_tests)
+limits_kept Fill job k = grind (arith, nat_tests)
+limits_kept Compare job k = grind (arith, nat_tests)
+limits_kept ComparePattern job k = grind (arith, nat_tests)
+limits_kept CreateDelta job k =
+    let size = or_parts _ _ k.size in
+    let delta_size = or_parts _ _ k.delta_size in
+    let bounds = or_parts _ _ delta_size.0 in
+    let aligned = or_parts _ _ k.alignment in
+    let apart = or_parts _ _ (or_parts _ _ k.overlap).0 in
+    let ranges = or_parts _ _ k.ranges in
+    let later = or_parts _ _ ranges.1 in
+    record {
+      size = at_most _ _ size.0;
+      whole_blocks = is_whole _ size.1;
+      least_record = at_most _ _ bounds.0;
+      most_record = at_most _ _ bounds.1;
+      whole_entries = is_whole _ delta_size.1;
+      aligned_source = is_whole _ aligned.0;
+      aligned_target = is_whole _ aligned.1;
+      source_apart = apart.0;
+      target_apart = (or_parts _ _ apart.1).0;
+      source = at_most _ _ ranges.0;
+      target = at_most _ _ later.0;
+      delta = at_most _ _ (or_parts _ _ later.1).0;
+    }
+limits_kept ApplyDelta job k =
+    let size = or_parts _ _ k.size in
+    let delta_size = or_parts _ _ k.delta_size in
+    let ranges = or_parts _ _ k.ranges in
+    record {
+      size = at_most _ _ size.0;
+      whole_blocks = is_whole _ size.1;
+      most_record = at_most _ _ delta_size.0;
+      whole_entries = is_whole _ delta_size.1;
+      aligned_target = is_whole _ k.alignment;
+      apart = (or_parts _ _ (or_parts _ _ k.overlap).0).0;
+      delta = at_most _ _ ranges.0;
+      target = at_most _ _ (or_parts _ _ ranges.1).0;
+    }
+limits_kept Dualcast job k =
+    let overlap = or_parts _ _ k.overlap in
+    let either = or_parts _ _ overlap.0 in
+    let ranges = or_parts _ _ k.ranges in
+    let later = or_parts _ _ ranges.1 in
+    record {
+      size = at_most _ _ k.size;
+      same_low_bits = grind (arith, nat_tests, k.dualcast_bits);
+      target_apart = (or_parts _ _ either.0).0;
+      second_apart = (or_parts _ _ (or_parts _ _ either.1).0).0;
+      destinations_apart = overlap.1;
+      source = at_most _ _ ranges.0;
+      target = at_most _ _ later.0;
+      second = at_most _ _ (or_parts _ _ later.1).0;
+    }
+
+-- the limits of a checked job of each operation
+pub move_limits : (job : Job) → IsChecked job → op_of job ≡ Some Move → PairLimits job
+move_limits job checked operation = limits_kept Move job (rules_kept Move job checked operation)
+
+pub fill_limits : (job : Job) → IsChecked job → op_of job ≡ Some Fill → TargetLimits job
+fill_limits job checked operation = limits_kept Fill job (rules_kept Fill job checked operation)
+
+pub compare_limits : (job : Job) → IsChecked job → op_of job ≡ Some Compare → PairLimits job
+compare_limits job checked operation = limits_kept Compare job (rules_kept Compare job checked operation)
+
+pub compare_pattern_limits : (job : Job) → IsChecked job → op_of job ≡ Some ComparePattern → SourceLimits job
+compare_pattern_limits job checked operation = limits_kept ComparePattern job (rules_kept ComparePattern job checked operation)
+
+pub create_limits : (job : Job) → IsChecked job → op_of job ≡ Some CreateDelta → CreateLimits job
+create_limits job checked operation = limits_kept CreateDelta job (rules_kept CreateDelta job checked operation)
+
+pub apply_limits : (job : Job) → IsChecked job → op_of job ≡ Some ApplyDelta → ApplyLimits job
+apply_limits job checked operation = limits_kept ApplyDelta job (rules_kept ApplyDelta job checked operation)
+
+pub dualcast_limits : (job : Job) → IsChecked job → op_of job ≡ Some Dualcast → DualcastLimits job
+dualcast_limits job checked operation = limits_kept Dualcast job (rules_kept Dualcast job checked operation)
+
+-- ranges that share no byte: one ends before the other starts, and no address lies in both
+pub apart_ends : (a b : Span) → shares a b ≡ false → 0 < a.len → 0 < b.len → (a.start + a.len ≤ b.start) ⊎ (b.start + b.len ≤ a.start)
+apart_ends a b h = grind (arith, nat_tests)
+
+pub apart_bytes : (a b : Span) → shares a b ≡ false → (i j : ℕ) → i < a.len → j < b.len → a.start + i ≢ b.start + j
+apart_bytes a b h i j within_a within_b = grind (arith, nat_tests)

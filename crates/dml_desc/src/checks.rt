@@ -1,14 +1,14 @@
 ghost use Rattle.std.specs.Prelude.{◌≡◌, IfOk, IfErr, None, Some, nat_lt};
 ghost use Rattle.dml_types.specs.Refusal.{refusal, need_of};
 ghost use Rattle.dml_types.specs.Refusal as rule;
-ghost use Rattle.dml_types.specs.Checked.{IsChecked, KeepsRules};
+ghost use Rattle.dml_types.specs.Checked.{IsChecked, KeepsRules, Limits};
 
 use crate::rules;
 use dml_types::{Job, Op, Status};
 use std::marker::Model;
 
 /// A job that breaks no rule. It is made by `check` alone.
-#[derive(Clone, Copy)]
+#[derive(Clone, Copy, PartialEq, Eq, Debug)]
 pub struct Checked {
     job: Job,
     op: Op,
@@ -39,7 +39,8 @@ impl Checked {
 
     /// Its operation.
     pub fn op(&self) -> Op
-        ensures { KeepsRules result self.now }
+        ensures rules { KeepsRules result self.now }
+        ensures limits { Limits result self.now }
     {
         self.op
     }

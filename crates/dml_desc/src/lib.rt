@@ -8,8 +8,10 @@
 mod checks;
 mod completions;
 mod descriptors;
+mod laws;
 mod rules;
 
 pub use checks::{Checked, check, need};
 pub use completions::{batch_bytes, record_bytes};
 pub use descriptors::decode;
+pub use laws::{law_of_descriptors, law_of_records};

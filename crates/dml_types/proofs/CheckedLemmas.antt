@@ -1,21 +1,21 @@
 -- What is known of a job that passed the checks: rule by rule, and as limits of its sizes and addresses.
 use Rattle.std.proofs.Common.{◌≡◌, ◌≢◌, ℕ, ◌+◌, ◌<◌, ◌≤◌, ◌⊎◌, Bool, true, false, not, List, [], ◌∷◌, Option, None, Some, nat_eq, nat_lt, refl, sym, ap, subst, ◌∙◌, arith, rules}
+use Rattle.std.specs.Prelude.{option_map, unwrap_or}
 use Rattle.std.proofs.lemmas.Bool.{ltb-false, or_parts}
 use Rattle.std.proofs.lemmas.Bool.Decides.{nat_tests}
-use Rattle.dml_types.specs.declared.jobs.Job.{Job}
-use Rattle.dml_types.specs.declared.spans.Span.{Span}
-use Rattle.dml_types.specs.declared.operations.Op.{Op}
-use Rattle.dml_types.specs.declared.operations.Op.TheVariants.{NoOp, Move, Fill, Compare, ComparePattern, CreateDelta, ApplyDelta, Dualcast}
-use Rattle.dml_types.specs.declared.statuses.Status.{Status}
-use Rattle.dml_types.specs.declared.statuses.Status.TheVariants.{BadFlags, BadSize, BadDeltaSize, Misaligned, DualcastBits, Overlap, RangePast, StagingRefused}
+use Rattle.dml_types.specs.Types.{Job, Span, Op, NoOp, Move, Fill, Compare, ComparePattern, CreateDelta, ApplyDelta, Dualcast, BadFlags, BadSize, BadDeltaSize, Misaligned, DualcastBits, Overlap, RangePast, StagingRefused}
 use Rattle.dml_types.specs.Checked.{IsChecked, KeepsRules, Limits, SourceLimits, TargetLimits, PairLimits, CreateLimits, ApplyLimits, DualcastLimits}
 use Rattle.dml_types.specs.Job.{op_of}
 use Rattle.dml_types.specs.Range.{shares}
-use Rattle.dml_types.specs.Refusal.{first_broken, refusal, refusal_under, need, need_of, need_under}
+use Rattle.dml_types.specs.Refusal.{first_broken, refusal, refusal_under, need, need_of}
 use Rattle.dml_types.specs.RefusalLaws.{BreaksNone}
 use Rattle.dml_types.proofs.RefusalLemmas.{accepted_where_none_broken}
 
--- what a job breaks no rule means, rule by rule
+-- the staging that an operation, if there is one, needs for a job
+abbrev staging_under : Option Op → Job → ℕ
+staging_under o job = unwrap_or (option_map (λ op. need_of op job) o) 0
+
+-- what it means that a job breaks no rule, rule by rule
 rules_of_accepted : (job : Job) (staging : ℕ) (op : Op) → op_of job ≡ Some op → BreaksNone job staging → KeepsRules op job × (need_of op job ≤ staging)
 rules_of_accepted job staging op operation none =
     let same : none.op ≡ op = cc (sym none.operation ∙ operation) in
@@ -42,7 +42,7 @@ pub need_within : (job : Job) (staging : ℕ) → refusal job staging ≡ None �
 need_within job staging accepted =
     let none = (accepted_where_none_broken job staging).0 accepted in
     let within = (rules_of_accepted job staging none.op none.operation none).1 in
-    subst (λ (o : Option Op). need_under o job ≤ staging) (sym none.operation) within
+    subst (λ (o : Option Op). staging_under o job ≤ staging) (sym none.operation) within
 
 none_of : (flags size delta_size alignment bits overlap ranges staging : Bool)
     → flags ≡ false → size ≡ false → delta_size ≡ false → alignment ≡ false → bits ≡ false → overlap ≡ false → ranges ≡ false → staging ≡ false
@@ -59,7 +59,7 @@ accepted_by_rules op job staging kept enough =
 
 pub checked_by_rules : (op : Op) (job : Job) → KeepsRules op job → IsChecked job
 checked_by_rules op job kept =
-    let enough : need_of op job ≤ need job = subst (λ (o : Option Op). need_of op job ≤ need_under o job) (sym kept.operation) (omega arith) in
+    let enough : need_of op job ≤ need job = subst (λ (o : Option Op). need_of op job ≤ staging_under o job) (sym kept.operation) (omega arith) in
     record { accepted = accepted_by_rules op job (need job) kept enough }
 
 pub checked_where_accepted : (job : Job) (staging : ℕ) → refusal job staging ≡ None → IsChecked job
@@ -78,7 +78,7 @@ rules_kept op job checked operation = rules_kept_at job (need job) op operation 
 pub accepted_with : (job : Job) (staging : ℕ) → IsChecked job → need job ≤ staging → refusal job staging ≡ None
 accepted_with job staging checked enough =
     let h = has_operation job checked in
-    let same : need job ≡ need_of h.0 job = ap (λ o. need_under o job) h.1 in
+    let same : need job ≡ need_of h.0 job = ap (λ o. staging_under o job) h.1 in
     accepted_by_rules h.0 job staging (rules_kept h.0 job checked h.1) (omega arith)
 
 -- the limits of its sizes and addresses

@@ -2,10 +2,7 @@
 use Rattle.std.proofs.Common.{◌≡◌, ◌↔◌, ◌⊎◌, ℕ, zero, suc, ◌<◌, Bool, true, false, List, [], ◌∷◌, Option, None, Some, IfSome, refl, sym, ap, subst, ◌∙◌, inl, inr, arith}
 use Rattle.std.specs.Prelude.{slice_get}
 use Rattle.std.specs.Option.{option_map}
-use Rattle.dml_types.specs.declared.jobs.Job.{Job}
-use Rattle.dml_types.specs.declared.operations.Op.{Op}
-use Rattle.dml_types.specs.declared.statuses.Status.{Status}
-use Rattle.dml_types.specs.declared.statuses.Status.TheVariants.{BadOpcode}
+use Rattle.dml_types.specs.Types.{Job, Op, Status, BadOpcode}
 use Rattle.dml_types.specs.Job.{op_of}
 use Rattle.dml_types.specs.Refusal.{rules_of, first_broken, refusal, refusal_under}
 use Rattle.dml_types.specs.RefusalLaws.{IsKept, IsFirstBroken, BreaksFirst, BreaksNone, IsRefusedBy, RefusedByFirstBroken, AcceptedWhereNoneBroken, OneStatusAtMost}

@@ -45,7 +45,7 @@ record_has_its_fields outcome completed fault delta_size =
       fault = from_le_bytes-to_le_bytes_8 outcome.fault fault;
       delta_size = from_le_bytes-to_le_bytes_4 outcome.delta_size delta_size;
       zeros_before = λ place from below.
-        from_place IsZero 2 place from refl (λ past. from_place IsZero 3 place past refl (λ out. absurd (omega arith)));
+          from_place IsZero 2 place from refl (λ past. from_place IsZero 3 place past refl (λ out. absurd (omega arith)));
       zeros_after = λ place from below. zeros_from fields 12 20 place refl from below;
     }
 
@@ -58,7 +58,7 @@ batch_has_its_fields outcome completed =
       status = refl;
       completed = from_le_bytes-to_le_bytes_4 outcome.completed completed;
       zeros_before = λ place from below.
-        from_place IsZero 1 place from refl (λ past. from_place IsZero 2 place past refl (λ third. from_place IsZero 3 place third refl (λ out. absurd (omega arith))));
+          from_place IsZero 1 place from refl (λ past. from_place IsZero 2 place past refl (λ third. from_place IsZero 3 place third refl (λ out. absurd (omega arith))));
       zeros_after = λ place from below. zeros_from fields 24 8 place refl from below;
     }
 
@@ -73,9 +73,9 @@ same_field a b place n long_a long_b within agree =
     let size_a = length-between a place (place + n) (omega arith) in
     let size_b = length-between b place (place + n) (omega arith) in
     same_number_lists _ _ (size_a ∙ sym size_b) (λ k below.
-      let inside : place + k < place + n = omega (arith, size_a) in
-      get_or-between a place (place + n) k 0 inside ∙ agree (place + k) (omega arith) inside
-      ∙ sym (get_or-between b place (place + n) k 0 inside))
+    let inside : place + k < place + n = omega (arith, size_a) in
+    get_or-between a place (place + n) k 0 inside ∙ agree (place + k) (omega arith) inside
+    ∙ sym (get_or-between b place (place + n) k 0 inside))
 
 -- a place in one of the fields has a meaning
 in_field : (start n place : ℕ) (others : Bool) → start ≤ place → place < start + n → ((nat_le start place && nat_lt place (start + n)) || others) ≡ true
@@ -106,13 +106,13 @@ unfolding SameMeaning Agree
 same_common_fields o a b long_a long_b same =
     let opcode = same 7 refl in
     let flags = same_field a b 4 4 long_a long_b (omega arith)
-      (λ i from below. same i (has_meaning_in o 0 4 4 i refl from below)) in
+    (λ i from below. same i (has_meaning_in o 0 4 4 i refl from below)) in
     let source = same_field a b 16 8 long_a long_b (omega arith)
-      (λ i from below. same i (has_meaning_in o 1 16 8 i refl from below)) in
+    (λ i from below. same i (has_meaning_in o 1 16 8 i refl from below)) in
     let target = same_field a b 24 8 long_a long_b (omega arith)
-      (λ i from below. same i (has_meaning_in o 2 24 8 i refl from below)) in
+    (λ i from below. same i (has_meaning_in o 2 24 8 i refl from below)) in
     let size = same_field a b 32 4 long_a long_b (omega arith)
-      (λ i from below. same i (has_meaning_in o 3 32 4 i refl from below)) in
+    (λ i from below. same i (has_meaning_in o 3 32 4 i refl from below)) in
     cc
 
 same_own_fields : (o : Option Op) (a b : List ℕ) (job : Job) → length a ≡ 64 → length b ≡ 64 → SameMeaning o a b → with_own_fields o a job ≡ with_own_fields o b job
@@ -125,18 +125,18 @@ same_own_fields (Some Compare) a b job long_a long_b same = let expected = same 
 same_own_fields (Some ComparePattern) a b job long_a long_b same = let expected = same 40 refl in cc
 same_own_fields (Some CreateDelta) a b job long_a long_b same =
     let extra = same_field a b 40 8 long_a long_b (omega arith)
-      (λ i from below. same i (has_meaning_in (Some CreateDelta) 4 40 8 i refl from below)) in
+    (λ i from below. same i (has_meaning_in (Some CreateDelta) 4 40 8 i refl from below)) in
     let delta_size = same_field a b 48 4 long_a long_b (omega arith)
-      (λ i from below. same i (has_meaning_in (Some CreateDelta) 5 48 4 i refl from below)) in
+    (λ i from below. same i (has_meaning_in (Some CreateDelta) 5 48 4 i refl from below)) in
     let expected = same 56 refl in
     cc
 same_own_fields (Some ApplyDelta) a b job long_a long_b same =
     let delta_size = same_field a b 40 4 long_a long_b (omega arith)
-      (λ i from below. same i (has_meaning_in (Some ApplyDelta) 4 40 4 i refl from below)) in
+    (λ i from below. same i (has_meaning_in (Some ApplyDelta) 4 40 4 i refl from below)) in
     cc
 same_own_fields (Some Dualcast) a b job long_a long_b same =
     let extra = same_field a b 40 8 long_a long_b (omega arith)
-      (λ i from below. same i (has_meaning_in (Some Dualcast) 4 40 8 i refl from below)) in
+    (λ i from below. same i (has_meaning_in (Some Dualcast) 4 40 8 i refl from below)) in
     cc
 
 -- the operation is that of the opcode alone

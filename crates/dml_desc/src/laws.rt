@@ -4,11 +4,9 @@ ghost use Rattle.dml_desc.specs.Laws.{RecordHasItsFields, BatchHasItsFields, Dec
 pub fn law_of_records()
     ensures job { RecordHasItsFields }
     ensures batch { BatchHasItsFields }
-{
-}
+{}
 
 /// The law of descriptors: two that agree on the bytes with a meaning are the same job.
 pub fn law_of_descriptors()
     ensures { DecodedByMeaning }
-{
-}
+{}

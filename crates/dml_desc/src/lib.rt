@@ -15,3 +15,6 @@ pub use checks::{Checked, check, need};
 pub use completions::{batch_bytes, record_bytes};
 pub use descriptors::decode;
 pub use laws::{law_of_descriptors, law_of_records};
+
+#[cfg(test)]
+mod tests;

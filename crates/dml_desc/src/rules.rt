@@ -15,6 +15,7 @@ const MOST_DELTA_BYTES: u32 = 0x8_0000;
 
 /// The bytes of a delta record's entry, and the most of a record.
 const ENTRY: u32 = 10;
+
 const MOST_RECORD: u32 = 655_360;
 
 /// The bytes of a block.
@@ -60,7 +61,8 @@ pub(crate) fn has_bad_delta_size(op: Op, job: &Job) -> bool
 {
     match op {
         Op::CreateDelta => {
-            !(ENTRY..=MOST_RECORD).contains(&job.delta_size) || !job.delta_size.is_multiple_of(ENTRY)
+            !(ENTRY..=MOST_RECORD).contains(&job.delta_size)
+                || !job.delta_size.is_multiple_of(ENTRY)
         }
         Op::ApplyDelta => job.delta_size > MOST_RECORD || !job.delta_size.is_multiple_of(ENTRY),
         _ => false,
@@ -94,10 +96,7 @@ pub(crate) fn has_overlap(op: Op, job: &Job) -> bool
             let delta = span(job.extra, job.delta_size);
             shares(delta, span(job.source, job.size)) || shares(delta, span(job.target, job.size))
         }
-        Op::ApplyDelta => shares(
-            span(job.target, job.size),
-            span(job.source, job.delta_size),
-        ),
+        Op::ApplyDelta => shares(span(job.target, job.size), span(job.source, job.delta_size)),
         Op::Dualcast => {
             let source = span(job.source, job.size);
             let first = span(job.target, job.size);

@@ -18,11 +18,11 @@ pub fn record_bytes(outcome: &Record) -> [u8; 32]
 }
 
 /// The 32 bytes of a batch's completion record.
-pub fn batch_bytes(outcome: &BatchRecord) -> [u8; 32]
-    ensures { result ≡ bytes_of_batch outcome.now }
+pub fn batch_bytes(batch: &BatchRecord) -> [u8; 32]
+    ensures { result ≡ bytes_of_batch batch.now }
 {
     let mut bytes = [0; 32];
-    bytes[0] = outcome.status.code();
-    LittleEndian::write_u32(&mut bytes[4..8], outcome.completed);
+    bytes[0] = batch.status.code();
+    LittleEndian::write_u32(&mut bytes[4..8], batch.completed);
     bytes
 }

@@ -1,1 +1,2 @@
+pub mod CheckedLemmas
 pub mod LayoutLemmas

@@ -1,7 +1,7 @@
 ghost use Rattle.std.specs.Prelude.{◌≡◌, IfOk, IfErr, None, Some, nat_lt};
 ghost use Rattle.dml_types.specs.Refusal.{refusal, need_of};
 ghost use Rattle.dml_types.specs.Refusal as rule;
-ghost use Rattle.dml_types.specs.Checked.{IsChecked, KeepsRules, Limits};
+ghost use Rattle.dml_desc.specs.Checked.{IsChecked, KeepsRules, Limits};
 
 use crate::rules;
 use dml_types::{Job, Op, Status};
@@ -16,7 +16,7 @@ pub struct Checked {
 
 impl Model for Checked {
     ghost use Rattle.dml_types.specs.declared.jobs.Job.{Job};
-    ghost use Rattle.dml_types.specs.Checked.{KeepsRules};
+    ghost use Rattle.dml_desc.specs.Checked.{KeepsRules};
     ghost use Rattle.dml_desc.specs.Operation.{operation_of};
 
     ghost Value = { Job };

@@ -14,7 +14,7 @@ mod rules;
 pub use checks::{Checked, check, need};
 pub use completions::{batch_bytes, record_bytes};
 pub use descriptors::decode;
-pub use laws::{law_of_descriptors, law_of_records};
+pub use laws::{law_of_checked_jobs, law_of_descriptors, law_of_records};
 
 #[cfg(test)]
 mod tests;

@@ -1,4 +1,3 @@
-pub mod CheckedLemmas
 pub mod FirstLemmas
 pub mod MemoryLemmas
 pub mod MoveLemmas

@@ -1,4 +1,3 @@
-pub mod Checked
 pub mod Chunk
 pub mod Compare
 pub mod Conflict

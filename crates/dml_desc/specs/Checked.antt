@@ -1,6 +1,8 @@
 -- What is known of a job that passed the checks.
-use Rattle.std.specs.Prelude.{◌≡◌, ℕ, ◌+◌, ◌%◌, ◌^◌, ◌≤◌, Bool, false, Option, None, Some, ⊤}
-use Rattle.dml_types.specs.Types.{Job, Op, NoOp, Move, Fill, Compare, ComparePattern, CreateDelta, ApplyDelta, Dualcast}
+use Rattle.std.specs.Prelude.{◌≡◌, ◌↔◌, ℕ, ◌+◌, ◌%◌, ◌^◌, ◌≤◌, Bool, false, Option, None, Some, ⊤}
+use Rattle.dml_types.specs.declared.jobs.Job.{Job}
+use Rattle.dml_types.specs.declared.operations.Op.{Op}
+use Rattle.dml_types.specs.declared.operations.Op.TheVariants.{NoOp, Move, Fill, Compare, ComparePattern, CreateDelta, ApplyDelta, Dualcast}
 use Rattle.dml_types.specs.Job.{op_of}
 use Rattle.dml_types.specs.Range.{span, shares}
 use Rattle.dml_types.specs.Refusal.{refusal, need, has_bad_flags, has_bad_size, has_bad_delta_size, is_misaligned, has_dualcast_bits, has_overlap, has_range_past}
@@ -77,3 +79,8 @@ Limits ComparePattern job = SourceLimits job
 Limits CreateDelta job = CreateLimits job
 Limits ApplyDelta job = ApplyLimits job
 Limits Dualcast job = DualcastLimits job
+
+-- what the rules ask of a job of an operation: accepted flags and these limits, and no more
+abbrev pub CheckedWithinLimits : Type 0
+CheckedWithinLimits =
+    (op : Op) (job : Job) → op_of job ≡ Some op → IsChecked job ↔ ((has_bad_flags job ≡ false) × Limits op job)

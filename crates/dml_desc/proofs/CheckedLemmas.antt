@@ -1,13 +1,18 @@
 -- What is known of a job that passed the checks: rule by rule, and as limits of its sizes and addresses.
-use Rattle.std.proofs.Common.{◌≡◌, ◌≢◌, ℕ, ◌+◌, ◌<◌, ◌≤◌, ◌⊎◌, Bool, true, false, not, List, [], ◌∷◌, Option, None, Some, nat_eq, nat_lt, refl, sym, ap, subst, ◌∙◌, arith, rules}
+use Rattle.std.proofs.Common.{◌≡◌, ◌≢◌, ℕ, ◌+◌, ◌<◌, ◌≤◌, ◌⊎◌, Bool, true, false, not, ◌||◌, List, [], ◌∷◌, Option, None, Some, nat_eq, nat_lt, refl, sym, ap, subst, ◌∙◌, arith, rules}
 use Rattle.std.specs.Prelude.{option_map, unwrap_or}
-use Rattle.std.proofs.lemmas.Bool.{ltb-false, or_parts}
+use Rattle.std.specs.List.{list_any}
+use Rattle.std.proofs.lemmas.Bool.{le-ltb, ltb-false, or_from, or_parts}
 use Rattle.std.proofs.lemmas.Bool.Decides.{nat_tests}
-use Rattle.dml_types.specs.Types.{Job, Span, Op, NoOp, Move, Fill, Compare, ComparePattern, CreateDelta, ApplyDelta, Dualcast, BadFlags, BadSize, BadDeltaSize, Misaligned, DualcastBits, Overlap, RangePast, StagingRefused}
-use Rattle.dml_types.specs.Checked.{IsChecked, KeepsRules, Limits, SourceLimits, TargetLimits, PairLimits, CreateLimits, ApplyLimits, DualcastLimits}
+use Rattle.dml_types.specs.declared.jobs.Job.{Job}
+use Rattle.dml_types.specs.declared.spans.Span.{Span}
+use Rattle.dml_types.specs.declared.operations.Op.{Op}
+use Rattle.dml_types.specs.declared.operations.Op.TheVariants.{NoOp, Move, Fill, Compare, ComparePattern, CreateDelta, ApplyDelta, Dualcast}
+use Rattle.dml_types.specs.declared.statuses.Status.TheVariants.{BadFlags, BadSize, BadDeltaSize, Misaligned, DualcastBits, Overlap, RangePast, StagingRefused}
+use Rattle.dml_desc.specs.Checked.{CheckedWithinLimits, IsChecked, KeepsRules, Limits, SourceLimits, TargetLimits, PairLimits, CreateLimits, ApplyLimits, DualcastLimits}
 use Rattle.dml_types.specs.Job.{op_of}
-use Rattle.dml_types.specs.Range.{shares}
-use Rattle.dml_types.specs.Refusal.{first_broken, refusal, refusal_under, need, need_of}
+use Rattle.dml_types.specs.Range.{span, shares, is_past}
+use Rattle.dml_types.specs.Refusal.{first_broken, has_bad_flags, refusal, refusal_under, need, need_of}
 use Rattle.dml_types.specs.RefusalLaws.{BreaksNone}
 use Rattle.dml_types.proofs.RefusalLemmas.{accepted_where_none_broken}
 
@@ -82,9 +87,6 @@ accepted_with job staging checked enough =
     accepted_by_rules h.0 job staging (rules_kept h.0 job checked h.1) (omega arith)
 
 -- the limits of its sizes and addresses
-at_most : (limit n : ℕ) → nat_lt limit n ≡ false → n ≤ limit
-at_most limit n h = ltb-false limit n h
-
 is_whole : (n : ℕ) → not (nat_eq n 0) ≡ false → n ≡ 0
 is_whole n h = grind (arith, nat_tests)
 
@@ -103,32 +105,32 @@ limits_kept CreateDelta job k =
     let ranges = or_parts _ _ k.ranges in
     let later = or_parts _ _ ranges.1 in
     record {
-      size = at_most _ _ size.0;
+      size = ltb-false _ _ size.0;
       whole_blocks = is_whole _ size.1;
-      least_record = at_most _ _ bounds.0;
-      most_record = at_most _ _ bounds.1;
+      least_record = ltb-false _ _ bounds.0;
+      most_record = ltb-false _ _ bounds.1;
       whole_entries = is_whole _ delta_size.1;
       aligned_source = is_whole _ aligned.0;
       aligned_target = is_whole _ aligned.1;
       source_apart = apart.0;
       target_apart = (or_parts _ _ apart.1).0;
-      source = at_most _ _ ranges.0;
-      target = at_most _ _ later.0;
-      delta = at_most _ _ (or_parts _ _ later.1).0;
+      source = ltb-false _ _ ranges.0;
+      target = ltb-false _ _ later.0;
+      delta = ltb-false _ _ (or_parts _ _ later.1).0;
     }
 limits_kept ApplyDelta job k =
     let size = or_parts _ _ k.size in
     let delta_size = or_parts _ _ k.delta_size in
     let ranges = or_parts _ _ k.ranges in
     record {
-      size = at_most _ _ size.0;
+      size = ltb-false _ _ size.0;
       whole_blocks = is_whole _ size.1;
-      most_record = at_most _ _ delta_size.0;
+      most_record = ltb-false _ _ delta_size.0;
       whole_entries = is_whole _ delta_size.1;
       aligned_target = is_whole _ k.alignment;
       apart = (or_parts _ _ (or_parts _ _ k.overlap).0).0;
-      delta = at_most _ _ ranges.0;
-      target = at_most _ _ (or_parts _ _ ranges.1).0;
+      delta = ltb-false _ _ ranges.0;
+      target = ltb-false _ _ (or_parts _ _ ranges.1).0;
     }
 limits_kept Dualcast job k =
     let overlap = or_parts _ _ k.overlap in
@@ -136,15 +138,73 @@ limits_kept Dualcast job k =
     let ranges = or_parts _ _ k.ranges in
     let later = or_parts _ _ ranges.1 in
     record {
-      size = at_most _ _ k.size;
+      size = ltb-false _ _ k.size;
       same_low_bits = grind (arith, nat_tests, k.dualcast_bits);
       target_apart = (or_parts _ _ either.0).0;
       second_apart = (or_parts _ _ (or_parts _ _ either.1).0).0;
       destinations_apart = overlap.1;
-      source = at_most _ _ ranges.0;
-      target = at_most _ _ later.0;
-      second = at_most _ _ (or_parts _ _ later.1).0;
+      source = ltb-false _ _ ranges.0;
+      target = ltb-false _ _ later.0;
+      second = ltb-false _ _ (or_parts _ _ later.1).0;
     }
+
+-- and back: a job within its limits keeps the rules
+whole : (n : ℕ) → n ≡ 0 → not (nat_eq n 0) ≡ false
+whole n h = rw h refl
+
+same_bits : (a b : ℕ) → a ≡ b → not (nat_eq a b) ≡ false
+same_bits a b h = grind (arith, nat_tests)
+
+pairs_within : (job : Job) → PairLimits job → list_any is_past (span job.source job.size ∷ span job.target job.size ∷ []) ≡ false
+pairs_within job l = or_from _ _ (le-ltb _ _ l.source) (or_from _ _ (le-ltb _ _ l.target) refl)
+
+rules_from_limits : (op : Op) (job : Job) → op_of job ≡ Some op → has_bad_flags job ≡ false → Limits op job → KeepsRules op job
+rules_from_limits NoOp job operation flags l =
+    record { operation = operation; flags = flags; size = refl; delta_size = refl; alignment = refl; dualcast_bits = refl; overlap = refl; ranges = refl }
+rules_from_limits Move job operation flags l =
+    record { operation = operation; flags = flags; size = le-ltb _ _ l.size; delta_size = refl; alignment = refl; dualcast_bits = refl; overlap = refl; ranges = pairs_within job l }
+rules_from_limits Fill job operation flags l =
+    record { operation = operation; flags = flags; size = le-ltb _ _ l.size; delta_size = refl; alignment = refl; dualcast_bits = refl; overlap = refl; ranges = or_from _ _ (le-ltb _ _ l.target) refl }
+rules_from_limits Compare job operation flags l =
+    record { operation = operation; flags = flags; size = le-ltb _ _ l.size; delta_size = refl; alignment = refl; dualcast_bits = refl; overlap = refl; ranges = pairs_within job l }
+rules_from_limits ComparePattern job operation flags l =
+    record { operation = operation; flags = flags; size = le-ltb _ _ l.size; delta_size = refl; alignment = refl; dualcast_bits = refl; overlap = refl; ranges = or_from _ _ (le-ltb _ _ l.source) refl }
+rules_from_limits CreateDelta job operation flags l = record {
+  operation = operation;
+  flags = flags;
+  size = or_from _ _ (le-ltb _ _ l.size) (whole _ l.whole_blocks);
+  delta_size = or_from _ _ (or_from _ _ (le-ltb _ _ l.least_record) (le-ltb _ _ l.most_record)) (whole _ l.whole_entries);
+  alignment = or_from _ _ (whole _ l.aligned_source) (whole _ l.aligned_target);
+  dualcast_bits = refl;
+  overlap = or_from _ _ (or_from _ _ l.source_apart (or_from _ _ l.target_apart refl)) refl;
+  ranges = or_from _ _ (le-ltb _ _ l.source) (or_from _ _ (le-ltb _ _ l.target) (or_from _ _ (le-ltb _ _ l.delta) refl));
+}
+rules_from_limits ApplyDelta job operation flags l = record {
+  operation = operation;
+  flags = flags;
+  size = or_from _ _ (le-ltb _ _ l.size) (whole _ l.whole_blocks);
+  delta_size = or_from _ _ (le-ltb _ _ l.most_record) (whole _ l.whole_entries);
+  alignment = whole _ l.aligned_target;
+  dualcast_bits = refl;
+  overlap = or_from _ _ (or_from _ _ l.apart refl) refl;
+  ranges = or_from _ _ (le-ltb _ _ l.delta) (or_from _ _ (le-ltb _ _ l.target) refl);
+}
+rules_from_limits Dualcast job operation flags l = record {
+  operation = operation;
+  flags = flags;
+  size = le-ltb _ _ l.size;
+  delta_size = refl;
+  alignment = refl;
+  dualcast_bits = same_bits _ _ l.same_low_bits;
+  overlap = or_from _ _ (or_from _ _ (or_from _ _ l.target_apart refl) (or_from _ _ (or_from _ _ l.second_apart refl) refl)) l.destinations_apart;
+  ranges = or_from _ _ (le-ltb _ _ l.source) (or_from _ _ (le-ltb _ _ l.target) (or_from _ _ (le-ltb _ _ l.second) refl));
+}
+
+pub checked_within_limits : CheckedWithinLimits
+checked_within_limits op job operation = (
+  λ checked. let kept = rules_kept op job checked operation in (kept.flags, limits_kept op job kept),
+  λ h. checked_by_rules op job (rules_from_limits op job operation h.0 h.1),
+)
 
 -- the limits of a checked job of each operation
 pub move_limits : (job : Job) → IsChecked job → op_of job ≡ Some Move → PairLimits job

@@ -1,5 +1,5 @@
 -- What is known of a job that passed the checks: rule by rule, and as limits of its sizes and addresses.
-use Rattle.std.proofs.Common.{◌≡◌, ◌≢◌, ℕ, ◌+◌, ◌<◌, ◌≤◌, ◌⊎◌, Bool, true, false, not, ◌||◌, List, [], ◌∷◌, Option, None, Some, nat_eq, nat_lt, refl, sym, ap, subst, ◌∙◌, arith, rules}
+use Rattle.std.proofs.Common.{◌≡◌, ◌≢◌, ℕ, ◌+◌, ◌<◌, ◌≤◌, ◌⊎◌, Bool, false, not, [], ◌∷◌, Option, None, Some, nat_eq, nat_lt, refl, sym, ap, subst, ◌∙◌, arith}
 use Rattle.std.specs.Prelude.{option_map, unwrap_or}
 use Rattle.std.specs.List.{list_any}
 use Rattle.std.proofs.lemmas.Bool.{le-ltb, ltb-false, or_from, or_parts}
@@ -9,7 +9,7 @@ use Rattle.dml_types.specs.declared.spans.Span.{Span}
 use Rattle.dml_types.specs.declared.operations.Op.{Op}
 use Rattle.dml_types.specs.declared.operations.Op.TheVariants.{NoOp, Move, Fill, Compare, ComparePattern, CreateDelta, ApplyDelta, Dualcast}
 use Rattle.dml_types.specs.declared.statuses.Status.TheVariants.{BadFlags, BadSize, BadDeltaSize, Misaligned, DualcastBits, Overlap, RangePast, StagingRefused}
-use Rattle.dml_desc.specs.Checked.{CheckedWithinLimits, IsChecked, KeepsRules, Limits, SourceLimits, TargetLimits, PairLimits, CreateLimits, ApplyLimits, DualcastLimits}
+use Rattle.dml_desc.specs.Checked.{CheckedWithinLimits, IsChecked, KeepsRules, Limits, PairLimits}
 use Rattle.dml_types.specs.Job.{op_of}
 use Rattle.dml_types.specs.Range.{span, shares, is_past}
 use Rattle.dml_types.specs.Refusal.{first_broken, has_bad_flags, refusal, refusal_under, need, need_of}
@@ -52,7 +52,7 @@ need_within job staging accepted =
 none_of : (flags size delta_size alignment bits overlap ranges staging : Bool)
     → flags ≡ false → size ≡ false → delta_size ≡ false → alignment ≡ false → bits ≡ false → overlap ≡ false → ranges ≡ false → staging ≡ false
     → first_broken ((flags, BadFlags) ∷ (size, BadSize) ∷ (delta_size, BadDeltaSize) ∷ (alignment, Misaligned) ∷ (bits, DualcastBits)
-      ∷ (overlap, Overlap) ∷ (ranges, RangePast) ∷ (staging, StagingRefused) ∷ []) ≡ None
+    ∷ (overlap, Overlap) ∷ (ranges, RangePast) ∷ (staging, StagingRefused) ∷ []) ≡ None
 none_of flags size delta_size alignment bits overlap ranges staging a b c d e f g h = rw (a, b, c, d, e, f, g, h) refl
 
 -- with as much staging as a job needs, the rules that it keeps are all
@@ -206,27 +206,9 @@ checked_within_limits op job operation = (
   λ h. checked_by_rules op job (rules_from_limits op job operation h.0 h.1),
 )
 
--- the limits of a checked job of each operation
-pub move_limits : (job : Job) → IsChecked job → op_of job ≡ Some Move → PairLimits job
-move_limits job checked operation = limits_kept Move job (rules_kept Move job checked operation)
-
-pub fill_limits : (job : Job) → IsChecked job → op_of job ≡ Some Fill → TargetLimits job
-fill_limits job checked operation = limits_kept Fill job (rules_kept Fill job checked operation)
-
-pub compare_limits : (job : Job) → IsChecked job → op_of job ≡ Some Compare → PairLimits job
-compare_limits job checked operation = limits_kept Compare job (rules_kept Compare job checked operation)
-
-pub compare_pattern_limits : (job : Job) → IsChecked job → op_of job ≡ Some ComparePattern → SourceLimits job
-compare_pattern_limits job checked operation = limits_kept ComparePattern job (rules_kept ComparePattern job checked operation)
-
-pub create_limits : (job : Job) → IsChecked job → op_of job ≡ Some CreateDelta → CreateLimits job
-create_limits job checked operation = limits_kept CreateDelta job (rules_kept CreateDelta job checked operation)
-
-pub apply_limits : (job : Job) → IsChecked job → op_of job ≡ Some ApplyDelta → ApplyLimits job
-apply_limits job checked operation = limits_kept ApplyDelta job (rules_kept ApplyDelta job checked operation)
-
-pub dualcast_limits : (job : Job) → IsChecked job → op_of job ≡ Some Dualcast → DualcastLimits job
-dualcast_limits job checked operation = limits_kept Dualcast job (rules_kept Dualcast job checked operation)
+-- the limits of a checked job
+pub limits_of : (op : Op) (job : Job) → IsChecked job → op_of job ≡ Some op → Limits op job
+limits_of op job checked operation = limits_kept op job (rules_kept op job checked operation)
 
 -- ranges that share no byte: one ends before the other starts, and no address lies in both
 pub apart_ends : (a b : Span) → shares a b ≡ false → 0 < a.len → 0 < b.len → (a.start + a.len ≤ b.start) ⊎ (b.start + b.len ≤ a.start)

@@ -1,23 +1,21 @@
 -- The fields of descriptors and completion records, read from their bytes.
-use Rattle.std.proofs.Common.{◌≡◌, ℕ, ◌+◌, ◌-◌, ◌*◌, ◌^◌, ◌<◌, ◌≤◌, ◌&&◌, Bool, true, List, [], ◌∷◌, ◌++◌, Option, None, Some, length, replicate, zero, suc, subst, inl, inr, ◌||◌, false, take, drop, slice_index, get_or, refl, sym, ap, ◌∙◌, arith, rules, nat_le, nat_lt, nat_eq, find}
+use Rattle.std.proofs.Common.{◌≡◌, ℕ, ◌+◌, ◌-◌, ◌<◌, ◌≤◌, ◌&&◌, Bool, true, List, [], ◌∷◌, ◌++◌, Option, None, Some, length, replicate, zero, suc, subst, inl, inr, ◌||◌, false, slice_index, refl, sym, ap, ◌∙◌, arith, nat_le, nat_lt}
 use Rattle.std.specs.Prelude.{slice_range, slice_get}
 use Rattle.std.specs.Option.{option_map}
 use Rattle.std.proofs.lemmas.Option.{same_Some}
 use Rattle.std.specs.List.{list_any}
-use Rattle.std.specs.Int.{w32, w64, from_le_bytes, to_le_bytes}
+use Rattle.std.specs.Int.{w32, w64, to_le_bytes}
 use Rattle.std.proofs.lemmas.Nat.{from_le_bytes-to_le_bytes_4, from_le_bytes-to_le_bytes_8}
 use Rattle.std.proofs.lemmas.Bool.{cases_eq}
 use Rattle.std.proofs.lemmas.List.{get_or-append_right, get_or-replicate}
 use Rattle.std.proofs.lemmas.List.Edits.{get_or-between, length-between}
 use Rattle.dml_types.specs.Status.{code_of}
-use Rattle.std.proofs.lemmas.Grind.{common_steps, same_number_lists}
+use Rattle.std.proofs.lemmas.Grind.{same_number_lists}
 use Rattle.std.proofs.lemmas.Bool.Decides.{nat_tests}
 use Rattle.dml_types.specs.declared.jobs.Job.{Job}
 use Rattle.dml_types.specs.declared.operations.Op.{Op}
-use Rattle.dml_types.specs.declared.records.Record.{Record}
-use Rattle.dml_types.specs.declared.records.BatchRecord.{BatchRecord}
 use Rattle.dml_types.specs.declared.operations.Op.TheVariants.{NoOp, Move, Fill, Compare, ComparePattern, CreateDelta, ApplyDelta, Dualcast}
-use Rattle.dml_types.specs.Descriptor.{u8_at, u32_at, u64_at, common_fields, with_own_fields, decoded, bytes_of_record, bytes_of_batch}
+use Rattle.dml_types.specs.Descriptor.{common_fields, with_own_fields, decoded, bytes_of_record, bytes_of_batch}
 use Rattle.dml_types.specs.Job.{op_of, plain}
 use Rattle.dml_desc.specs.Laws.{common, own, RecordHasItsFields, BatchHasItsFields, DecodedByMeaning, has_meaning}
 

@@ -1,4 +1,4 @@
-ghost use Rattle.std.specs.Prelude.{◌≡◌, IfOk, IfErr, None, Some, nat_lt};
+ghost use Rattle.std.specs.Prelude.{◌≡◌, if◌then◌else◌, IfOk, IfErr, None, Some, nat_lt};
 ghost use Rattle.dml_types.specs.Refusal.{refusal, need_of};
 ghost use Rattle.dml_types.specs.Refusal as rule;
 ghost use Rattle.dml_desc.specs.Checked.{IsChecked, KeepsRules, Limits};
@@ -65,6 +65,13 @@ pub fn need(job: &Job) -> u64
     job.op().map_or(0, |op| need_for(op, job))
 }
 
+/// A rule: the status that answers where it is broken.
+fn refuse_if(broken: bool, status: Status) -> Result<(), Status>
+    ensures { result ≡ (if broken then Err status else Ok tt) }
+{
+    if broken { Err(status) } else { Ok(()) }
+}
+
 /// The job as a checked one where it breaks no rule, and else the status of the first rule that it breaks, at a
 /// staging size in bytes.
 pub fn check(job: &Job, staging: u32) -> Result<Checked, Status>
@@ -72,32 +79,17 @@ pub fn check(job: &Job, staging: u32) -> Result<Checked, Status>
     ensures accepted { IfOk result (λ _. refusal job.now staging ≡ None) }
     ensures refused { IfErr result (λ status. refusal job.now staging ≡ Some status) }
 {
-    let Some(op) = job.op() else {
-        return Err(Status::BadOpcode);
-    };
-    if rules::has_bad_flags(job) {
-        return Err(Status::BadFlags);
-    }
-    if rules::has_bad_size(op, job) {
-        return Err(Status::BadSize);
-    }
-    if rules::has_bad_delta_size(op, job) {
-        return Err(Status::BadDeltaSize);
-    }
-    if rules::is_misaligned(op, job) {
-        return Err(Status::Misaligned);
-    }
-    if rules::has_dualcast_bits(op, job) {
-        return Err(Status::DualcastBits);
-    }
-    if rules::has_overlap(op, job) {
-        return Err(Status::Overlap);
-    }
-    if rules::has_range_past(op, job) {
-        return Err(Status::RangePast);
-    }
-    if need_for(op, job) > u64::from(staging) {
-        return Err(Status::StagingRefused);
-    }
+    let op = job.op().ok_or(Status::BadOpcode)?;
+    refuse_if(rules::has_bad_flags(job), Status::BadFlags)?;
+    refuse_if(rules::has_bad_size(op, job), Status::BadSize)?;
+    refuse_if(rules::has_bad_delta_size(op, job), Status::BadDeltaSize)?;
+    refuse_if(rules::is_misaligned(op, job), Status::Misaligned)?;
+    refuse_if(rules::has_dualcast_bits(op, job), Status::DualcastBits)?;
+    refuse_if(rules::has_overlap(op, job), Status::Overlap)?;
+    refuse_if(rules::has_range_past(op, job), Status::RangePast)?;
+    refuse_if(
+        need_for(op, job) > u64::from(staging),
+        Status::StagingRefused,
+    )?;
     Ok(Checked { job: *job, op })
 }

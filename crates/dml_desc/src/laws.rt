@@ -16,5 +16,4 @@ pub fn law_of_descriptors()
 /// sizes and addresses are within the limits of its operation.
 pub fn law_of_checked_jobs()
     ensures { CheckedWithinLimits }
-{
-}
+{}

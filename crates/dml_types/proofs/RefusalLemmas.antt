@@ -1,11 +1,11 @@
 -- A job's refusal is the status of the first rule that it breaks.
-use Rattle.std.proofs.Common.{◌≡◌, ◌↔◌, ◌⊎◌, ℕ, zero, suc, ◌<◌, Bool, true, false, List, [], ◌∷◌, Option, None, Some, IfSome, refl, sym, ap, subst, ◌∙◌, inl, inr, arith}
+use Rattle.std.proofs.Common.{◌≡◌, ℕ, zero, suc, ◌<◌, Bool, true, false, List, [], ◌∷◌, Option, None, Some, refl, sym, ap, subst, ◌∙◌, inl, inr, arith}
 use Rattle.std.specs.Prelude.{slice_get}
 use Rattle.std.specs.Option.{option_map}
-use Rattle.dml_types.specs.Types.{Job, Op, Status, BadOpcode}
+use Rattle.dml_types.specs.Types.{Job, Op, Status}
 use Rattle.dml_types.specs.Job.{op_of}
-use Rattle.dml_types.specs.Refusal.{rules_of, first_broken, refusal, refusal_under}
-use Rattle.dml_types.specs.RefusalLaws.{IsKept, IsFirstBroken, BreaksFirst, BreaksNone, IsRefusedBy, RefusedByFirstBroken, AcceptedWhereNoneBroken, OneStatusAtMost}
+use Rattle.dml_types.specs.Refusal.{rules_of, first_broken, refusal_under}
+use Rattle.dml_types.specs.RefusalLaws.{IsKept, IsFirstBroken, BreaksNone, IsRefusedBy, RefusedByFirstBroken, AcceptedWhereNoneBroken, OneStatusAtMost}
 
 -- the status that a list of rules gives is that of the first broken one
 first_broken_is : (rules : List (Bool × Status)) (status : Status) → first_broken rules ≡ Some status → IsFirstBroken rules status

@@ -6,5 +6,4 @@ pub fn law_of_refusals()
     ensures refused { RefusedByFirstBroken }
     ensures accepted { AcceptedWhereNoneBroken }
     ensures one { OneStatusAtMost }
-{
-}
+{}

@@ -1,0 +1,4 @@
+pub mod Sharing
+pub mod Steps
+pub mod Values
+pub mod Walks

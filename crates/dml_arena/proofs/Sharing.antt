@@ -1,0 +1,39 @@
+-- A `&` to a span holds its bytes, and a span may cross threads. Assumes `Logic`.
+use Rattle.dml_arena.proofs.Steps.{◌≡◌, ℕ, ◌+◌, ◌-◌, ◌≤◌, List, [], ◌∷◌, ◌++◌, refl, length, Ura, full_share, SProp, ent, sep, emp, Lft, GName, Fml, Incl, Incl-trans, ftrue, ffalse, fsep, fex, feq, froom, fbor, meet_⊑_left, meet_⊑_right, ⊑_meet, fact, fact_i, Logic, sem, lfts, ‵, raw, ◌⊛◌, later, ◌$◌, ◌∵◌, !, qed, by, move, keep, drop, use0, use1, use2, split, fsplit, fjoin, fpick, fpack, feq_i, feq_l, await, w8, updating, now, done, Toks, span, RattleType, Ptr, block_ptr, null_ptr, bytes}
+
+use denote.Builtin.{u8}
+use denote.Array.{Array}
+use denote.Memory.{part_at}
+use denote.RawPtr.Bytes.{bytes_whole, bytes_apart}
+use denote.Copied.{uint_Copied}
+use denote.Shares.{Shares, Shares-Array, bor-Cut, peels}
+use denote.Struct.Lending.{Lends, Lends-lies, Lends-false}
+use denote.Steps.{nothing, heard}
+use Rattle.dml_arena.specs.Ownership.{bytes_type, front, Front, span_owns, span_lent}
+
+module _ {M : Type 1} {𝓤 : Ura M} (𝓛 : Logic 𝓤) where
+  open 𝓛 use {H, A}
+
+  bytes_share : (n : ℕ) (l : Lft) → Shares 𝓛 (Array u8 n) l
+  bytes_share n l = Shares-Array 𝓛 u8 tt n l ((uint_Copied 𝓛 w8).shares full_share l)
+
+  pub Lends-span : (κ : Lft) (γ : GName) (p : Ptr) (n : ℕ) (xs : List ℕ) (l : Lft) → Incl l κ → Lends 𝓛 (span_owns κ γ p n xs) (span_lent κ p xs) l
+  Lends-span κ γ null_ptr n xs l ends α ts inc sp = Lends-false 𝓛 (span_lent κ null_ptr xs) l α ts inc sp
+  Lends-span κ γ (block_ptr b o) n xs l ends α ts inc sp =
+      let m : ℕ = length xs in
+      let κ' : Lft = α ++ κ in
+      let both : Incl (span ts) κ' = ⊑_meet (span ts) α κ sp (Incl-trans inc ends) in
+      let P : Fml = span_owns κ γ (block_ptr b o) n xs in
+      let Bytes : Fml = part_at (Array u8 m) full_share xs b o in
+      let Room : Fml = froom (bytes_type (n - m)) b (o + m) in
+      let fits : Type 0 = m ≤ n in
+      qed 𝓛 (‵ (fbor α P) ∷ raw (lfts 𝓛 ts) ∷ []) {P = H.⇛ (sep 𝓤 (sem 𝓛 (span_lent κ (block_ptr b o) xs α)) (lfts 𝓛 ts))} (
+      updating ! $ use1 𝓛 (‵ (fbor κ' P)) (𝓛.bors.bor_shorten α κ' P (meet_⊑_left α κ)) $
+      use2 𝓛 (later (‵ (fbor κ' (front n xs b o)) ⊛ raw (lfts 𝓛 ts))) (peels 𝓛 (Front n) κ' κ ts both γ xs b o (meet_⊑_right α κ)) $ await ! tt $
+      use1 𝓛 (later (‵ (fbor κ' Bytes) ⊛ (‵ (fbor κ' Room) ⊛ raw (lfts 𝓛 ts)))) (bor-Cut 𝓛 κ' ts both (front n xs b o) Bytes Room (fact 𝓤 fits)
+      (qed 𝓛 (‵ Bytes ∷ ‵ Room ∷ raw (fact 𝓤 fits) ∷ []) {P = sem 𝓛 (front n xs b o)} (move ! (2 ∷ []) $ heard ! fits (λ fit.
+      use1 𝓛 (‵ (fsep (feq ℕ (length xs) m) (bytes full_share xs b o))) (bytes_apart 𝓛 full_share m xs b o) $ fsplit ! $ drop ! $ fjoin ! $ fpack ! fits (λ _. fsep (bytes full_share xs b o) Room) fit $ done !)))
+      (qed 𝓛 (‵ (front n xs b o) ∷ []) {P = sep 𝓤 (sem 𝓛 Bytes) (sep 𝓤 (sem 𝓛 Room) (fact 𝓤 fits))} (fpick ! (λ fit. fsplit ! $ feq_i ! ℕ (length xs) m refl $ fjoin ! $
+      use1 𝓛 (‵ Bytes) (bytes_whole 𝓛 full_share m xs b o) $ use0 𝓛 (raw (fact 𝓤 fits)) (fact_i 𝓤 fits (emp 𝓤) fit) $ move ! (1 ∷ 2 ∷ 0 ∷ []) $ done !)))) $
+      await ! tt $ split ! $ move ! (1 ∷ []) $ split ! $ drop ! $ move ! (1 ∷ 0 ∷ []) $
+      use2 𝓛 (later (‵ (span_lent κ (block_ptr b o) xs α) ⊛ raw (lfts 𝓛 ts))) (Lends-lies 𝓛 (Array u8 m) l (block_ptr b o) xs (bytes_share m l xs) κ' ts inc both) $ await ! tt $ now ! $ done !)

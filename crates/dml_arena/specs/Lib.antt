@@ -1,0 +1,5 @@
+pub mod Block
+pub mod Filling
+pub mod Opening
+pub mod Ownership
+pub mod Piece

@@ -1,4 +1,6 @@
+pub mod Fronts
 pub mod Sharing
+pub mod Spans
 pub mod Steps
 pub mod Values
 pub mod Walks

@@ -24,7 +24,7 @@ pub use contract.Running.{tables}
 pub use types.Part.{whole, sub, agg, look_in}
 pub use types.Match.{live, vrt, in_variant}
 pub use types.Run.{stop, fld, hop, lit, unit_lit, of_opd, bin, addr, load, look, store, no_more, and_then, first, blocks, switches_on, exec, returns, enter}
-pub use types.ByLocal.{alloc_all, pass_all, free_all, look_at, look_in_at, get, get_in, get_tag, through, sets, sets_last, lands_as, lands_last, env}
+pub use types.ByLocal.{alloc_all, pass_all, free_all, look_at, look_in_at, get, get_in, get_tag, through, is, sets, sets_last, lands_as, lands_last, env}
 pub use denote.RattleType.{owns}
 pub use denote.RawPtr.{RawPtr, ptr_val, in_a_block}
 pub use denote.Param.{param, bounded, layouts}

@@ -1,4 +1,5 @@
 pub mod Fronts
+pub mod Moves
 pub mod Sharing
 pub mod Spans
 pub mod Steps

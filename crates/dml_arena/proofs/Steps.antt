@@ -1,6 +1,7 @@
 -- The names that the proofs of this crate cite, passed on from one place.
 pub use Rattle.std.proofs.Common.{◌≡◌, ℕ, zero, suc, ◌+◌, ◌-◌, ◌*◌, ◌^◌, ◌<◌, ◌≤◌, List, [], ◌∷◌, ◌++◌, refl, sym, ap, subst, ◌∙◌, arith, lit<, w8, w64, Some, None}
-pub use lib.ListN.{length, take}
+pub use lib.Dec.{T as Holds}
+pub use lib.ListN.{length, length-append, take}
 pub use seplogic.Ra.Ura.{Ura}
 pub use base.Fraction.{full_share}
 pub use base.Logic.{SProp, ent, sep, emp, never, id⊢, via, never_e, snd∗}
@@ -31,10 +32,14 @@ pub use denote.Param.{param, bounded, layouts}
 pub use denote.Signature.{plain, types_at, type_at, named_lft}
 pub use denote.Steps.{nothing, heard, opens, closes}
 pub use denote.Struct.Tuple.{Tuple}
+pub use denote.Builtin.{u8, usize}
+pub use denote.Plain.{uint_vals, uint_Tells}
+pub use denote.Ref.{MutBor, MutRef, mut_vals, mut_Tells}
+pub use types.Mut.{open_ref, close_ref}
 pub use denote.Triple.Entry.{alive, on_entry}
 pub use denote.Triple.Call.{calls_at, calls_at_last}
 pub use denote.Triple.Walked.{Stays, stay_dropped, stay_ref, walk_of, ends_at, says, Goes-dropped, Goes-ref, Goes-spent_ref}
-pub use Rattle.std.proofs.raw_atomic.Walks.{proved_at, leaves}
+pub use Rattle.std.proofs.raw_atomic.Walks.{proved, proved_at, leaves}
 pub use Rattle.core.proofs.alloc.Calls.{Goes-blank}
 pub use Rattle.core.proofs.alloc.Shapes.{after, head, arm_body}
 pub use Rattle.core.proofs.atomic.Steps.{fm}

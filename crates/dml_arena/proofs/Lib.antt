@@ -1,3 +1,4 @@
+pub mod Filling
 pub mod Fronts
 pub mod Moves
 pub mod Sharing

@@ -1,13 +1,27 @@
 -- A `&` to a span holds its bytes, and a span may cross threads. Assumes `Logic`.
-use Rattle.dml_arena.proofs.Steps.{◌≡◌, ℕ, ◌+◌, ◌-◌, ◌≤◌, List, [], ◌∷◌, ◌++◌, refl, length, Ura, full_share, SProp, ent, sep, emp, Lft, GName, Fml, Incl, Incl-trans, ftrue, ffalse, fsep, fex, feq, froom, fbor, meet_⊑_left, meet_⊑_right, ⊑_meet, fact, fact_i, Logic, sem, lfts, ‵, raw, ◌⊛◌, later, ◌$◌, ◌∵◌, !, qed, by, move, keep, drop, use0, use1, use2, split, fsplit, fjoin, fpick, fpack, feq_i, feq_l, await, w8, updating, now, done, Toks, span, RattleType, Ptr, block_ptr, null_ptr, bytes}
+use Rattle.dml_arena.proofs.Steps.{◌≡◌, ℕ, ◌+◌, ◌-◌, ◌≤◌, List, [], ◌∷◌, refl, length, Ura, full_share, SProp, ent, sep, emp, Lft, GName, Fml, Incl, Incl-refl, Incl-trans, ftrue, ffalse, fsep, fex, feq, froom, fbor, meet_⊑_left, meet_⊑_right, ⊑_meet, fact, fact_i, Logic, sem, lfts, ‵, raw, ◌⊛◌, later, ◌$◌, ◌∵◌, !, qed, by, move, keep, drop, use0, use1, use2, split, fsplit, fjoin, fpick, fpack, feq_i, feq_l, await, w8, updating, now, done, Toks, span, RattleType, Ptr, block_ptr, null_ptr, block_of, count_of, bytes}
 
+use base.Fml.{fhide}
+use mathlib.Core.List.{◌++◌}
 use denote.Builtin.{u8}
-use denote.Array.{Array}
+use denote.Memory.{hidden_shr}
+use denote.Opens.{hide, unhide}
+use denote.Plain.{uint_row_laws}
+use denote.RawPtr.{RawPtr}
+use denote.Ref.{NamedLft, MutRef}
+use denote.SharingLaws.{shortens}
+use denote.Slice.{elements_shared}
+use denote.Struct.Owning.{shape}
+use denote.Struct.Struct.{Struct}
+use Rattle.core.specs.contracts.marker.PhantomData as marker
+use Rattle.dml_arena.specs.contracts.span.Span as C
+use Rattle.dml_arena.specs.declared.span.Span.{Span}
+use denote.Array.{Array, Array-row_laws}
 use denote.Memory.{part_at}
 use denote.RawPtr.Bytes.{bytes_whole, bytes_apart}
 use denote.Copied.{uint_Copied}
 use denote.Shares.{Shares, Shares-Array, bor-Cut, peels}
-use denote.Struct.Lending.{Lends, Lends-lies, Lends-false}
+use denote.Struct.Lending.{lent_at, lent_at_shr_laws, lent_out, Lends, Lends-lies, Lends-false}
 use denote.Steps.{nothing, heard}
 use Rattle.dml_arena.specs.Ownership.{bytes_type, front, Front, span_owns, span_lent}
 
@@ -37,3 +51,18 @@ module _ {M : Type 1} {𝓤 : Ura M} (𝓛 : Logic 𝓤) where
       use1 𝓛 (‵ Bytes) (bytes_whole 𝓛 full_share m xs b o) $ use0 𝓛 (raw (fact 𝓤 fits)) (fact_i 𝓤 fits (emp 𝓤) fit) $ move ! (1 ∷ 2 ∷ 0 ∷ []) $ done !)))) $
       await ! tt $ split ! $ move ! (1 ∷ []) $ split ! $ drop ! $ move ! (1 ∷ 0 ∷ []) $
       use2 𝓛 (later (‵ (span_lent κ (block_ptr b o) xs α) ⊛ raw (lfts 𝓛 ts))) (Lends-lies 𝓛 (Array u8 m) l (block_ptr b o) xs (bytes_share m l xs) κ' ts inc both) $ await ! tt $ now ! $ done !)
+
+  -- a `&` to a span shows where its bytes lie, and holds them
+  pub shown : (a : NamedLft) (κ : Lft) → Incl κ a.lft → (h : Span) (b o : ℕ)
+      → ent 𝓤 (sem 𝓛 (hidden_shr (C.the_row a) κ h b o)) (sep 𝓤 (sem 𝓛 (hidden_shr RawPtr κ h.ptr b (o + 0))) (sem 𝓛 (fhide (elements_shared u8 h.bytes (block_of h.ptr) (count_of h.ptr) κ))))
+  shown a κ within h b o =
+      let xs : List ℕ = h.bytes in
+      let m : ℕ = length xs in
+      let R : RattleType = Array u8 m in
+      let Words : RattleType = Struct (shape (C.the_type a)) in
+      let laws = lent_at_shr_laws R (Array-row_laws u8 (uint_row_laws w8) m) h.ptr xs in
+      let here : Incl κ (κ ++ a.lft) = ⊑_meet κ κ a.lft (Incl-refl κ) within in
+      qed 𝓛 (‵ (hidden_shr (C.the_row a) κ h b o) ∷ []) ∵
+      use1 𝓛 (‵ (hidden_shr Words κ (h.ptr, (tt, tt)) b o) ⊛ ‵ (span_lent a.lft h.ptr xs κ)) (lent_out 𝓛 (C.struct a) (C.the_codes (marker.the_row (MutRef a.mir a.lft u8)).coded) (C.the_heap a.lft) (C.the_lent a.lft) κ h b o) $ split ! $
+      unhide ! $ fsplit ! $ fsplit ! $ keep ! (0 ∷ 3 ∷ []) $ move ! (1 ∷ []) $ use1 𝓛 (‵ (lent_at R h.ptr xs κ)) (shortens 𝓛 (lent_at R h.ptr xs) laws (κ ++ a.lft) κ here) $
+      fsplit ! $ drop ! $ fsplit ! $ drop ! $ hide ! $ move ! (1 ∷ 0 ∷ []) $ done !

@@ -1,5 +1,6 @@
 pub mod Filling
 pub mod Fronts
+pub mod Lending
 pub mod Moves
 pub mod Sharing
 pub mod Spans

@@ -1,9 +1,11 @@
 -- A `&` to a span holds its bytes, and a span may cross threads. Assumes `Logic`.
 use Rattle.dml_arena.proofs.Steps.{◌≡◌, ℕ, ◌+◌, ◌-◌, ◌≤◌, List, [], ◌∷◌, refl, length, Ura, full_share, SProp, ent, sep, emp, Lft, GName, Fml, Incl, Incl-refl, Incl-trans, ftrue, ffalse, fsep, fex, feq, froom, fbor, meet_⊑_left, meet_⊑_right, ⊑_meet, fact, fact_i, Logic, sem, lfts, ‵, raw, ◌⊛◌, later, ◌$◌, ◌∵◌, !, qed, by, move, keep, drop, use0, use1, use2, split, fsplit, fjoin, fpick, fpack, feq_i, feq_l, await, w8, updating, now, done, Toks, span, RattleType, Ptr, block_ptr, null_ptr, block_of, count_of, bytes}
-
 use base.Fml.{fhide}
 use mathlib.Core.List.{◌++◌}
+use base.Shift.{Keyless}
 use denote.Builtin.{u8}
+use denote.Exit.{Exit, unchanged, leaves, hidden, under}
+use denote.Param.Send.{IsSend, Quiet, AllSend, part_keyless, owning_send, struct_send, sendable}
 use denote.Memory.{hidden_shr}
 use denote.Opens.{hide, unhide}
 use denote.Plain.{uint_row_laws}
@@ -11,8 +13,8 @@ use denote.RawPtr.{RawPtr}
 use denote.Ref.{NamedLft, MutRef}
 use denote.SharingLaws.{shortens}
 use denote.Slice.{elements_shared}
-use denote.Struct.Owning.{shape}
-use denote.Struct.Struct.{Struct}
+use denote.Struct.Owning.{shape, fields, to}
+use denote.Struct.Struct.{Struct, exits_of}
 use Rattle.core.specs.contracts.marker.PhantomData as marker
 use Rattle.dml_arena.specs.contracts.span.Span as C
 use Rattle.dml_arena.specs.declared.span.Span.{Span}
@@ -66,3 +68,22 @@ module _ {M : Type 1} {𝓤 : Ura M} (𝓛 : Logic 𝓤) where
       use1 𝓛 (‵ (hidden_shr Words κ (h.ptr, (tt, tt)) b o) ⊛ ‵ (span_lent a.lft h.ptr xs κ)) (lent_out 𝓛 (C.struct a) (C.the_codes (marker.the_row (MutRef a.mir a.lft u8)).coded) (C.the_heap a.lft) (C.the_lent a.lft) κ h b o) $ split ! $
       unhide ! $ fsplit ! $ fsplit ! $ keep ! (0 ∷ 3 ∷ []) $ move ! (1 ∷ []) $ use1 𝓛 (‵ (lent_at R h.ptr xs κ)) (shortens 𝓛 (lent_at R h.ptr xs) laws (κ ++ a.lft) κ here) $
       fsplit ! $ drop ! $ fsplit ! $ drop ! $ hide ! $ move ! (1 ∷ 0 ∷ []) $ done !
+
+-- ---- a span may cross threads: what it stores names no thread
+bytes-Keyless : (xs : List ℕ) (b o : ℕ) → Keyless (bytes full_share xs b o)
+bytes-Keyless [] b o = tt
+bytes-Keyless (x ∷ xs) b o = (part_keyless u8 (search sendable) full_share x b o, bytes-Keyless xs b (o + 1))
+
+owned-Keyless : (κ : Lft) (γ : GName) (p : Ptr) (n : ℕ) (xs : List ℕ) → Keyless (span_owns κ γ p n xs)
+owned-Keyless κ γ (block_ptr b o) n xs = (tt, λ ys. ((λ _. (bytes-Keyless ys b o, tt)), tt))
+owned-Keyless κ γ null_ptr n xs = tt
+
+leaves_nothing : {D X : Type 0} (f : D → X) (e : Exit X) → Quiet e → Quiet (hidden (under f e))
+leaves_nothing f unchanged q = λ x w. tt
+leaves_nothing f (leaves L l P s r) q = λ d. q (f d)
+
+pub Span-send : (a : NamedLft) → IsSend (C.the_row a)
+Span-send a =
+    let O = C.the_type a in
+    let all : AllSend (fields O) = (search sendable, (search sendable, tt)) in
+    owning_send O all (λ d. owned-Keyless a.lft d.name d.ptr d.room d.bytes) (λ k. leaves_nothing (to O) (exits_of k (fields O)) ((struct_send (shape O) all).leaving k))

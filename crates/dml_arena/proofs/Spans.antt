@@ -54,7 +54,7 @@ module _ {M : Type 1} {𝓤 : Ura M} (𝓛 : Logic 𝓤) (κ : Lft) (q : Share) 
       let F : List ℕ → List ℕ → List ℕ = λ _ _. [] in
       let code = (Front n).coded.code [] in
       let back = λ (xs ys : List ℕ). qed 𝓛 (‵ (front m xs b o) ∷ ‵ (front (n - m) ys b (o + m)) ∷ raw (emp 𝓤) ∷ []) {P = sem 𝓛 (front n [] b o)} (
-          use2 𝓛 (‵ (rm 𝓛 b n o)) (both_spent 𝓛 b m (n - m) n o xs ys (omega (arith, fit))) $ use1 𝓛 (‵ (front n [] b o)) (fresh 𝓛 b n o) $ keep ! (0 ∷ []) $ done !) in
+      use2 𝓛 (‵ (rm 𝓛 b n o)) (both_spent 𝓛 b m (n - m) n o xs ys (omega (arith, fit))) $ use1 𝓛 (‵ (front n [] b o)) (fresh 𝓛 b n o) $ keep ! (0 ∷ []) $ done !) in
       qed 𝓛 (‵ (Loan n o [] γ) ∷ ‵ (flft κ q) ∷ []) ∵ updating ! $ fsplit ! $ open_ref ! tt (Front n) {x = []} {b = b} {o = o} $
       use1 𝓛 (‵ (front m [] b o) ⊛ ‵ (front (n - m) [] b (o + m))) (cut_fresh 𝓛 b m n o fit) $ split ! $ nothing ! $ move ! (3 ∷ 4 ∷ 5 ∷ 1 ∷ 2 ∷ 0 ∷ []) $ group ! 6 $
       use1 𝓛 (later (some (λ (γs : GName × GName). (‵ (fobs γs.0 ((Front m).coded.code [])) ⊛ ‵ (fbor κ (Body (Front m) b o γs.0))) ⊛ (‵ (fobs γs.1 ((Front (n - m)).coded.code [])) ⊛ ‵ (fbor κ (Body (Front (n - m)) b (o + m) γs.1)))

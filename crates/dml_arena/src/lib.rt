@@ -11,6 +11,8 @@ mod region;
 mod span;
 #[cfg(test)]
 mod tests;
+#[cfg(test)]
+mod uses;
 
 pub use arena::{Arena, ArenaError};
 pub use region::Region;

@@ -50,7 +50,13 @@ impl<'a> Span<'a> {
     {
         let Span { ptr, mark } = self;
         let back = unsafe { ptr.add(n) };
-        (Span { ptr, mark }, Span { ptr: back, mark: PhantomData })
+        (
+            Span { ptr, mark },
+            Span {
+                ptr: back,
+                mark: PhantomData,
+            },
+        )
     }
 
     // Puts `src` behind the bytes that it holds, `len` of them.
@@ -67,8 +73,7 @@ impl<'a> Span<'a> {
         requires { _len ≤ length self.old.bytes }
         ensures place { (self.new.ptr ≡ self.old.ptr) × (self.new.room ≡ self.old.room) × (self.new.tie ≡ self.old.tie) }
         ensures bytes { self.new.bytes ≡ take _len self.old.bytes }
-    {
-    }
+    {}
 
     // Two neighbours as one, where the second's bytes already stand right behind the first's.
     pub(crate) fn meet(self, next: Span<'a>) -> Span<'a>

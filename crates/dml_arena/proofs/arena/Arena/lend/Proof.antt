@@ -60,9 +60,9 @@ lend_spec 𝓤 𝓛 𝓜 𝓡 wired =
     -- [the open loan; the bytes to be lent; all that stays behind; what follows; no other token]
     let Kept : SProp 𝓤 = sep 𝓤 (sem 𝓛 (Around b₀ o₀ x.0 vss)) (sep 𝓤 (sem 𝓛 (Cell b₀ o₀ vss)) (A.auth γ (Ar.coded.code d))) in
     let back : ent 𝓤 (sep 𝓤 (sem 𝓛 (rm 𝓛 b n o)) Kept) (sem 𝓛 (Body (mem Ar) b₀ o₀ γ)) =
-        qed 𝓛 (‵ (rm 𝓛 b n o) ∷ (‵ (Around b₀ o₀ x.0 vss) ⊛ ‵ (Cell b₀ o₀ vss) ⊛ ‵ (fauth γ (Ar.coded.code d))) ∷ []) {P = sem 𝓛 (Body (mem Ar) b₀ o₀ γ)} (
-        rewrite ! 0 (λ (p : Ptr). ‵ (room_of p n)) (sym e) refl $ move ! (1 ∷ []) $ split3 ! $ move ! (3 ∷ 0 ∷ 1 ∷ []) $
-        use3 𝓛 (‵ ((mem Ar).own_at d b₀ o₀)) (room_in b₀ o₀ 𝓛 d x vss) $ fjoin ! $ fpack ! Block (λ z. fsep ((mem Ar).own_at z b₀ o₀) (fauth γ (Ar.coded.code z))) d $ done !) in
+    qed 𝓛 (‵ (rm 𝓛 b n o) ∷ (‵ (Around b₀ o₀ x.0 vss) ⊛ ‵ (Cell b₀ o₀ vss) ⊛ ‵ (fauth γ (Ar.coded.code d))) ∷ []) {P = sem 𝓛 (Body (mem Ar) b₀ o₀ γ)} (
+    rewrite ! 0 (λ (p : Ptr). ‵ (room_of p n)) (sym e) refl $ move ! (1 ∷ []) $ split3 ! $ move ! (3 ∷ 0 ∷ 1 ∷ []) $
+    use3 𝓛 (‵ ((mem Ar).own_at d b₀ o₀)) (room_in b₀ o₀ 𝓛 d x vss) $ fjoin ! $ fpack ! Block (λ z. fsep ((mem Ar).own_at z b₀ o₀) (fauth γ (Ar.coded.code z))) d $ done !) in
     use3 𝓛 (later (some (λ (ν : GName). ‵ (Loan 𝓛 κ q b n o [] ν) ⊛ ‵ (flft κ q)))) (span_made 𝓛 κ q b n o (Body (mem Ar) b₀ o₀ γ) Kept back []) $ await ! tt $ pick ! (λ ν. split ! $
     sets ! (agg ! (no_more !)) refl (tt, tt) $ sets ! (agg ! (and_then ! (get ! refl) (and_then ! (get ! refl) (no_more !)))) refl (tt, (tt, (tt, tt))) $
     returns ! (look_at ! 0 refl) $ free_all ! refl $

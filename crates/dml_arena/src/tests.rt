@@ -1,6 +1,4 @@
 //! Worked cases, each with the values that a caller sees.
-ghost use Rattle.std.specs.Prelude.{◌≡◌, ◌≤◌};
-
 use super::uses::Engine;
 use super::{Arena, ArenaError};
 use std::thread;
@@ -61,21 +59,15 @@ fn two_threads_two_regions(rt: HostRuntime) -> Result<(), ArenaError> {
 #[test]
 fn reopened_arena(rt: HostRuntime) -> Result<(), ArenaError> {
     let mut arena = Arena::new(rt.alloc(), 8)?;
-    assert_eq!(rt; filled(&mut arena), 8);
+    {
+        let mut region = arena.open();
+        region.push(&[1, 2, 3, 4, 5, 6, 7, 8]);
+        assert_eq!(rt; region.bytes().len(), 8);
+    }
     let region = arena.open();
     assert_eq!(rt; (region.start(), region.room()), (0, 8));
     assert!(rt; region.bytes().is_empty());
     Ok(())
-}
-
-// Fills the arena, and lets the region go.
-fn filled(arena: &mut Arena) -> usize
-    requires { 8 ≤ arena.old.size }
-    ensures { arena.new ≡ arena.old }
-{
-    let mut region = arena.open();
-    region.push(&[1, 2, 3, 4, 5, 6, 7, 8]);
-    region.bytes().len()
 }
 
 // The first of two full neighbours is joined as it stands, and so is one beside an empty neighbour.

@@ -1,5 +1,5 @@
 -- The calls by which `fill` copies: room becomes a row of empty places, the row is filled, and is bytes again. Assumes `Logic`.
-use Rattle.dml_arena.proofs.Steps.{◌≡◌, ℕ, ◌*◌, ◌^◌, ◌<◌, ◌≤◌, List, [], ◌∷◌, ◌++◌, refl, sym, ap, subst, ◌∙◌, arith, w64, length, Ura, full_share, SProp, ent, sep, emp, id⊢, Lft, Share, Fml, ftrue, fsep, flft, ◌⊑◌, fact, fact_i, Logic, sem, Goal, Seq, Item, ‵, raw, ◌⊛◌, some, later, ◌$◌, ◌∵◌, !, qed, by, move, keep, drop, use0, use1, split, split3, join, pick, rewrite, fsplit, fsplit3, fjoin, fjoin3, fpick, feq_l, feq_i, await, updating, now, done, RattleType, RawPtr, block_ptr, Val, vint, vptr, vstruct, has_ty, WT, Holds, type_at, nothing, heard, Tuple, u8, usize}
+use Rattle.dml_arena.proofs.Steps.{◌≡◌, ℕ, ◌*◌, ◌^◌, ◌<◌, List, [], ◌∷◌, ◌++◌, refl, sym, ap, subst, ◌∙◌, arith, w64, length, Ura, SProp, ent, sep, emp, id⊢, Lft, Share, ftrue, fsep, flft, ◌⊑◌, fact, fact_i, Logic, sem, Goal, Seq, Item, ‵, raw, ◌⊛◌, some, later, ◌$◌, ◌∵◌, !, qed, by, move, keep, drop, use0, use1, split, split3, join, pick, rewrite, fsplit, fsplit3, fjoin, fjoin3, fpick, feq_l, feq_i, await, updating, now, done, RattleType, RawPtr, Ptr, block_ptr, Val, vint, vptr, vstruct, has_ty, WT, Holds, type_at, nothing, heard, Tuple, u8, usize}
 use Rattle.dml_arena.proofs.Walks.{slot_at}
 use base.Logic.{ex, guard}
 use contract.BorrowLft.{⊑_static}
@@ -10,7 +10,6 @@ use mir.Val.{of_list}
 use prog.Memory.{Memory}
 use prog.Routine.{Routine}
 use types.Kit.{flt_i, check, show}
-use denote.Index.{row}
 use denote.Param.{layout}
 use denote.RawPtr.{in_block}
 use denote.Ref.{Bor}
@@ -155,6 +154,6 @@ module _ {M : Type 1} {𝓤 : Ura M} (𝓛 : Logic 𝓤) (at_mem : Memory → SP
           ⊛ raw (fact 𝓤 (Told p)) ⊛ ‵ (owned Byte (slots_ptr r) (slots_len r) (slots_items r) fs))))) (id⊢ 𝓤 _) $ await ! tt $ pick ! (λ p.
           split ! $ move ! (1 ∷ []) $ pick ! (λ ws. split ! $ drop ! $ split ! $ heard ! (Told p) (λ told. fsplit ! $ drop ! $
           rewrite ! 0 (λ (u : List ℕ). ‵ (in_block (slots_ptr r) (slots Byte (slots_ptr r) u fs))) is.0 refl $
-          rewrite ! 0 (λ (u : denote.RawPtr.Ptr). ‵ (in_block u (slots Byte u xs fs))) lies.0 refl $ use1 𝓛 (‵ (held 𝓛 b xs o)) (full fs long is.1) $ move ! (1 ∷ []) $ split ! $ split ! $ move ! (2 ∷ []) $
+          rewrite ! 0 (λ (u : Ptr). ‵ (in_block u (slots Byte u xs fs))) lies.0 refl $ use1 𝓛 (‵ (held 𝓛 b xs o)) (full fs long is.1) $ move ! (1 ∷ []) $ split ! $ split ! $ move ! (2 ∷ []) $
           fpick ! (λ vss. fsplit ! $ feq_l ! (λ value. fsplit3 ! $ feq_l ! (λ e₀. fsplit ! $ feq_l ! (λ e₁. now ! $
           check ! (ap only value ∙ (λ i. vstruct (of_list (e₀ i ++ (e₁ i ++ [])))) ∙ (λ i. words_val ((told.0 ∙ lies.0) i) ((told.1 ∙ lies.1) i))) $ keep ! (4 ∷ 2 ∷ []) $ done !)))))))

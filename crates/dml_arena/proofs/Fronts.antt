@@ -7,7 +7,7 @@
 --     opened_behind, two_held     room behind the bytes is taken out;  bytes behind bytes, and room behind them
 --     met, gap_closed     two side by side as one: where the bytes touch;  and once they were moved over the gap between them
 -- Assumes `Logic`.
-use Rattle.dml_arena.proofs.Steps.{◌≡◌, ℕ, ◌+◌, ◌-◌, ◌≤◌, List, [], ◌∷◌, ◌++◌, refl, sym, ap, subst, ◌∙◌, arith, length, take, Ura, full_share, SProp, ent, sep, id⊢, Fml, ftrue, fsep, froom, Logic, sem, ‵, ◌⊛◌, ◌$◌, ◌∵◌, !, qed, by, move, drop, use0, use1, use2, split, split3, fsplit, fjoin, fpick, fpack, rewrite, done, w8, ty_int, bytes}
+use Rattle.dml_arena.proofs.Steps.{◌≡◌, ℕ, ◌+◌, ◌-◌, ◌≤◌, List, [], ◌∷◌, ◌++◌, refl, sym, ap, subst, ◌∙◌, arith, length, take, Ura, full_share, SProp, ent, sep, id⊢, Fml, ftrue, fsep, froom, Logic, sem, ‵, ◌⊛◌, ◌$◌, ◌∵◌, !, qed, by, move, drop, use0, use1, use2, split, fsplit, fjoin, fpick, fpack, rewrite, done, w8, ty_int, bytes}
 use Rattle.std.proofs.Common.{◌⊎◌, inl, inr}
 use mathlib.Core.List.{append-nil}
 use lib.ListN.{drop as past_first, length-append, length-take, length-drop, take-append-drop}

@@ -1,28 +1,22 @@
 -- The arena's room is taken out of it, and put back. Assumes `Logic`.
 --     Around       the arena, but for its room
 --     room_out, room_in       the room comes out of the arena;  and goes back, whatever lies there by then
-use Rattle.dml_arena.proofs.Steps.{◌≡◌, ℕ, ◌+◌, List, [], ◌∷◌, ◌++◌, refl, sym, Ura, full_share, SProp, ent, sep, emp, id⊢, Lft, GName, Share, Fml, ftrue, fsep, fex, fobs, fbor, fobor, flft, Logic, sem, Body, Item, ‵, raw, ◌⊛◌, some, given, later, ◌$◌, ◌∵◌, !, qed, by, move, keep, drop, use1, use2, use3, split, join, pick, fsplit, fsplit3, fjoin, fjoin3, fpick, fpack, feq_i, feq_l, await, updating, now, done, rewrite, RattleType, Ptr, block_ptr, Val, vstruct, open_ref, nothing}
-use base.Fml.{fauth, fres}
-use denote.Follow.{follows, follows_said}
+use Rattle.dml_arena.proofs.Steps.{◌≡◌, ℕ, List, [], ◌∷◌, refl, Ura, full_share, ent, sep, Fml, ftrue, fsep, Logic, sem, Item, ‵, ◌⊛◌, some, given, ◌$◌, ◌∵◌, !, qed, by, move, use1, pick, fsplit, fjoin, fpick, fpack, feq_i, feq_l, done, rewrite, RattleType, Val, vstruct}
 use denote.Laws.{shows}
 use denote.Memory.{part_at, part_of, cell_at, mem}
 use denote.Model.Fields.{view_owns, view_made, plain_out, Plain-in}
 use denote.RattleType.{Denots, Valss, flat, owns}
 use denote.Steps.{peeks}
 use denote.Struct.Declared as declared
-use denote.Struct.Struct.{Shape, Struct, within}
-use denote.Struct.Owning.{shape}
+use denote.Struct.Struct.{Shape, within}
 use mir.Val.{of_list}
 use types.Kit.{check, show, mean}
-use types.Tokens.{name_new, name_done}
 use Rattle.dml_arena.specs.Block.{Block}
-use Rattle.dml_arena.specs.Ownership.{front, room_of}
+use Rattle.dml_arena.specs.Ownership.{room_of}
 use Rattle.dml_arena.specs.declared.arena.Arena.TheInside.{Inside}
 use Rattle.dml_arena.specs.contracts.arena.Arena as arena
 use Rattle.dml_arena.specs.contracts.arena.Arena.TheInside as inside
 use Rattle.dml_arena.specs.contracts.memory.Memory as memory
-use Rattle.dml_arena.proofs.Fronts.{rm, fresh}
-use Rattle.dml_arena.proofs.Spans.{Loan, span_made}
 use Rattle.dml_arena.proofs.Values.{memory_val, memory_own, memory_told}
 
 abbrev pub Ar : RattleType

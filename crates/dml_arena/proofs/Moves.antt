@@ -1,5 +1,5 @@
 -- `ptr::copy` of bytes to a lower place, at a call. Assumes `Logic`.
-use Rattle.dml_arena.proofs.Steps.{◌≡◌, ℕ, ◌+◌, ◌*◌, ◌^◌, ◌<◌, List, [], ◌∷◌, refl, sym, ap, subst, arith, w64, length, Ura, full_share, SProp, ent, sep, emp, id⊢, Lft, Share, Fml, ftrue, fsep, feq, froom, flft, ◌⊑◌, fact, fact_i, Logic, sem, ‵, raw, ◌⊛◌, some, later, ◌$◌, ◌∵◌, !, qed, by, move, keep, drop, use0, use1, split, join, pick, fsplit, fjoin, feq_l, feq_i, rewrite, await, updating, now, done, RattleType, block_ptr, Val, vint, vptr, vunit, nothing, param, bytes}
+use Rattle.dml_arena.proofs.Steps.{◌≡◌, ℕ, ◌+◌, ◌*◌, ◌^◌, ◌<◌, List, [], ◌∷◌, refl, sym, ap, arith, w64, length, Ura, full_share, SProp, ent, sep, emp, id⊢, Lft, Share, ftrue, fsep, feq, flft, ◌⊑◌, fact, fact_i, Logic, sem, ‵, raw, ◌⊛◌, some, later, ◌$◌, ◌∵◌, !, qed, by, move, keep, drop, use0, use1, split, join, pick, fsplit, fjoin, feq_l, feq_i, rewrite, await, updating, now, done, RattleType, block_ptr, Val, vint, vptr, vunit, nothing, param, bytes}
 use base.Logic.{guard}
 use contract.BorrowLft.{⊑_static}
 use contract.Monad.{Fun}
@@ -18,9 +18,8 @@ use denote.Struct.Field.{u8-field}
 use denote.Struct.Laws.{u8-laws, u8-copy}
 use denote.Triple.Spec.{triple_of}
 use denote.Triple.Statement.{Contract}
-use Rattle.core.specs.Ptr.{Shift, IsShiftWithinBlock, memory_before_copy, memory_after_copy}
+use Rattle.core.specs.Ptr.{Shift, IsShiftWithinBlock}
 use Rattle.core.specs.contracts.ptr.copy as CP
-use Rattle.dml_arena.specs.Ownership.{bytes_type}
 use Rattle.dml_arena.proofs.Fronts.{rm, held}
 
 -- a byte, as a type argument

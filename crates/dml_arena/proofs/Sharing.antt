@@ -1,5 +1,5 @@
 -- A `&` to a span holds its bytes, and a span may cross threads. Assumes `Logic`.
-use Rattle.dml_arena.proofs.Steps.{◌≡◌, ℕ, ◌+◌, ◌-◌, ◌≤◌, List, [], ◌∷◌, refl, length, Ura, full_share, SProp, ent, sep, emp, Lft, GName, Fml, Incl, Incl-refl, Incl-trans, ftrue, ffalse, fsep, fex, feq, froom, fbor, meet_⊑_left, meet_⊑_right, ⊑_meet, fact, fact_i, Logic, sem, lfts, ‵, raw, ◌⊛◌, later, ◌$◌, ◌∵◌, !, qed, by, move, keep, drop, use0, use1, use2, split, fsplit, fjoin, fpick, fpack, feq_i, feq_l, await, w8, updating, now, done, Toks, span, RattleType, Ptr, block_ptr, null_ptr, block_of, count_of, bytes}
+use Rattle.dml_arena.proofs.Steps.{ℕ, ◌+◌, ◌-◌, ◌≤◌, List, [], ◌∷◌, refl, length, Ura, full_share, ent, sep, emp, Lft, GName, Fml, Incl, Incl-refl, Incl-trans, fsep, feq, froom, fbor, meet_⊑_left, meet_⊑_right, ⊑_meet, fact, fact_i, Logic, sem, lfts, ‵, raw, ◌⊛◌, later, ◌$◌, ◌∵◌, !, qed, move, keep, drop, use0, use1, use2, split, fsplit, fjoin, fpick, fpack, feq_i, await, w8, updating, now, done, span, RattleType, Ptr, block_ptr, null_ptr, block_of, count_of, bytes}
 use base.Fml.{fhide}
 use mathlib.Core.List.{◌++◌}
 use base.Shift.{Keyless}
@@ -24,7 +24,7 @@ use denote.RawPtr.Bytes.{bytes_whole, bytes_apart}
 use denote.Copied.{uint_Copied}
 use denote.Shares.{Shares, Shares-Array, bor-Cut, peels}
 use denote.Struct.Lending.{lent_at, lent_at_shr_laws, lent_out, Lends, Lends-lies, Lends-false}
-use denote.Steps.{nothing, heard}
+use denote.Steps.{heard}
 use Rattle.dml_arena.specs.Ownership.{bytes_type, front, Front, span_owns, span_lent}
 
 module _ {M : Type 1} {𝓤 : Ura M} (𝓛 : Logic 𝓤) where

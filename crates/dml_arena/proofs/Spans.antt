@@ -2,7 +2,7 @@
 --     span_made       an open borrow closes as a loan of n bytes, where room for n bytes makes what was borrowed
 --     span_cut        an empty loan is cut in two
 --     both_opened, both_closed       two neighbours are opened at once, and closed as one, whatever the bytes are by then
-use Rattle.dml_arena.proofs.Steps.{◌≡◌, ℕ, ◌+◌, ◌-◌, ◌≤◌, List, [], ◌∷◌, refl, sym, ap, ◌∙◌, arith, length, Ura, SProp, ent, sep, emp, id⊢, Item, Lft, GName, Share, Fml, ftrue, fsep, froom, fobs, fbor, fobor, flft, Logic, sem, Body, ‵, raw, ◌⊛◌, some, later, ◌$◌, ◌∵◌, !, qed, by, move, keep, drop, use0, use1, use2, use3, split, split3, join, pick, fsplit, fjoin, fpick, fpack, rewrite, suffices, group, await, updating, now, done, Ptr, block_ptr, block_of, count_of}
+use Rattle.dml_arena.proofs.Steps.{◌≡◌, ℕ, ◌+◌, ◌-◌, ◌≤◌, List, [], ◌∷◌, refl, sym, ap, ◌∙◌, arith, Ura, SProp, ent, sep, emp, id⊢, Item, Lft, GName, Share, Fml, ftrue, fsep, fobs, fbor, fobor, flft, Logic, sem, Body, ‵, raw, ◌⊛◌, some, later, ◌$◌, ◌∵◌, !, qed, by, move, keep, drop, use1, use2, use3, split, split3, join, pick, fsplit, fjoin, fpick, fpack, rewrite, suffices, group, await, updating, now, done, Ptr, block_ptr, block_of, count_of}
 use base.Logic.{ex, upd_i}
 use base.Fml.{fseps, fwand, fupd, fdead, fauth}
 use types.Kit.{assume, show, mean}
@@ -11,7 +11,7 @@ use types.Tokens.{bor_open, obor_alter, name_agree, name_new, name_set}
 use types.Merge.{bor_combine}
 use types.Follow.{after₂, takes_two}
 use denote.Steps.{nothing}
-use Rattle.dml_arena.specs.Ownership.{bytes_type, front, Front}
+use Rattle.dml_arena.specs.Ownership.{front, Front}
 use Rattle.dml_arena.proofs.Fronts.{rm, rooms_cut, fresh, spent, cut_fresh, both_spent}
 
 -- where the second of two neighbours lies

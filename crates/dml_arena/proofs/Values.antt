@@ -1,5 +1,5 @@
 -- The machine values of the crate's structs: what such a struct's fields own tells them, and is made of nothing.
-use Rattle.dml_arena.proofs.Steps.{◌≡◌, ℕ, ◌^◌, ◌<◌, List, [], ◌∷◌, ◌++◌, refl, ◌∙◌, lit<, w64, Ura, ent, emp, Fml, Logic, sem, RattleType, Ptr, block_ptr, null_ptr}
+use Rattle.dml_arena.proofs.Steps.{◌≡◌, ℕ, ◌^◌, ◌<◌, List, [], ◌∷◌, ◌++◌, refl, ◌∙◌, w64, Ura, ent, emp, Fml, Logic, sem, RattleType, Ptr}
 use mir.Val.{Val, vint, vstruct, vcons, vnil, of_list}
 use denote.Builtin.{usize}
 use denote.RawPtr.{RawPtr, ptr_val}

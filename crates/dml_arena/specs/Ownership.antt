@@ -1,5 +1,5 @@
 -- What the block and a loan of a part of it own. Places are counts of bytes in the block's own memory.
---     room_of p n          room for n bytes at p
+--     room_of p n, holds_at p xs       room for n bytes at p;  and the bytes xs there
 --     front n xs b o       n bytes from place o of block b on, of which the first hold xs
 --     span_owns κ γ p n xs       a `&mut` to them for κ, with the ghost name γ.       span_lent p xs       what a `&` to it holds
 use Rattle.std.specs.Prelude.{ℕ, ◌+◌, ◌-◌, ◌≤◌, List, length}
@@ -21,6 +21,11 @@ bytes_type n = ty_array (ty_int w8) n
 
 abbrev pub room_of : Ptr → ℕ → Fml
 room_of p n = room_for (bytes_type n) p
+
+-- the bytes xs at p
+abbrev pub holds_at : Ptr → List ℕ → Fml
+holds_at (block_ptr b o) xs = bytes full_share xs b o
+holds_at null_ptr xs = ffalse
 
 abbrev pub front : ℕ → List ℕ → ℕ → ℕ → Fml
 front n xs b o = fex (length xs ≤ n) (λ _. fsep (bytes full_share xs b o) (froom (bytes_type (n - length xs)) b (o + length xs)))

@@ -1,5 +1,5 @@
 -- What a contract sees of a region.
-use Rattle.std.specs.Prelude.{◌≡◌, ℕ, ◌+◌, ◌^◌, ◌<◌, ◌≤◌, List, length}
+use Rattle.std.specs.Prelude.{◌≡◌, ℕ, ◌+◌, ◌^◌, ◌<◌, List, length}
 use base.Fml.{GName}
 use denote.RawPtr.{block_of, count_of}
 use Rattle.dml_arena.specs.declared.region.Region.TheInside.{Inside}

@@ -3,8 +3,7 @@ ghost use Rattle.std.specs.Prelude.{◌≡◌, ℕ, ◌+◌, ◌-◌, ◌^◌, �
 ghost use base.Fml.{GName};
 ghost use denote.RawPtr.{Ptr, block_ptr, block_of, count_of};
 ghost use types.Logic.{sem};
-ghost use Rattle.dml_arena.specs.Ownership.{span_owns, span_lent, room_of};
-ghost use Rattle.dml_arena.specs.Filling.{holds_at};
+ghost use Rattle.dml_arena.specs.Ownership.{span_owns, span_lent, room_of, holds_at};
 ghost use Rattle.core.specs.Mem.Slots.{slots_len, slots_ptr, slots_items, slots_filled};
 ghost use Rattle.core.specs.Mem.Slots.Ownership.{Filled};
 
@@ -12,7 +11,7 @@ use core::slots::Slots;
 use std::marker::{Model, PhantomData, Send};
 use std::ptr::copy;
 
-// `name` is the loan of its bytes, and `tie` the arena's own loan.
+// `name` is the name of that loan. What the arena is after all its loans is told by the name `tie`.
 #[derive(Drop)]
 pub(crate) struct Span<'a> {
     pub(crate) ptr: *mut u8,

@@ -1,5 +1,5 @@
 -- `fill` copies all of a slice into room, by one call. Assumes `Logic`.
-use Rattle.dml_arena.proofs.Steps.{◌≡◌, ℕ, ◌*◌, ◌^◌, ◌<◌, List, [], ◌∷◌, refl, sym, arith, w64, length, SProp, never, id⊢, Lft, Share, ftrue, flft, ‵, raw, ◌⊛◌, some, given, later, ◌$◌, ◌∵◌, !, qed, by, move, keep, drop, use1, use2, use3, split, join, pick, learn, regoal, rewrite, fsplit, fsplit3, fjoin, feq_i, await, prop, at_ret, RattleType, RawPtr, Ptr, block_ptr, ptr_val, named, Fn, Val, vunit, Env, WpFn, tables, whole, sub, stop, fld, unit_lit, of_opd, no_more, and_then, first, blocks, exec, returns, enter, alloc_all, pass_all, free_all, look_at, get, get_in, is, sets, lands_as, lands_last, env, owns, in_a_block, types_at, type_at, plain, nothing, u8, alive, calls_at, calls_at_last, Stays, stay_dropped, walk_of, Goes-dropped, proved, leaves, after, fm}
+use Rattle.dml_arena.proofs.Steps.{◌≡◌, ℕ, ◌*◌, ◌^◌, ◌<◌, List, [], ◌∷◌, refl, sym, arith, length, SProp, never, id⊢, Lft, Share, ftrue, flft, ‵, raw, ◌⊛◌, some, given, later, ◌$◌, ◌∵◌, !, qed, by, move, keep, use1, use2, use3, split, join, pick, learn, regoal, rewrite, fsplit3, fjoin, feq_i, await, prop, at_ret, RattleType, Ptr, ptr_val, named, Fn, Val, vunit, Env, WpFn, tables, whole, sub, stop, fld, unit_lit, of_opd, no_more, and_then, first, blocks, exec, returns, enter, alloc_all, pass_all, free_all, look_at, get, get_in, sets, lands_as, lands_last, env, owns, in_a_block, types_at, type_at, nothing, u8, alive, calls_at, calls_at_last, Stays, stay_dropped, walk_of, Goes-dropped, proved, leaves, after, fm}
 use denote.RawPtr.{rawptr_vals, rawptr_Tells}
 use denote.Slice.{shr_slice_vals, shr_slice_Tells}
 use Rattle.core.proofs.slots.Opens.{row_val}
@@ -7,11 +7,10 @@ use Rattle.core.proofs.slots.Slots.from_raw_parts.Met as from
 use Rattle.core.proofs.slots.Slots.into_raw_parts.Met as into
 use Rattle.dml_arena.proofs.span.filled_with.Met as fills
 use Rattle.dml_arena.proofs.Walks.{slot_at}
-use Rattle.dml_arena.proofs.Fronts.{rm, held}
+use Rattle.dml_arena.proofs.Fronts.{held}
 use Rattle.dml_arena.proofs.Moves.{byte_laws}
-use Rattle.dml_arena.proofs.Filling.{Row, words_typed, parts_typed, From, at_from, from_goes, from_gives, Lies, Fills, at_fills, Full, fills_goes, fills_gives, Into, at_into, into_goes, into_gives}
-use Rattle.dml_arena.specs.Filling.{holds_at}
-use Rattle.dml_arena.specs.Ownership.{room_of}
+use Rattle.dml_arena.proofs.Filling.{Row, parts_typed, From, at_from, from_goes, from_gives, Lies, Fills, at_fills, Full, fills_goes, fills_gives, Into, at_into, into_goes, into_gives}
+use Rattle.dml_arena.specs.Ownership.{room_of, holds_at}
 use Rattle.dml_arena.specs.contracts.span.fill as f
 use Rattle.dml_arena.proofs.span.fill.Statement.{statement}
 use Rattle.dml_arena.proofs.span.fill.Code as code

@@ -1,19 +1,19 @@
 -- `lend` opens the arena's own loan for good, and lends its room out of that. Assumes `Logic`.
-use Rattle.dml_arena.proofs.Steps.{◌≡◌, ℕ, ◌+◌, ◌^◌, ◌<◌, List, [], ◌∷◌, ◌++◌, refl, ap, sym, ◌∙◌, lit<, arith, full_share, SProp, ent, sep, emp, never, id⊢, via, Lft, GName, Share, Fml, ftrue, fsep, fex, fobor, flft, fact, fact_i, sem, Body, ‵, raw, ◌⊛◌, some, given, later, ◌$◌, ◌∵◌, !, qed, done, by, move, keep, drop, use0, use1, use2, use3, split, split3, join, pick, learn, fsplit, fsplit3, fjoin, feq_i, fpack, rewrite, await, RattleType, Ptr, block_ptr, block_of, count_of, named, Fn, Val, vptr, Env, WpFn, tables, whole, sub, agg, look_in, stop, fld, load, of_opd, no_more, and_then, returns, enter, alloc_all, pass_all, free_all, look_at, get, through, sets, env, owns, in_a_block, types_at, plain, named_lft, nothing, mut_vals, mut_Tells, open_ref, alive, Stays, stay_dropped, walk_of, Goes-spent_ref, proved, leaves}
+use Rattle.dml_arena.proofs.Steps.{◌≡◌, List, [], ◌∷◌, refl, ap, sym, ◌∙◌, arith, full_share, SProp, ent, sep, emp, never, id⊢, Lft, GName, Share, ftrue, fsep, flft, fact, fact_i, sem, Body, ‵, raw, ◌⊛◌, some, later, ◌$◌, ◌∵◌, !, qed, done, by, move, keep, drop, use0, use1, use2, use3, split, split3, join, pick, learn, fsplit, fsplit3, fjoin, fpack, rewrite, await, RattleType, Ptr, block_ptr, block_of, count_of, named, Fn, Val, vptr, tables, whole, sub, agg, look_in, stop, fld, load, of_opd, no_more, and_then, returns, enter, alloc_all, pass_all, free_all, look_at, get, through, sets, owns, in_a_block, types_at, plain, named_lft, nothing, mut_vals, mut_Tells, open_ref, alive, Stays, stay_dropped, walk_of, Goes-spent_ref, proved, leaves}
 use base.Fml.{fauth}
 use denote.Exit.{no}
 use denote.Follow.{follows, follows_said}
 use denote.Memory.{cell_at, mem}
-use denote.RattleType.{Valss, flat}
-use mir.Val.{of_list, vstruct, vcons, vnil}
+use denote.RattleType.{flat}
+use mir.Val.{of_list, vstruct, vcons}
 use types.Tokens.{name_new, name_done}
 use Rattle.dml_arena.proofs.Fronts.{rm, fresh}
-use Rattle.dml_arena.proofs.Lending.{Ar, In, S, Seen, words, Around, Cell, Out, room_out, room_in}
+use Rattle.dml_arena.proofs.Lending.{Ar, In, S, words, Around, Cell, Out, room_out, room_in}
 use Rattle.dml_arena.proofs.Spans.{Loan, span_made}
 use Rattle.dml_arena.proofs.Values.{memory_val, span_val, span_own, span_own_made}
 use Rattle.dml_arena.proofs.Walks.{slot_at}
 use Rattle.dml_arena.specs.Block.{Block}
-use Rattle.dml_arena.specs.Ownership.{bytes_type, front, room_of}
+use Rattle.dml_arena.specs.Ownership.{front, room_of}
 use Rattle.dml_arena.specs.contracts.span.Span as span
 use Rattle.dml_arena.specs.contracts.arena.Arena.lend as f
 use Rattle.dml_arena.proofs.arena.Arena.lend.Statement.{statement}

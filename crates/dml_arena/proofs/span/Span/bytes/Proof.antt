@@ -1,5 +1,5 @@
 -- `bytes` hands on the `&` to the bytes that a `&` to the span holds. Assumes `Logic`.
-use Rattle.dml_arena.proofs.Steps.{◌≡◌, ℕ, ◌+◌, ◌*◌, ◌^◌, ◌<◌, List, [], ◌∷◌, refl, sym, ap, arith, w64, length, SProp, emp, id⊢, Lft, Share, ftrue, flft, fact, fact_i, ‵, raw, ◌⊛◌, ◌$◌, ◌∵◌, !, qed, by, move, keep, use0, use1, split, split3, join, fsplit, fsplit3, fjoin, feq_i, at_ret, RattleType, named, block_of, count_of, Fn, Val, vint, vptr, Env, WpFn, tables, agg, stop, fld, load, look, of_opd, no_more, and_then, first, blocks, exec, returns, enter, alloc_all, pass_all, free_all, look_at, get, through, sets, sets_last, env, owns, types_at, plain, named_lft, nothing, heard, u8, usize, uint_vals, uint_Tells, alive, Stays, stay_dropped, walk_of, Goes-dropped, proved, leaves, after}
+use Rattle.dml_arena.proofs.Steps.{◌≡◌, ℕ, ◌+◌, ◌*◌, ◌^◌, ◌<◌, List, [], ◌∷◌, refl, ap, arith, w64, length, SProp, emp, id⊢, Lft, ftrue, flft, fact, fact_i, ‵, raw, ◌⊛◌, ◌$◌, ◌∵◌, !, qed, by, move, keep, use0, use1, split, split3, join, fsplit, fsplit3, fjoin, feq_i, at_ret, RattleType, named, block_of, count_of, Fn, Val, vint, vptr, Env, tables, agg, stop, fld, load, look, of_opd, no_more, and_then, first, blocks, exec, returns, enter, alloc_all, pass_all, free_all, look_at, get, through, sets, sets_last, env, owns, types_at, named_lft, nothing, heard, u8, uint_vals, uint_Tells, alive, Stays, stay_dropped, walk_of, Goes-dropped, proved, leaves, after}
 use base.Fml.{fhide}
 use denote.Memory.{hidden_shr}
 use denote.RawPtr.{RawPtr}

@@ -1,5 +1,5 @@
 -- `cut` cuts the empty loan in two, and touches no byte. Assumes `Logic`.
-use Rattle.dml_arena.proofs.Steps.{◌≡◌, ℕ, ◌+◌, ◌-◌, ◌^◌, ◌<◌, ◌≤◌, List, [], ◌∷◌, ◌++◌, refl, ap, sym, ◌∙◌, arith, w64, SProp, emp, never, id⊢, Lft, Share, ftrue, flft, fact, fact_i, ‵, raw, ◌⊛◌, some, later, ◌$◌, ◌∵◌, !, qed, by, move, keep, drop, use0, use1, use2, split, split3, join, pick, rewrite, regoal, fsplit, fsplit3, fjoin, await, prop, at_ret, RattleType, Ptr, block_ptr, block_of, count_of, Fn, Val, vint, vptr, Env, WpFn, tables, whole, sub, agg, stop, fld, of_opd, bin, no_more, and_then, first, blocks, exec, returns, enter, alloc_all, pass_all, free_all, look_at, get, get_in, is, sets, sets_last, env, owns, in_a_block, types_at, named_lft, nothing, heard, Tuple, alive, Stays, stay_dropped, walk_of, Goes-dropped, proved_at, leaves, Goes-blank, after}
+use Rattle.dml_arena.proofs.Steps.{◌≡◌, ℕ, ◌+◌, ◌-◌, ◌≤◌, List, [], ◌∷◌, ◌++◌, refl, ap, sym, ◌∙◌, arith, w64, SProp, emp, never, id⊢, Lft, Share, ftrue, flft, fact, fact_i, ‵, raw, ◌⊛◌, some, later, ◌$◌, ◌∵◌, !, qed, by, move, keep, drop, use0, use1, use2, split, split3, join, pick, rewrite, regoal, fsplit, fsplit3, fjoin, await, prop, at_ret, RattleType, Ptr, block_ptr, block_of, count_of, Fn, Val, vint, vptr, Env, WpFn, tables, whole, sub, agg, stop, fld, of_opd, bin, no_more, and_then, first, blocks, exec, returns, enter, alloc_all, pass_all, free_all, look_at, get, get_in, is, sets, sets_last, env, owns, in_a_block, types_at, named_lft, nothing, heard, Tuple, alive, Stays, stay_dropped, walk_of, Goes-dropped, proved_at, leaves, Goes-blank, after}
 use Rattle.std_alloc.proofs.Pairs.{pair_of, pair_val}
 use Rattle.dml_arena.proofs.Walks.{slot_at}
 use Rattle.dml_arena.proofs.Values.{span_val, span_own, span_told, span_own_made}

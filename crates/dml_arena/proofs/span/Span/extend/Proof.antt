@@ -1,5 +1,5 @@
 -- `extend` opens the loan, has the slice copied behind the bytes, and closes it. Assumes `Logic`.
-use Rattle.dml_arena.proofs.Steps.{◌≡◌, ℕ, ◌+◌, ◌-◌, ◌^◌, ◌<◌, ◌≤◌, List, [], ◌∷◌, ◌++◌, refl, ap, sym, subst, ◌∙◌, arith, w64, Holds, length, length-append, full_share, SProp, emp, never, id⊢, Lft, Share, ftrue, fsep, flft, fact, fact_i, ‵, raw, ◌⊛◌, some, later, ◌$◌, ◌∵◌, !, qed, by, move, keep, drop, use0, use1, use3, split, split3, join, pick, fsplit, fsplit3, fjoin, fjoin3, fpick, feq_i, feq_l, rewrite, await, at_ret, RattleType, Ptr, block_ptr, ty_unit, has_ty, WT, named, Fn, Val, vint, vptr, vunit, Env, WpFn, tables, whole, sub, look_in, stop, fld, load, unit_lit, of_opd, bin, no_more, and_then, first, blocks, exec, returns, enter, alloc_all, pass_all, free_all, look_at, get, is, through, sets, lands_last, env, owns, in_a_block, types_at, type_at, plain, named_lft, nothing, heard, opens, closes, u8, usize, uint_vals, uint_Tells, mut_vals, mut_Tells, open_ref, close_ref, alive, calls_at_last, Stays, stay_dropped, stay_ref, walk_of, Goes-dropped, Goes-ref, proved, leaves, after, fm}
+use Rattle.dml_arena.proofs.Steps.{◌≡◌, ℕ, ◌+◌, ◌-◌, ◌≤◌, List, [], ◌∷◌, ◌++◌, refl, ap, sym, subst, ◌∙◌, arith, w64, Holds, length, length-append, full_share, SProp, emp, never, id⊢, Lft, Share, ftrue, fsep, flft, fact, fact_i, ‵, raw, ◌⊛◌, some, later, ◌$◌, ◌∵◌, !, qed, by, move, keep, drop, use0, use1, use3, split, split3, join, pick, fsplit, fsplit3, fjoin, fjoin3, fpick, feq_i, feq_l, rewrite, await, at_ret, RattleType, Ptr, block_ptr, ty_unit, has_ty, WT, named, Fn, Val, vint, vptr, vunit, Env, tables, whole, sub, look_in, stop, fld, load, unit_lit, of_opd, bin, no_more, and_then, first, blocks, exec, returns, enter, alloc_all, pass_all, free_all, look_at, get, is, through, sets, lands_last, env, owns, in_a_block, types_at, plain, named_lft, nothing, heard, opens, closes, u8, usize, uint_vals, uint_Tells, mut_vals, mut_Tells, open_ref, close_ref, alive, calls_at_last, Stays, stay_dropped, stay_ref, walk_of, Goes-dropped, Goes-ref, proved, leaves, after, fm}
 use denote.Builtin.{unit}
 use denote.Laws.{shows}
 use denote.Memory.{cell_at}
@@ -7,10 +7,9 @@ use denote.Slice.{shr_slice_vals, shr_slice_Tells}
 use denote.Steps.{only, peeks}
 use denote.Triple.Spec.{triple_of}
 use Rattle.dml_arena.proofs.Walks.{slot_at}
-use Rattle.dml_arena.proofs.Fronts.{rm, held, opened_behind, two_held}
+use Rattle.dml_arena.proofs.Fronts.{rm, opened_behind, two_held}
 use Rattle.dml_arena.proofs.Values.{span_val, span_told}
-use Rattle.dml_arena.specs.Filling.{holds_at}
-use Rattle.dml_arena.specs.Ownership.{front, Front, span_owns}
+use Rattle.dml_arena.specs.Ownership.{front, Front, holds_at, span_owns}
 use Rattle.dml_arena.specs.contracts.span.fill as g
 use Rattle.dml_arena.proofs.span.fill.Met.{met}
 use Rattle.dml_arena.specs.contracts.span.Span as span

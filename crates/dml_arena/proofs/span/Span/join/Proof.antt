@@ -1,5 +1,5 @@
 -- `join` moves the second's bytes over the gap, while both loans are open. Assumes `Logic`.
-use Rattle.dml_arena.proofs.Steps.{◌≡◌, ℕ, ◌+◌, ◌-◌, ◌≤◌, ◌^◌, ◌<◌, List, [], ◌∷◌, ◌++◌, refl, ap, sym, subst, ◌∙◌, arith, length, w64, SProp, emp, never, id⊢, Lft, GName, Share, ftrue, fobor, flft, fact, fact_i, ‵, raw, ◌⊛◌, some, given, later, ◌$◌, ◌∵◌, !, qed, by, move, keep, drop, use0, use1, use2, use3, split, split3, group, join, pick, learn, rewrite, regoal, fsplit, fsplit3, fjoin, fpick, await, prop, at_ret, ty_unit, has_ty, WT, vint, vptr, vunit, Env, bin, first, blocks, exec, is, lands_last, env, calls_at_last, Goes-dropped, after, fm, RattleType, Ptr, block_ptr, block_of, count_of, Fn, Val, WpFn, tables, whole, sub, agg, stop, fld, of_opd, no_more, and_then, returns, enter, alloc_all, pass_all, free_all, look_at, get, get_in, sets, owns, in_a_block, types_at, named_lft, nothing, heard, alive, Stays, stay_dropped, walk_of, proved_at, leaves, Goes-blank}
+use Rattle.dml_arena.proofs.Steps.{◌≡◌, ℕ, ◌+◌, ◌-◌, ◌^◌, ◌<◌, List, [], ◌∷◌, ◌++◌, refl, ap, sym, subst, ◌∙◌, arith, length, w64, SProp, emp, never, id⊢, Lft, GName, Share, ftrue, fobor, flft, fact, fact_i, ‵, raw, ◌⊛◌, some, given, later, ◌$◌, ◌∵◌, !, qed, by, move, keep, drop, use0, use1, use2, use3, split, split3, group, join, pick, learn, rewrite, regoal, fsplit, fsplit3, fjoin, fpick, await, prop, at_ret, ty_unit, has_ty, WT, vint, vptr, vunit, Env, bin, first, blocks, exec, is, lands_last, env, calls_at_last, Goes-dropped, after, fm, RattleType, Ptr, block_ptr, block_of, count_of, Fn, Val, WpFn, tables, whole, sub, agg, stop, fld, of_opd, no_more, and_then, returns, enter, alloc_all, pass_all, free_all, look_at, get, get_in, sets, owns, in_a_block, types_at, named_lft, nothing, heard, alive, Stays, stay_dropped, walk_of, proved_at, leaves, Goes-blank}
 use base.Share
 use lib.Dec.{T as Holds}
 use lib.ListN.{length-append}

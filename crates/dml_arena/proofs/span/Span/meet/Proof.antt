@@ -1,5 +1,5 @@
 -- `meet` closes two neighbours as one loan, and moves no byte. Assumes `Logic`.
-use Rattle.dml_arena.proofs.Steps.{◌≡◌, ℕ, ◌+◌, ◌^◌, ◌<◌, List, [], ◌∷◌, ◌++◌, refl, ap, sym, ◌∙◌, arith, length, SProp, emp, never, id⊢, Lft, GName, Share, ftrue, fobor, flft, fact, fact_i, ‵, raw, ◌⊛◌, some, later, ◌$◌, ◌∵◌, !, qed, by, move, keep, drop, use0, use1, use2, use3, split, split3, join, pick, rewrite, regoal, fsplit, fsplit3, fjoin, await, prop, RattleType, Ptr, block_ptr, block_of, count_of, Fn, Val, WpFn, tables, whole, sub, agg, stop, fld, of_opd, no_more, and_then, returns, enter, alloc_all, pass_all, free_all, look_at, get, get_in, sets, owns, in_a_block, types_at, named_lft, nothing, heard, alive, Stays, stay_dropped, walk_of, proved_at, leaves, Goes-blank}
+use Rattle.dml_arena.proofs.Steps.{◌≡◌, ◌+◌, List, [], ◌∷◌, ◌++◌, refl, ap, sym, ◌∙◌, arith, length, SProp, emp, never, id⊢, Lft, GName, Share, ftrue, fobor, flft, fact, fact_i, ‵, raw, ◌⊛◌, some, later, ◌$◌, ◌∵◌, !, qed, by, move, keep, drop, use0, use1, use2, use3, split, split3, join, pick, rewrite, regoal, fsplit, fsplit3, fjoin, await, prop, RattleType, Ptr, block_ptr, block_of, count_of, Fn, Val, WpFn, tables, whole, sub, agg, stop, fld, of_opd, no_more, and_then, returns, enter, alloc_all, pass_all, free_all, look_at, get, get_in, sets, owns, in_a_block, types_at, named_lft, nothing, heard, alive, Stays, stay_dropped, walk_of, proved_at, leaves, Goes-blank}
 use Rattle.std.proofs.Common.{◌⊎◌}
 use lib.ListN.{length-append}
 use Rattle.dml_arena.proofs.Fronts.{met}

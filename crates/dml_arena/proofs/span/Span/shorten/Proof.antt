@@ -1,5 +1,5 @@
 -- `shorten` forgets the bytes past the first few, and touches none. Assumes `Logic`.
-use Rattle.dml_arena.proofs.Steps.{◌≡◌, ℕ, ◌+◌, ◌^◌, ◌<◌, ◌≤◌, List, [], ◌∷◌, refl, ap, sym, arith, w64, length, take, SProp, emp, never, id⊢, Lft, Share, ftrue, flft, fact, fact_i, ‵, raw, ◌⊛◌, ◌$◌, ◌∵◌, !, qed, by, move, keep, use0, use1, split, split3, join, fsplit, fsplit3, fjoin, fjoin3, feq_i, rewrite, RattleType, Ptr, block_ptr, named, Fn, Val, vint, vptr, vunit, WpFn, tables, unit_lit, of_opd, returns, enter, alloc_all, pass_all, free_all, look_at, sets, owns, in_a_block, types_at, plain, named_lft, nothing, heard, opens, closes, usize, uint_vals, uint_Tells, mut_vals, mut_Tells, open_ref, close_ref, alive, Stays, stay_dropped, stay_ref, walk_of, Goes-dropped, Goes-ref, proved, leaves}
+use Rattle.dml_arena.proofs.Steps.{◌≡◌, ◌≤◌, List, [], ◌∷◌, refl, sym, arith, w64, length, take, SProp, emp, never, id⊢, Lft, ftrue, flft, fact, fact_i, ‵, raw, ◌⊛◌, ◌$◌, ◌∵◌, !, qed, by, move, keep, use0, use1, split, split3, join, fsplit, fsplit3, fjoin, fjoin3, feq_i, rewrite, RattleType, Ptr, named, Fn, Val, vint, vptr, vunit, tables, unit_lit, of_opd, returns, enter, alloc_all, pass_all, free_all, look_at, sets, owns, in_a_block, types_at, plain, named_lft, nothing, heard, opens, closes, usize, uint_vals, uint_Tells, mut_vals, mut_Tells, open_ref, close_ref, alive, Stays, stay_dropped, stay_ref, walk_of, Goes-dropped, Goes-ref, proved, leaves}
 use lib.ListN.{length-take}
 use Rattle.dml_arena.proofs.Fronts.{shortened}
 use Rattle.dml_arena.specs.Ownership.{front, Front, span_owns}

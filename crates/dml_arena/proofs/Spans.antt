@@ -1,8 +1,9 @@
 -- Loans of bytes are made, cut and joined. Assumes `Logic`.
+--     neighbour, joined       where the second of two neighbours lies;  and the two as one
 --     span_made       an open borrow closes as a loan of n bytes, where room for n bytes makes what was borrowed
 --     span_cut        an empty loan is cut in two
 --     both_opened, both_closed       two neighbours are opened at once, and closed as one, whatever the bytes are by then
-use Rattle.dml_arena.proofs.Steps.{◌≡◌, ℕ, ◌+◌, ◌-◌, ◌≤◌, List, [], ◌∷◌, refl, sym, ap, ◌∙◌, arith, Ura, SProp, ent, sep, emp, id⊢, Item, Lft, GName, Share, Fml, ftrue, fsep, fobs, fbor, fobor, flft, Logic, sem, Body, ‵, raw, ◌⊛◌, some, later, ◌$◌, ◌∵◌, !, qed, by, move, keep, drop, use1, use2, use3, split, split3, join, pick, fsplit, fjoin, fpick, fpack, rewrite, suffices, group, await, updating, now, done, Ptr, block_ptr, block_of, count_of}
+use Rattle.dml_arena.proofs.Steps.{◌≡◌, ℕ, ◌+◌, ◌-◌, ◌≤◌, List, [], ◌∷◌, refl, sym, ap, ◌∙◌, arith, Ura, SProp, ent, sep, emp, id⊢, Item, Lft, GName, Share, Fml, ftrue, fsep, fobs, fbor, fobor, flft, Logic, sem, Body, ‵, raw, ◌⊛◌, some, later, ◌$◌, ◌∵◌, !, qed, by, move, keep, drop, use1, use2, use3, split, split3, join, pick, fsplit, fjoin, fpick, fpack, rewrite, suffices, group, await, updating, now, done, Ptr, block_ptr, block_of, count_of, ◌++◌, ◌^◌, ◌<◌, length-append, length}
 use base.Logic.{ex, upd_i}
 use base.Fml.{fseps, fwand, fupd, fdead, fauth}
 use types.Kit.{assume, show, mean}
@@ -11,12 +12,33 @@ use types.Tokens.{bor_open, obor_alter, name_agree, name_new, name_set}
 use types.Merge.{bor_combine}
 use types.Follow.{after₂, takes_two}
 use denote.Steps.{nothing}
+use Rattle.dml_arena.specs.declared.span.Span.{Span}
 use Rattle.dml_arena.specs.Ownership.{front, Front}
 use Rattle.dml_arena.proofs.Fronts.{rm, rooms_cut, fresh, spent, cut_fresh, both_spent}
 
 -- where the second of two neighbours lies
 pub neighbour : (r p : Ptr) (b o m : ℕ) → r ≡ block_ptr (block_of r) (count_of r) → p ≡ block_ptr b o → block_of r ≡ block_of p → count_of r ≡ count_of p + m → r ≡ block_ptr b (o + m)
 neighbour r p b o m solid e same next = solid ∙ (λ i. block_ptr ((same ∙ ap block_of e) i) ((next ∙ ap (λ (s : Ptr). count_of s + m) e) i))
+
+-- two neighbours as one, under the name γ
+pub joined_fits : (x z : Span) (b o : ℕ) → z.ptr ≡ block_ptr b (o + x.room) → o + (x.room + z.room) < 2 ^ 63
+joined_fits x z b o e = let place = ap count_of e in let fits = z.fits in omega (arith, place, fits)
+
+pub joined_held : (x z : Span) → length (x.bytes ++ z.bytes) ≤ x.room + z.room
+joined_held x z = let long = length-append x.bytes z.bytes in let first = x.held in let second = z.held in omega (arith, long, first, second)
+
+abbrev pub joined : (x z : Span) (b o : ℕ) → z.ptr ≡ block_ptr b (o + x.room) → GName → Span
+joined x z b o e γ = record {
+  ptr = block_ptr b o;
+  mark = record {};
+  name = γ;
+  tie = x.tie;
+  room = x.room + z.room;
+  bytes = x.bytes ++ z.bytes;
+  fits = joined_fits x z b o e;
+  held = joined_held x z;
+  solid = refl;
+}
 
 module _ {M : Type 1} {𝓤 : Ura M} (𝓛 : Logic 𝓤) (κ : Lft) (q : Share) (b : ℕ) where
   open 𝓛 use {H, A}

@@ -18,21 +18,21 @@ fn opened_twice(arena: &mut Arena, bytes: &[u8]) -> u32
     front.room() + back.room()
 }
 
-/// An owner with an arena in a field, which it opens for each round.
+// An owner with an arena in a field, which it opens for each round.
 #[derive(Drop)]
-pub struct Engine {
+pub(crate) struct Engine {
     arena: Arena,
 }
 
 impl Engine {
-    pub fn new(arena: Arena) -> Engine
+    pub(crate) fn new(arena: Arena) -> Engine
         ensures { result.arena ≡ arena }
     {
         Engine { arena }
     }
 
-    /// Stages `bytes`, and returns how many are staged.
-    pub fn round(&mut self, bytes: &[u8]) -> usize
+    // Stages `bytes`, and returns how many are staged.
+    pub(crate) fn round(&mut self, bytes: &[u8]) -> usize
         requires { length bytes.now ≤ self.old.arena.size }
         ensures arena { self.new.arena ≡ self.old.arena }
         ensures staged { result ≡ length bytes.now }
@@ -42,8 +42,8 @@ impl Engine {
         region.bytes().len()
     }
 
-    /// Stages `bytes` twice, one round after the other.
-    pub fn two_rounds(&mut self, bytes: &[u8])
+    // Stages `bytes` twice, one round after the other.
+    pub(crate) fn two_rounds(&mut self, bytes: &[u8])
         requires { length bytes.now ≤ self.old.arena.size }
         ensures { self.new.arena ≡ self.old.arena }
     {
@@ -75,9 +75,9 @@ fn filled_apart<R: Threads>(rt: &R, arena: &mut Arena)
     prove!(bytes.len() == 3 && bytes[0] == 1 && bytes[2] == 3);
 }
 
-/// A piece of work that stages into a region of its own.
+// A piece of work that stages into a region of its own.
 #[derive(Drop)]
-pub struct Task<'a> {
+pub(crate) struct Task<'a> {
     byte: u8,
     staged: Region<'a>,
 }

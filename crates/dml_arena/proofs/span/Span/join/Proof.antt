@@ -2,14 +2,13 @@
 use Rattle.dml_arena.proofs.Steps.{◌≡◌, ℕ, ◌+◌, ◌-◌, ◌^◌, ◌<◌, List, [], ◌∷◌, ◌++◌, refl, ap, sym, subst, ◌∙◌, arith, length, w64, SProp, emp, never, id⊢, Lft, GName, Share, ftrue, fobor, flft, fact, fact_i, ‵, raw, ◌⊛◌, some, given, later, ◌$◌, ◌∵◌, !, qed, by, move, keep, drop, use0, use1, use2, use3, split, split3, group, join, pick, learn, rewrite, regoal, fsplit, fsplit3, fjoin, fpick, await, prop, at_ret, ty_unit, has_ty, WT, vint, vptr, vunit, Env, bin, first, blocks, exec, is, lands_last, env, calls_at_last, Goes-dropped, after, fm, RattleType, Ptr, block_ptr, block_of, count_of, Fn, Val, WpFn, tables, whole, sub, agg, stop, fld, of_opd, no_more, and_then, returns, enter, alloc_all, pass_all, free_all, look_at, get, get_in, sets, owns, in_a_block, types_at, named_lft, nothing, heard, alive, Stays, stay_dropped, walk_of, proved_at, leaves, Goes-blank}
 use base.Share
 use lib.Dec.{T as Holds}
-use lib.ListN.{length-append}
 use denote.Builtin.{u8}
 use Rattle.core.proofs.ptr.copy.Met as copies
 use Rattle.dml_arena.proofs.Fronts.{rm, held, gap_closed}
 use Rattle.dml_arena.proofs.Moves.{byte_laws, Copies, at_copies, Copies-goes, Copies-gives}
 use Rattle.dml_arena.proofs.Walks.{slot_at}
 use Rattle.dml_arena.proofs.Values.{span_val, span_own, span_told, span_own_made}
-use Rattle.dml_arena.proofs.Spans.{Loan, Pair, Names, neighbour, both_opened, both_closed}
+use Rattle.dml_arena.proofs.Spans.{Loan, Pair, Names, neighbour, joined, both_opened, both_closed}
 use Rattle.dml_arena.specs.Ownership.{front, span_owns}
 use Rattle.dml_arena.specs.contracts.span.Span as span
 use Rattle.dml_arena.specs.contracts.span.Span.join as f
@@ -97,8 +96,7 @@ join_spec 𝓤 𝓛 𝓜 𝓡 wired =
     sets ! (agg ! (and_then ! (get ! refl) (and_then ! (get ! refl) (no_more !)))) refl (tt, (tt, (tt, tt))) $
     returns ! (look_at ! 0 refl) $ free_all ! refl $
     let p : Ptr = block_ptr b o in
-    let long = length-append xs ys in
-    let r : Row.Denot = record { ptr = p; mark = record {}; name = γ; tie = x.tie; room = m + n; bytes = xs ++ ys; fits = omega (arith, place', fits); held = omega (arith, long, held₁, held₂); solid = refl } in
+    let r : Row.Denot = joined x z b o e' γ in
     let Place : Type 0 = (r.ptr ≡ x.ptr) × (r.room ≡ m + n) × (r.tie ≡ x.tie) in
     let Bytes : Type 0 = r.bytes ≡ xs ++ ys in
     use0 𝓛 (‵ (span_own p (span_val p ∷ []))) (span_own_made 𝓛 p) $ fjoin ! $ move ! (1 ∷ 2 ∷ []) $ join ! $

@@ -1,11 +1,10 @@
 -- `meet` closes two neighbours as one loan, and moves no byte. Assumes `Logic`.
-use Rattle.dml_arena.proofs.Steps.{◌≡◌, ◌+◌, List, [], ◌∷◌, ◌++◌, refl, ap, sym, ◌∙◌, arith, length, SProp, emp, never, id⊢, Lft, GName, Share, ftrue, fobor, flft, fact, fact_i, ‵, raw, ◌⊛◌, some, later, ◌$◌, ◌∵◌, !, qed, by, move, keep, drop, use0, use1, use2, use3, split, split3, join, pick, rewrite, regoal, fsplit, fsplit3, fjoin, await, prop, RattleType, Ptr, block_ptr, block_of, count_of, Fn, Val, WpFn, tables, whole, sub, agg, stop, fld, of_opd, no_more, and_then, returns, enter, alloc_all, pass_all, free_all, look_at, get, get_in, sets, owns, in_a_block, types_at, named_lft, nothing, heard, alive, Stays, stay_dropped, walk_of, proved_at, leaves, Goes-blank}
+use Rattle.dml_arena.proofs.Steps.{◌≡◌, ◌+◌, List, [], ◌∷◌, ◌++◌, refl, ap, sym, ◌∙◌, length, SProp, emp, never, id⊢, Lft, GName, Share, ftrue, fobor, flft, fact, fact_i, ‵, raw, ◌⊛◌, some, later, ◌$◌, ◌∵◌, !, qed, by, move, keep, drop, use0, use1, use2, use3, split, split3, join, pick, rewrite, regoal, fsplit, fsplit3, fjoin, await, prop, RattleType, Ptr, block_ptr, block_of, count_of, Fn, Val, WpFn, tables, whole, sub, agg, stop, fld, of_opd, no_more, and_then, returns, enter, alloc_all, pass_all, free_all, look_at, get, get_in, sets, owns, in_a_block, types_at, named_lft, nothing, heard, alive, Stays, stay_dropped, walk_of, proved_at, leaves, Goes-blank}
 use Rattle.std.proofs.Common.{◌⊎◌}
-use lib.ListN.{length-append}
 use Rattle.dml_arena.proofs.Fronts.{met}
 use Rattle.dml_arena.proofs.Walks.{slot_at}
 use Rattle.dml_arena.proofs.Values.{span_val, span_own, span_told, span_own_made}
-use Rattle.dml_arena.proofs.Spans.{Loan, Pair, Names, neighbour, both_opened, both_closed}
+use Rattle.dml_arena.proofs.Spans.{Loan, Pair, Names, neighbour, joined, both_opened, both_closed}
 use Rattle.dml_arena.specs.Ownership.{front, span_owns}
 use Rattle.dml_arena.specs.contracts.span.Span as span
 use Rattle.dml_arena.specs.contracts.span.Span.meet as f
@@ -59,13 +58,7 @@ meet_spec 𝓤 𝓛 𝓜 𝓡 wired =
     sets ! (agg ! (and_then ! (get ! refl) (and_then ! (get ! refl) (no_more !)))) refl (tt, (tt, (tt, tt))) $
     returns ! (look_at ! 0 refl) $ free_all ! refl $
     let p : Ptr = block_ptr b o in
-    let place : count_of x.ptr ≡ o = ap count_of e in
-    let place' : count_of z.ptr ≡ o + m = ap count_of e' in
-    let fits = z.fits in
-    let long = length-append xs ys in
-    let held = x.held in
-    let held' = z.held in
-    let r : Row.Denot = record { ptr = p; mark = record {}; name = γ; tie = x.tie; room = m + n; bytes = xs ++ ys; fits = omega (arith, place', fits); held = omega (arith, long, held, held'); solid = refl } in
+    let r : Row.Denot = joined x z b o e' γ in
     let Place : Type 0 = (r.ptr ≡ x.ptr) × (r.room ≡ m + n) × (r.tie ≡ x.tie) in
     let Bytes : Type 0 = r.bytes ≡ xs ++ ys in
     use0 𝓛 (‵ (span_own p (span_val p ∷ []))) (span_own_made 𝓛 p) $ fjoin ! $ move ! (1 ∷ 2 ∷ []) $ join ! $

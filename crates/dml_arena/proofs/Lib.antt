@@ -1,0 +1,9 @@
+pub mod Filling
+pub mod Fronts
+pub mod Lending
+pub mod Moves
+pub mod Sharing
+pub mod Spans
+pub mod Steps
+pub mod Values
+pub mod Walks

@@ -1,0 +1,4 @@
+pub mod Block
+pub mod Opening
+pub mod Ownership
+pub mod Piece

@@ -1,0 +1,52 @@
+#!/bin/sh
+# Programs over dml_arena that must not compile, and one that must. Each file tests/no-compile/NAME.rt.txt says
+# on its first line the error that is wanted, as `// borrow-e0499: why`, or begins with `// compiles:`.
+# Each becomes the one file of a crate over a throw-away copy of dml_arena, and the check has to refuse it with
+# that very error. Usage, from anywhere: sh tests/no_compile.sh. Status 0 where each did as wanted.
+top=$(cd "$(dirname "$0")/.." && pwd) || exit 2
+room=$(mktemp -d) || exit 2
+trap 'rm -rf "$room"' EXIT
+mkdir "$room/crates" || exit 2
+# What an earlier check kept in out/ comes along, so that the arena is not proved again.
+cp -R "$top/crates/dml_arena" "$room/crates/" || exit 2
+cp "$top/HANDLES" "$room/" || exit 2
+grep '^dml_arena' "$top/crates.txt" >"$room/crates.txt" || exit 2
+
+failed=0
+wrong=0
+right=0
+for case in "$top"/tests/no-compile/*.rt.txt; do
+    name=$(basename "$case" .rt.txt)
+    wanted=$(sed -n '1s,^// \([a-z0-9-]*\):.*,\1,p' "$case")
+    crate="$room/crates/$name"
+    mkdir -p "$crate/src" || exit 2
+    { echo '#![tactic(auto)]'; cat "$case"; } >"$crate/src/lib.rt"
+    echo "$name: dml_arena" >>"$room/crates.txt"
+    (cd "$crate" && rt check --jobs 1) >"$room/log" 2>&1
+    status=$?
+    case $wanted in
+    compiles)
+        if [ "$status" -eq 0 ] && ! grep -q 'error\[' "$room/log"; then
+            right=$((right + 1))
+            echo "$name: compiles, as it must"
+            continue
+        fi
+        ;;
+    borrow-*)
+        if [ "$status" -ne 0 ] && grep -q "^src/lib.rt:.*error\[$wanted\]" "$room/log"; then
+            wrong=$((wrong + 1))
+            echo "$name: refused with $wanted, as it must be"
+            continue
+        fi
+        ;;
+    esac
+    failed=1
+    echo "$name: wanted '$wanted', and the check ended with status $status:"
+    tail -n 5 "$room/log"
+done
+# A run that saw no case of either kind has shown nothing.
+if [ "$wrong" -eq 0 ] || [ "$right" -eq 0 ]; then
+    failed=1
+fi
+echo "no_compile: $wrong refused, $right compiled, failed=$failed"
+exit "$failed"

@@ -6,3 +6,4 @@ pub mod ListRows
 pub mod MoveRows
 pub mod RefusalRows
 pub mod RestRows
+pub mod PlainLemmas

@@ -4,6 +4,7 @@ pub mod ApplyRows
 pub mod FillRows
 pub mod ListRows
 pub mod MoveRows
+pub mod Plain
 pub mod RefusalRows
 pub mod RestRows
 pub mod Row

@@ -7,3 +7,4 @@ pub mod MoveRows
 pub mod RefusalRows
 pub mod RestRows
 pub mod PlainLemmas
+pub mod FillLemmas

@@ -2,9 +2,10 @@
 use Rattle.std.proofs.Common.{◌≡◌, ℕ, ◌+◌, ◌*◌, ◌<◌, ◌≤◌, List, [], ◌∷◌, ◌++◌, Vec, Bool, true, false, not, length, get_or, set, take, refl, sym, ◌∙◌, ap, subst, arith, rules}
 use Rattle.std.specs.Vec.{with_item}
 use Rattle.std.proofs.lemmas.List.{places, same_lists, length-set, get_or-set_other, get_or-set_same}
-use Rattle.std.proofs.lemmas.Bool.{cases_eq}
+use Rattle.std.proofs.lemmas.Bool.{cases_eq, not-true}
+use Rattle.dml_types.specs.First.{first}
 use Rattle.dml_types.specs.Memory.{Memory, IsWhole, has, present_bytes, overwrite, put}
-use Rattle.dml_types.proofs.FirstLemmas.{first_is}
+use Rattle.dml_types.proofs.FirstLemmas.{first_is, passes_at}
 use Rattle.dml_types.proofs.MemoryLemmas.{has_within, length_overwrite, put_append, put_nil}
 
 abbrev of_fields : {Y Z : Type 0} → Vec Bool Y → Vec ℕ Z → Memory
@@ -33,6 +34,13 @@ present_bytes_is memory address n k within before here =
 
 pub present_bytes_stops : (memory : Memory) (address n k : ℕ) → k < n → ((i : ℕ) → i < k → has memory (address + i) ≡ true) → has memory (address + k) ≡ false → k ≡ present_bytes memory address n
 present_bytes_stops memory address n k below before here = present_bytes_is memory address n k (omega arith) before (λ _. here)
+
+-- a byte is absent where fewer than all come before the first absent one
+pub absent_at : (memory : Memory) (address n k : ℕ) → k ≡ present_bytes memory address n → k < n → has memory (address + k) ≡ false
+absent_at memory address n k is short =
+    let test : ℕ → Bool = λ i. not (has memory (address + i)) in
+    let first_short : first n test < n = omega (arith, is) in
+    not-true _ (ap test is ∙ passes_at n test first_short)
 
 -- bytes written one after another
 pub put_more : (memory : Memory) (address : ℕ) (done : List ℕ) (place x : ℕ) → place ≡ address + length done → place < length memory.bytes → put (put memory address done) place (x ∷ []) ≡ put memory address (done ++ x ∷ [])

@@ -1,6 +1,8 @@
 //! A plain evaluator of jobs, for tests, and the worked rows evaluated on the definitions.
 #![tactic(auto)]
 
+mod answers;
+mod fills;
 mod plain;
 mod rows;
 

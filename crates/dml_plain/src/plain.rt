@@ -1,4 +1,4 @@
-ghost use Rattle.std.specs.Prelude.{◌≡◌, ◌+◌, ◌*◌, ◌^◌, ◌<◌, ◌≤◌, true, [], ◌∷◌, length, IfOk, Some, None, if◌then◌else◌};
+ghost use Rattle.std.specs.Prelude.{◌≡◌, ℕ, ◌+◌, ◌*◌, ◌^◌, ◌<◌, ◌≤◌, true, [], ◌∷◌, length, IfOk, Some, None, if◌then◌else◌};
 ghost use Rattle.dml_types.specs.Memory.{has, byte_at, present_bytes, put};
 ghost use Rattle.dml_plain.specs.Plain.{all_absent, brought};
 
@@ -83,7 +83,9 @@ impl Plain {
     #[tactic(auto, using(crate::proofs::PlainLemmas::present_bytes_is, crate::proofs::PlainLemmas::present_bytes_stops))]
     pub fn present_bytes(&self, address: u64, len: u32) -> u32
         requires { address + len ≤ 2 ^ 64 }
-        ensures { result ≡ present_bytes self.now address len }
+        ensures at_most { result ≤ len }
+        ensures value { result ≡ present_bytes self.now address len }
+        ensures within { (i : ℕ) → i < result → address + i < length self.now.bytes }
     {
         for k in 0..len {
             if !self.has(address + k as u64) {

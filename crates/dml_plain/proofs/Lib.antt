@@ -8,3 +8,4 @@ pub mod RefusalRows
 pub mod RestRows
 pub mod PlainLemmas
 pub mod FillLemmas
+pub mod CompareLemmas

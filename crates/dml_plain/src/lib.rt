@@ -2,6 +2,7 @@
 #![tactic(auto)]
 
 mod answers;
+mod compares;
 mod fills;
 mod plain;
 mod rows;

@@ -9,3 +9,4 @@ pub mod RestRows
 pub mod PlainLemmas
 pub mod FillLemmas
 pub mod CompareLemmas
+pub mod CopyLemmas

@@ -4,6 +4,7 @@
 mod answers;
 mod compares;
 mod fills;
+mod moves;
 mod plain;
 mod rows;
 

@@ -63,10 +63,18 @@ impl Plain {
         ensures { result ≡ (if has self.now address then Some (byte_at self.now address) else None) }
     {
         if self.has(address) {
-            Some(self.bytes[address as usize])
+            Some(self.at(address))
         } else {
             None
         }
+    }
+
+    /// The byte at an address, present or not.
+    pub fn at(&self, address: u64) -> u8
+        requires { address < length self.now.bytes }
+        ensures { result ≡ byte_at self.now address }
+    {
+        self.bytes[address as usize]
     }
 
     /// Writes the byte at an address.

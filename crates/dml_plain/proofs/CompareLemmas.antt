@@ -2,7 +2,7 @@
 use Rattle.std.proofs.Common.{◌≡◌, ℕ, ◌+◌, ◌<◌, ◌≤◌, ◌&&◌, ◌==◌, List, [], ◌∷◌, Bool, true, false, not, refl, sym, ◌∙◌, ap, arith, rules}
 use Rattle.std.proofs.lemmas.Bool.{eq-eqb, ne_eqb}
 use Rattle.dml_types.specs.declared.jobs.Job.{Job}
-use Rattle.dml_types.specs.Memory.{Memory, has, byte_at}
+use Rattle.dml_types.specs.Memory.{Memory, has, byte_at, puts_made}
 use Rattle.dml_types.specs.Effect.{ended, faulted, is_clear, judged, read_fault}
 use Rattle.dml_types.specs.Compare.{compare_answer, compare_faults, compare_length, compared, is_equal_at}
 use Rattle.dml_types.proofs.FirstLemmas.{first_is}
@@ -43,3 +43,8 @@ second_absent memory job k short here gone = rw (ne_eqb k job.size (λ all. omeg
 
 pub both_present : (memory : Memory) (job : Job) (k : ℕ) → k < job.size → has memory (job.source + k) ≡ true → has memory (job.target + k) ≡ true → ended (judged job (job.expected == 1)) 1 k 0 ≡ compare_answer memory job k (compare_faults job k)
 both_present memory job k short here there = rw (ne_eqb k job.size (λ all. omega (arith, all)), here, there) refl
+
+-- a compare leaves the image
+pub compared_image : (memory : Memory) (job : Job) → memory ≡ puts_made memory (compared memory job).puts
+unfolding compared
+compared_image memory job = refl

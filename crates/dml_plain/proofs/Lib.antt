@@ -10,3 +10,4 @@ pub mod PlainLemmas
 pub mod FillLemmas
 pub mod CompareLemmas
 pub mod CopyLemmas
+pub mod RunLemmas

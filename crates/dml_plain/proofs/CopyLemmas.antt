@@ -56,7 +56,7 @@ copied_more_forward memory source target n i safe below source_within target_wit
     let xs = bytes_at memory (source + 0) i in
     let long : length xs ≡ i = length_bytes_at memory (source + 0) i (omega arith) in
     let apart : (source + i < target + 0) ⊎ (target + 0 + length xs ≤ source + i) =
-      ⊎_elim (λ before. inl (omega (arith, safe before))) (λ behind. inr (omega arith)) (cases_lt source target) in
+    ⊎_elim (λ before. inl (omega (arith, safe before))) (λ behind. inr (omega arith)) (cases_lt source target) in
     let same = unchanged memory (target + 0) xs (source + i) (omega arith) apart in
     let at : source + i ≡ source + 0 + i = omega arith in
     rw same
@@ -94,8 +94,8 @@ move_length_is memory job direction k is within before here =
     let both : ℕ → Bool = λ i. has memory (job.source + offset_in direction job.size i) && has memory (job.target + offset_in direction job.size i) in
     let clear : ℕ → Bool = λ i. is_clear memory (move_faults job (offset_in (direction_of job) job.size i)) in
     let at : (i : ℕ) → clear i ≡ both i =
-      λ i. both_is memory job (offset_in (direction_of job) job.size i)
-      ∙ ap (λ d. has memory (job.source + offset_in d job.size i) && has memory (job.target + offset_in d job.size i)) (sym is) in
+    λ i. both_is memory job (offset_in (direction_of job) job.size i)
+    ∙ ap (λ d. has memory (job.source + offset_in d job.size i) && has memory (job.target + offset_in d job.size i)) (sym is) in
     sym (first_is job.size (λ i. not (clear i)) k within (λ i low. ap not (at i ∙ before i low)) (λ below. ap not (at k ∙ here below)))
 
 pub move_length_stops : (memory : Memory) (job : Job) (direction : Direction) (k : ℕ) → direction ≡ direction_of job → k < job.size → ((i : ℕ) → i < k → has memory (job.source + offset_in direction job.size i) && has memory (job.target + offset_in direction job.size i) ≡ true) → has memory (job.source + offset_in direction job.size k) && has memory (job.target + offset_in direction job.size k) ≡ false → k ≡ move_length memory job

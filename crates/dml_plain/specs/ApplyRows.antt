@@ -9,8 +9,8 @@ use Rattle.dml_plain.specs.Row.{hex, image, answer, Answers, Shows, after}
 unfoldable pub apply_not_rising : Type 0
 apply_not_rising =
     let memory =
-      put (put (put (image (true ∷ [])) 0 (hex 10 0x00001111111111111111)) 10 (hex 10 0x02002222222222222222)) 20
-      (hex 10 0x02003333333333333333) in
+    put (put (put (image (true ∷ [])) 0 (hex 10 0x00001111111111111111)) 10 (hex 10 0x02002222222222222222)) 20
+    (hex 10 0x02003333333333333333) in
     let jobs = apply_job 0 30 256 32 ∷ [] in
     Answers memory jobs (answer NotRising 0 20 0 0 ∷ [])
     × Shows (after memory jobs) 256 (hex 32 0x1111111111111111000000000000000022222222222222220000000000000000)
@@ -20,8 +20,8 @@ apply_not_rising =
 unfoldable pub apply_offset_range : Type 0
 apply_offset_range =
     let memory =
-      put (put (image (true ∷ replicate 7 false ++ true ∷ [])) 0 (hex 10 0xff0faaaaaaaaaaaaaaaa)) 16
-      (hex 10 0x0400bbbbbbbbbbbbbbbb) in
+    put (put (image (true ∷ replicate 7 false ++ true ∷ [])) 0 (hex 10 0xff0faaaaaaaaaaaaaaaa)) 16
+    (hex 10 0x0400bbbbbbbbbbbbbbbb) in
     let jobs = apply_job 16 10 256 32 ∷ apply_job 0 10 4096 0x80000 ∷ [] in
     Answers memory jobs (answer OffsetRange 0 0 0 0 ∷ answer Success 0 10 0 0 ∷ [])
     × Shows (after memory jobs) 36856 (hex 8 0xaaaaaaaaaaaaaaaa)
@@ -30,6 +30,6 @@ apply_offset_range =
 unfoldable pub not_rising_before_fault : Type 0
 not_rising_before_fault =
     let memory =
-      put (put (image (true ∷ false ∷ true ∷ [])) 0 (hex 10 0x0200aaaaaaaaaaaaaaaa)) 10 (hex 10 0x0000bbbbbbbbbbbbbbbb) in
+    put (put (image (true ∷ false ∷ true ∷ [])) 0 (hex 10 0x0200aaaaaaaaaaaaaaaa)) 10 (hex 10 0x0000bbbbbbbbbbbbbbbb) in
     let jobs = apply_job 0 20 8176 32 ∷ [] in
     Answers memory jobs (answer NotRising 0 10 0 0 ∷ []) × Shows (after memory jobs) 8192 (hex 8 0xaaaaaaaaaaaaaaaa)

@@ -27,7 +27,7 @@ expected_results =
     Answers memory (checked (compare_job 0 8 8) 1 ∷ checked (compare_job 0 8 8) 0 ∷ [])
     (answer FalsePredicate 0 8 0 0 ∷ answer Success 0 8 0 0 ∷ [])
     × Answers different (checked (create_job 0 64 16 128 10) 3 ∷ checked (create_job 0 64 16 128 10) 4 ∷ [])
-      (answer FalsePredicate 2 8 0 10 ∷ answer Success 2 8 0 10 ∷ [])
+    (answer FalsePredicate 2 8 0 10 ∷ answer Success 2 8 0 10 ∷ [])
 
 unfoldable pub pattern_expected : Type 0
 pattern_expected =

@@ -30,8 +30,8 @@ unfoldable pub every_page_absent : Type 0
 every_page_absent =
     let memory = image (replicate 4 false) in
     let jobs =
-      move_job 0 8 16 ∷ fill_job 1 0 8 ∷ compare_job 0 8 8 ∷ create_job 0 64 8 128 10 ∷ apply_job 0 10 256 8
-      ∷ dualcast_job 0 4096 8192 8 ∷ no_op_job ∷ [] in
+    move_job 0 8 16 ∷ fill_job 1 0 8 ∷ compare_job 0 8 8 ∷ create_job 0 64 8 128 10 ∷ apply_job 0 10 256 8
+    ∷ dualcast_job 0 4096 8192 8 ∷ no_op_job ∷ [] in
     Answers memory jobs
     (answer ReadFault 1 0 15 0 ∷ answer WriteFault 0 0 0 0 ∷ answer ReadFault 0 0 0 0 ∷ answer ReadFault 0 0 0 0
     ∷ answer ReadFault 0 0 0 0 ∷ answer ReadFault 0 0 0 0 ∷ answer Success 0 0 0 0 ∷ [])

@@ -22,7 +22,7 @@ abbrev pub brought : Memory → ℕ → List ℕ → Memory
 brought memory page bytes =
     record {
       present = slice_set memory.present page true;
-      bytes = overwrite memory.bytes (page_size * page) (bytes ++ replicate (page_size - length bytes) 0)
+      bytes = overwrite memory.bytes (page_size * page) (bytes ++ replicate (page_size - length bytes) 0);
     }
 
 -- a job with flags; and one whose result is checked

@@ -1,9 +1,8 @@
 ghost use Rattle.std.specs.Prelude.{◌≡◌, ◌&&◌, ◌||◌, [], ◌∷◌, IsTrue};
 ghost use Rattle.dml_types.specs.Effect.{ended, faulted, judged, stopped_at, is_clear, first_fault, read_fault, write_fault};
 
-use dml_types::{Job, Record, Status};
-
 use crate::plain::Plain;
+use dml_types::{Job, Record, Status};
 
 const CHECK_RESULT: u32 = 0x80;
 

@@ -2,10 +2,9 @@ ghost use Rattle.std.specs.Prelude.{◌≡◌, ◌&&◌, ◌==◌, ◌+◌, ◌^
 ghost use Rattle.dml_types.specs.Memory.{has, byte_at};
 ghost use Rattle.dml_types.specs.Compare.{compare_answer, compare_faults, compare_length, compared};
 
-use dml_types::{Job, Record, Status};
-
 use crate::answers::{ended, faulted, judged};
 use crate::plain::Plain;
+use dml_types::{Job, Record, Status};
 
 impl Plain {
     /// Carries out a compare.

@@ -3,10 +3,9 @@ ghost use Rattle.dml_types.specs.Memory.{put, puts_made};
 ghost use Rattle.dml_types.specs.Pattern.{pattern_bytes};
 ghost use Rattle.dml_types.specs.Copy.{filled};
 
-use dml_types::{Job, Record, Status};
-
 use crate::answers::{ended, faulted};
 use crate::plain::Plain;
+use dml_types::{Job, Record, Status};
 
 impl Plain {
     /// Carries out a fill.

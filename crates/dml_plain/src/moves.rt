@@ -2,10 +2,9 @@ ghost use Rattle.std.specs.Prelude.{◌≡◌, ℕ, true, ◌&&◌, ◌+◌, ◌
 ghost use Rattle.dml_types.specs.Memory.{bytes_at, has, offset_in, put, puts_made};
 ghost use Rattle.dml_types.specs.Copy.{direction_of, done_from, move_length, moved, result_of};
 
-use dml_types::{Direction, Job, Record, Status};
-
 use crate::answers::{ended, faulted};
 use crate::plain::Plain;
+use dml_types::{Direction, Job, Record, Status};
 
 impl Plain {
     /// Carries out a move.

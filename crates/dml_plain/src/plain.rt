@@ -27,7 +27,8 @@ impl Model for Plain {
 impl Plain {
     /// An image of so many pages, all absent.
     pub fn new(alloc: Global, pages: u32) -> Result<Plain, AllocError>
-        ensures { IfOk result (λ image. image ≡ all_absent pages) }
+        ensures image { IfOk result (λ image. image ≡ all_absent pages) }
+        ensures pages { IfOk result (λ image. length image.present ≡ pages) }
     {
         let pages = pages as usize;
         let present = vec![in alloc; false; pages]?;
@@ -38,7 +39,8 @@ impl Plain {
     /// Makes a page present with these bytes.
     pub fn bring(&mut self, page: u32, bytes: &[u8; 4096])
         requires { page < length self.old.present }
-        ensures { self.new ≡ brought self.old page bytes.now }
+        ensures image { self.new ≡ brought self.old page bytes.now }
+        ensures pages { length self.new.present ≡ length self.old.present }
     {
         self.present[page as usize] = true;
         let start = page as u64 * 4096;

@@ -16,8 +16,7 @@ pub fn rows_of_moves()
     ensures dualcast_refusals { moves.dualcast_refusals }
     ensures dualcast_write_fault { moves.dualcast_write_fault }
     ensures write_over_page_edge { moves.write_over_page_edge }
-{
-}
+{}
 
 /// The worked rows of fill, of empty ranges and of absent images.
 pub fn rows_of_fills()
@@ -25,8 +24,7 @@ pub fn rows_of_fills()
     ensures fill_refusals { fills.fill_refusals }
     ensures empty_ranges { fills.empty_ranges }
     ensures every_page_absent { fills.every_page_absent }
-{
-}
+{}
 
 /// The worked rows of compare and compare pattern.
 pub fn rows_of_compares()
@@ -34,24 +32,21 @@ pub fn rows_of_compares()
     ensures compare_stops_at_page_edge { compares.compare_stops_at_page_edge }
     ensures expected_results { compares.expected_results }
     ensures pattern_expected { compares.pattern_expected }
-{
-}
+{}
 
 /// The worked rows of create.
 pub fn rows_of_creates()
     ensures delta_record_and_overflow { creates.delta_record_and_overflow }
     ensures overflow_before_write_fault { creates.overflow_before_write_fault }
     ensures delta_stops_at_absent_source { creates.delta_stops_at_absent_source }
-{
-}
+{}
 
 /// The worked rows of apply.
 pub fn rows_of_applies()
     ensures apply_not_rising { applies.apply_not_rising }
     ensures apply_offset_range { applies.apply_offset_range }
     ensures not_rising_before_fault { applies.not_rising_before_fault }
-{
-}
+{}
 
 /// The worked rows of the order of refusals.
 pub fn rows_of_refusals()
@@ -61,8 +56,7 @@ pub fn rows_of_refusals()
     ensures apply_overlap_refused { refusals.apply_overlap_refused }
     ensures create_overlap_refused { refusals.create_overlap_refused }
     ensures opcode_before_flags { refusals.opcode_before_flags }
-{
-}
+{}
 
 /// The worked rows of lists and batches.
 pub fn rows_of_lists()
@@ -72,8 +66,7 @@ pub fn rows_of_lists()
     ensures levels_of_four_jobs { lists.levels_of_four_jobs }
     ensures flags_before_size { lists.flags_before_size }
     ensures fence_in_batch { lists.fence_in_batch }
-{
-}
+{}
 
 /// The worked rows of the job that is left after a page fault.
 pub fn rows_of_rests()
@@ -81,5 +74,4 @@ pub fn rows_of_rests()
     ensures resume_a_compare { rests.resume_a_compare }
     ensures resume_a_backward_move { rests.resume_a_backward_move }
     ensures rest_of_moves { rests.rest_of_moves }
-{
-}
+{}

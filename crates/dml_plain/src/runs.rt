@@ -4,10 +4,9 @@ ghost use Rattle.dml_types.specs.Refusal.{refusal};
 ghost use Rattle.dml_types.specs.Step.{step};
 ghost use Rattle.dml_plain.specs.Plain.{is_plain, most_staging};
 
-use dml_types::{Job, Op, Record, Status};
-
 use crate::answers::ended;
 use crate::plain::Plain;
+use dml_types::{Job, Op, Record, Status};
 
 impl Plain {
     /// Carries out a no-op, a move, a fill or a compare that breaks no rule.

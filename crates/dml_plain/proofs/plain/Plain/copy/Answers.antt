@@ -9,5 +9,5 @@ pub loop-i-preserved : goal.loop-i-preserved
 loop-i-preserved c = record {
   same = c.set.ensures.len ∙ c.loop-i.invariant.same;
   written = c.set.ensures.byte ∙ copied_more _ _ c.args.job.now _ c.args.done _ _ _ c.direction_of-direction.ensures c.loop-i.invariant.written
-        c.loop-i-test.true c.requires.at_most c.offset_in-offset.ensures.value c.at-byte.ensures c.requires.source_within c.requires.target_within;
+      c.loop-i-test.true c.requires.at_most c.offset_in-offset.ensures.value c.at-byte.ensures c.requires.source_within c.requires.target_within;
 }

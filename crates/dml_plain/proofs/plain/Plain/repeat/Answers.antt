@@ -12,6 +12,6 @@ loop-i-preserved c = record {
   same = c.set.ensures.len ∙ c.loop-i.invariant.same;
   written = c.set.ensures.byte
       ∙ repeated_more _ _ _ _ _ _ c.loop-i.invariant.written
-        (ap (λ (bytes : List ℕ). get_or bytes (c.loop-i.i % 8) 0) c.to_le_bytes-bytes.ensures)
-        (c.requires.within c.loop-i.i c.loop-i-test.true);
+      (ap (λ (bytes : List ℕ). get_or bytes (c.loop-i.i % 8) 0) c.to_le_bytes-bytes.ensures)
+      (c.requires.within c.loop-i.i c.loop-i-test.true);
 }

@@ -1,13 +1,13 @@
 -- Move, byte by byte in its direction: a byte is read before it is overwritten.
-use Rattle.std.proofs.Common.{◌≡◌, ℕ, ◌+◌, ◌-◌, ◌<◌, ◌≤◌, ◌&&◌, List, [], ◌∷◌, ◌++◌, Bool, true, false, not, length, get_or, take, drop, refl, sym, ◌∙◌, ap, subst, arith, rules, ⊎_elim, ◌⊎◌, inl, inr, nat_lt}
-use Rattle.std.proofs.lemmas.Bool.{cases_lt, cases_eq, eq-eqb, ne_eqb, lt-ltb, le-ltb, not-true, and_from, and_left, and_right, and_cases}
+use Rattle.std.proofs.Common.{◌≡◌, ℕ, ◌+◌, ◌-◌, ◌<◌, ◌≤◌, ◌&&◌, List, [], ◌∷◌, ◌++◌, Bool, true, false, not, length, refl, sym, ◌∙◌, ap, arith, rules, ⊎_elim, ◌⊎◌, inl, inr, nat_lt}
+use Rattle.std.proofs.lemmas.Bool.{cases_lt, cases_eq, eq-eqb, ne_eqb, lt-ltb, le-ltb, not-true, and_from, and_left, and_right}
 use Rattle.std.proofs.lemmas.List.{places, same_lists}
 use Rattle.dml_types.specs.declared.jobs.Job.{Job}
 use Rattle.dml_types.specs.declared.operations.Direction.{Direction}
 use Rattle.dml_types.specs.declared.operations.Direction.TheVariants.{Forward, Backward}
 use Rattle.dml_types.specs.declared.statuses.Status.TheVariants.{Success}
 use Rattle.dml_types.specs.First.{first}
-use Rattle.dml_types.specs.Memory.{Memory, has, byte_at, bytes_at, offset_in, overwrite, put, puts_made}
+use Rattle.dml_types.specs.Memory.{Memory, has, byte_at, bytes_at, offset_in, put, puts_made}
 use Rattle.dml_types.specs.Effect.{is_clear, ended, faulted, read_fault, write_fault}
 use Rattle.dml_types.specs.Copy.{direction_of, done_from, move_faults, move_length, moved, result_of}
 use Rattle.dml_types.proofs.FirstLemmas.{first_is, passes_at}

@@ -1,13 +1,5 @@
-pub mod ApplyRows
-pub mod CompareRows
-pub mod CreateRows
-pub mod FillRows
-pub mod ListRows
-pub mod MoveRows
-pub mod RefusalRows
-pub mod RestRows
-pub mod PlainLemmas
-pub mod FillLemmas
 pub mod CompareLemmas
 pub mod CopyLemmas
+pub mod FillLemmas
+pub mod PlainLemmas
 pub mod RunLemmas

@@ -1,12 +1,12 @@
 -- The plain program's bytes, as its fields hold them: `now` is what contracts see of them.
-use Rattle.std.proofs.Common.{◌≡◌, ℕ, ◌+◌, ◌*◌, ◌<◌, ◌≤◌, List, [], ◌∷◌, ◌++◌, Vec, Bool, true, false, not, length, get_or, set, take, refl, sym, ◌∙◌, ap, subst, arith, rules}
+use Rattle.std.proofs.Common.{◌≡◌, ℕ, ◌+◌, ◌*◌, ◌<◌, ◌≤◌, List, [], ◌∷◌, ◌++◌, Vec, Bool, true, false, not, length, get_or, set, take, sym, ◌∙◌, ap, subst, arith, rules}
 use Rattle.std.specs.Vec.{with_item}
 use Rattle.std.proofs.lemmas.List.{places, same_lists, length-set, get_or-set_other, get_or-set_same}
 use Rattle.std.proofs.lemmas.Bool.{cases_eq, not-true}
 use Rattle.dml_types.specs.First.{first}
 use Rattle.dml_types.specs.Memory.{Memory, IsWhole, has, present_bytes, overwrite, put}
 use Rattle.dml_types.proofs.FirstLemmas.{first_is, passes_at}
-use Rattle.dml_types.proofs.MemoryLemmas.{has_within, length_overwrite, put_append, put_nil}
+use Rattle.dml_types.proofs.MemoryLemmas.{has_within, put_append}
 
 abbrev of_fields : {Y Z : Type 0} → Vec Bool Y → Vec ℕ Z → Memory
 of_fields present bytes = record { present = present.items; bytes = bytes.items }

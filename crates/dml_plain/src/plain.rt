@@ -72,7 +72,7 @@ impl Plain {
     }
 
     /// The byte at an address, present or not.
-    pub fn at(&self, address: u64) -> u8
+    pub(crate) fn at(&self, address: u64) -> u8
         requires { address < length self.now.bytes }
         ensures { result ≡ byte_at self.now address }
     {
@@ -81,7 +81,7 @@ impl Plain {
 
     /// Writes the byte at an address.
     #[tactic(auto, using(crate::proofs::PlainLemmas::set_is_put, crate::proofs::PlainLemmas::set_whole))]
-    pub fn set(&mut self, address: u64, byte: u8)
+    pub(crate) fn set(&mut self, address: u64, byte: u8)
         requires { address < length self.old.bytes }
         ensures byte { self.new ≡ put self.old address (byte ∷ []) }
         ensures len { length self.new.bytes ≡ length self.old.bytes }
@@ -91,7 +91,7 @@ impl Plain {
 
     /// How many of `len` bytes from an address on come before the first absent one.
     #[tactic(auto, using(crate::proofs::PlainLemmas::present_bytes_is, crate::proofs::PlainLemmas::present_bytes_stops))]
-    pub fn present_bytes(&self, address: u64, len: u32) -> u32
+    pub(crate) fn present_bytes(&self, address: u64, len: u32) -> u32
         requires { address + len ≤ 2 ^ 64 }
         ensures at_most { result ≤ len }
         ensures value { result ≡ present_bytes self.now address len }

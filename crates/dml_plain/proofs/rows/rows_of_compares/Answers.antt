@@ -1,10 +1,24 @@
-use Rattle.dml_plain.proofs.CompareRows as proof
+use Rattle.std.proofs.Common.{refl}
+use Rattle.dml_types.specs.First.{first}
+use Rattle.dml_types.specs.Memory.{overwrite}
+use Rattle.dml_types.specs.Compare.{compared, compared_pattern}
+use Rattle.dml_types.specs.Delta.{created}
+use Rattle.dml_types.specs.Step.{effect}
+use Rattle.dml_plain.specs.CompareRows as row
 use Rattle.dml_plain.proofs.rows.rows_of_compares.Goals as goal
 
-pub returns : goal.returns
-returns c = record {
-  mismatch_before_fault = proof.mismatch_before_fault;
-  compare_stops_at_page_edge = proof.compare_stops_at_page_edge;
-  expected_results = proof.expected_results;
-  pattern_expected = proof.pattern_expected;
-}
+pub returns-clause-mismatch_before_fault : goal.returns-clause-mismatch_before_fault
+unfolding row.mismatch_before_fault first overwrite compared effect
+returns-clause-mismatch_before_fault c = refl
+
+pub returns-clause-compare_stops_at_page_edge : goal.returns-clause-compare_stops_at_page_edge
+unfolding row.compare_stops_at_page_edge first overwrite compared effect
+returns-clause-compare_stops_at_page_edge c = refl
+
+pub returns-clause-expected_results : goal.returns-clause-expected_results
+unfolding row.expected_results first overwrite compared created effect
+returns-clause-expected_results c = (refl, refl)
+
+pub returns-clause-pattern_expected : goal.returns-clause-pattern_expected
+unfolding row.pattern_expected first overwrite compared_pattern effect
+returns-clause-pattern_expected c = refl

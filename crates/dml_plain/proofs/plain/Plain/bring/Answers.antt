@@ -1,5 +1,5 @@
-use Rattle.std.proofs.Common.{◌≡◌, ◌+◌, ◌*◌, ◌≤◌, length, refl, sym, ◌∙◌, ap, arith}
-use Rattle.dml_types.specs.Memory.{Memory, put}
+use Rattle.std.proofs.Common.{length, refl, sym, ◌∙◌, ap, arith}
+use Rattle.dml_types.specs.Memory.{Memory}
 use Rattle.dml_types.proofs.MemoryLemmas.{put_nil}
 use Rattle.dml_plain.proofs.PlainLemmas.{put_more_at, page_room, page_marked}
 use Rattle.dml_plain.proofs.plain.Plain.bring.Goals as goal

@@ -1,4 +1,4 @@
-use Rattle.std.proofs.Common.{refl, ◌∙◌, arith}
+use Rattle.std.proofs.Common.{refl, ◌∙◌}
 use Rattle.dml_plain.proofs.CopyLemmas.{copied_more, copied_none}
 use Rattle.dml_plain.proofs.plain.Plain.copy.Goals as goal
 

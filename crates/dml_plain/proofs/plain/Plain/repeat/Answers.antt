@@ -1,5 +1,4 @@
-use Rattle.std.proofs.Common.{◌≡◌, ℕ, ◌%◌, List, length, get_or, refl, ap, sym, ◌∙◌, arith}
-use Rattle.dml_types.specs.Memory.{Memory, put}
+use Rattle.std.proofs.Common.{ℕ, ◌%◌, List, get_or, refl, ap, sym, ◌∙◌}
 use Rattle.dml_types.proofs.MemoryLemmas.{put_nil}
 use Rattle.dml_plain.proofs.FillLemmas.{no_pattern_bytes, repeated_more}
 use Rattle.dml_plain.proofs.plain.Plain.repeat.Goals as goal

@@ -37,14 +37,14 @@ impl Plain {
     }
 
     /// Makes a page present with these bytes.
-    pub fn bring(&mut self, page: u32, bytes: &[u8; 4096])
+    pub fn bring(&mut self, page: u32, bytes: &[u8; PAGE_SIZE])
         requires { page < length self.old.present }
         ensures image { self.new ≡ brought self.old page bytes.now }
         ensures pages { length self.new.present ≡ length self.old.present }
     {
         self.present[page as usize] = true;
-        let start = page as u64 * 4096;
-        for i in 0..4096 {
+        let start = page as u64 * PAGE_SIZE as u64;
+        for i in 0..PAGE_SIZE {
             self.set(start + i as u64, bytes[i]);
         }
     }

@@ -3,7 +3,8 @@ use Rattle.std.specs.Prelude.{true, false, [], ◌∷◌}
 use Rattle.dml_types.specs.declared.statuses.Status.TheVariants.{Success, ReadFault, WriteFault, Overlap, DualcastBits, RangePast}
 use Rattle.dml_types.specs.Memory.{put}
 use Rattle.dml_types.specs.Job.{move_job, dualcast_job}
-use Rattle.dml_plain.specs.Row.{hex, image, brought, answer, Answers, Shows, after}
+use Rattle.dml_plain.specs.Plain.{brought}
+use Rattle.dml_plain.specs.Row.{hex, image, page_of, answer, Answers, Shows, after}
 
 -- the destination begins inside the source: the move begins with its last byte, and that one is absent
 unfoldable pub backward_move_into_absent_page : Type 0
@@ -55,4 +56,4 @@ dualcast_write_fault =
 unfoldable pub write_over_page_edge : Type 0
 write_over_page_edge =
     let memory = put (image (true ∷ true ∷ [])) 4094 (hex 4 0x01020304) in
-    Shows (brought memory 0 []) 4094 (hex 4 0x00000304)
+    Shows (brought memory 0 (page_of [])) 4094 (hex 4 0x00000304)

@@ -17,13 +17,9 @@ hex n digits = map (λ i. digits / 256 ^ (n - 1 - i) % 256) (range_with_len 0 n)
 abbrev pub image : List Bool → Memory
 image present = record { present = present; bytes = replicate (page_size * length present) 0 }
 
--- the image after a page was brought with these first bytes and then zeros
-abbrev pub brought : Memory → ℕ → List ℕ → Memory
-brought memory page bytes =
-    record {
-      present = slice_set memory.present page true;
-      bytes = overwrite memory.bytes (page_size * page) (bytes ++ replicate (page_size - length bytes) 0);
-    }
+-- the bytes of a page: these first, and then zeros
+abbrev pub page_of : List ℕ → List ℕ
+page_of bytes = bytes ++ replicate (page_size - length bytes) 0
 
 -- a job with flags; and one whose result is checked
 abbrev pub flagged : Job → ℕ → Job

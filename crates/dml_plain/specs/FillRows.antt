@@ -1,6 +1,7 @@
 -- Worked rows of fill, and of every operation on an image without pages or over an empty range.
-use Rattle.std.specs.Prelude.{true, false, [], ◌∷◌, replicate}
+use Rattle.std.specs.Prelude.{ℕ, true, false, List, [], ◌∷◌, replicate}
 use Rattle.dml_types.specs.declared.statuses.Status.TheVariants.{Success, ReadFault, WriteFault, OffsetRange, BadFlags, BadSize, RangePast}
+use Rattle.dml_types.specs.Memory.{Memory}
 use Rattle.dml_types.specs.Job.{no_op_job, move_job, fill_job, compare_job, create_job, apply_job, dualcast_job}
 use Rattle.dml_plain.specs.Row.{hex, image, flagged, answer, Answers, ShowsCut, after}
 
@@ -25,10 +26,11 @@ empty_ranges =
     Answers (image (true ∷ [])) (apply_job 0 10 256 0 ∷ apply_job 0 0 256 32 ∷ create_job 0 64 0 128 10 ∷ [])
     (answer OffsetRange 0 0 0 0 ∷ answer Success 0 0 0 0 ∷ answer Success 0 0 0 0 ∷ [])
 
--- Scaled: an image of 4 pages, all absent, stands for one of 4,096, whose bytes are too many to compute with here.
+-- 4,096 pages, all absent; what stands for their bytes is never read
 unfoldable pub every_page_absent : Type 0
 every_page_absent =
-    let memory = image (replicate 4 false) in
+    (bytes : List ℕ) →
+    let memory : Memory = record { present = replicate 4096 false; bytes = bytes } in
     let jobs =
     move_job 0 8 16 ∷ fill_job 1 0 8 ∷ compare_job 0 8 8 ∷ create_job 0 64 8 128 10 ∷ apply_job 0 10 256 8
     ∷ dualcast_job 0 4096 8192 8 ∷ no_op_job ∷ [] in

@@ -23,4 +23,4 @@ returns-clause-empty_ranges c = refl
 
 pub returns-clause-every_page_absent : goal.returns-clause-every_page_absent
 unfolding row.every_page_absent first overwrite pattern_bytes moved dualcast filled compared created applied effect
-returns-clause-every_page_absent c = (refl, refl)
+returns-clause-every_page_absent c = λ bytes. (refl, refl)

@@ -3,3 +3,4 @@ pub mod CopyLemmas
 pub mod FillLemmas
 pub mod PlainLemmas
 pub mod RunLemmas
+pub mod CompareRowLemmas

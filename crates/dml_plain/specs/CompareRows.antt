@@ -5,19 +5,17 @@ use Rattle.dml_types.specs.Memory.{put}
 use Rattle.dml_types.specs.Job.{compare_job, compare_pattern_job, create_job}
 use Rattle.dml_plain.specs.Row.{hex, image, checked, answer, Answers}
 
--- The last byte before an absent page differs: the difference decides.
--- Scaled: the two ranges begin 96 bytes before the absent pages, not a page before them.
+-- the last byte before two absent pages differs: the difference decides
 unfoldable pub mismatch_before_fault : Type 0
 mismatch_before_fault =
     let memory = put (image (true ∷ false ∷ true ∷ false ∷ [])) 4095 (hex 1 0x01) in
-    Answers memory (compare_job 4000 12192 4192 ∷ []) (answer Success 1 95 0 0 ∷ [])
+    Answers memory (compare_job 0 8192 8192 ∷ []) (answer Success 1 4095 0 0 ∷ [])
 
--- An absent page of the first range comes before a difference.
--- Scaled: the two ranges begin 96 bytes before the absent page, not a page before it.
+-- an absent page of the first range comes before a difference
 unfoldable pub compare_stops_at_page_edge : Type 0
 compare_stops_at_page_edge =
     let memory = put (image (true ∷ false ∷ true ∷ true ∷ [])) 13192 (hex 1 0x01) in
-    Answers memory (compare_job 4000 12192 4192 ∷ []) (answer ReadFault 0 96 4096 0 ∷ [])
+    Answers memory (compare_job 0 8192 8192 ∷ []) (answer ReadFault 0 4096 4096 0 ∷ [])
 
 -- a compare expects the whole byte, and a create by the bit of its result
 unfoldable pub expected_results : Type 0

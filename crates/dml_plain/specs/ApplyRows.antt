@@ -1,7 +1,7 @@
 -- Worked rows of apply.
-use Rattle.std.specs.Prelude.{true, false, [], ◌∷◌, ◌++◌, replicate}
+use Rattle.std.specs.Prelude.{◌≡◌, ℕ, ◌-◌, ◌*◌, true, false, List, [], ◌∷◌, ◌++◌, length, replicate}
 use Rattle.dml_types.specs.declared.statuses.Status.TheVariants.{Success, NotRising, OffsetRange}
-use Rattle.dml_types.specs.Memory.{put}
+use Rattle.dml_types.specs.Memory.{Memory, put}
 use Rattle.dml_types.specs.Job.{apply_job}
 use Rattle.dml_plain.specs.Row.{hex, image, answer, Answers, Shows, after}
 
@@ -15,16 +15,20 @@ apply_not_rising =
     Answers memory jobs (answer NotRising 0 20 0 0 ∷ [])
     × Shows (after memory jobs) 256 (hex 32 0x1111111111111111000000000000000022222222222222220000000000000000)
 
--- Offset 4 lies behind a destination of 4 blocks; at the largest transfer size no offset does.
--- Scaled: the offset is 0x0fff and the image has 9 pages, of which the last is present, for 0xffff and 129 pages.
+-- Offset 4 lies behind a destination of 4 blocks; at the largest transfer size no offset does. Two entries stand
+-- at the front of 129 pages, of which the first and the last are present; what stands behind them is never read.
 unfoldable pub apply_offset_range : Type 0
 apply_offset_range =
-    let memory =
-    put (put (image (true ∷ replicate 7 false ++ true ∷ [])) 0 (hex 10 0xff0faaaaaaaaaaaaaaaa)) 16
-    (hex 10 0x0400bbbbbbbbbbbbbbbb) in
+    (behind : List ℕ) →
+    length behind ≡ 4096 * 129 - 26 →
+    let memory : Memory =
+    record {
+      present = true ∷ replicate 127 false ++ true ∷ [];
+      bytes = hex 10 0xffffaaaaaaaaaaaaaaaa ++ replicate 6 0 ++ hex 10 0x0400bbbbbbbbbbbbbbbb ++ behind;
+    } in
     let jobs = apply_job 16 10 256 32 ∷ apply_job 0 10 4096 0x80000 ∷ [] in
     Answers memory jobs (answer OffsetRange 0 0 0 0 ∷ answer Success 0 10 0 0 ∷ [])
-    × Shows (after memory jobs) 36856 (hex 8 0xaaaaaaaaaaaaaaaa)
+    × Shows (after memory jobs) 528376 (hex 8 0xaaaaaaaaaaaaaaaa)
 
 -- an entry that does not rise is bad for that, and not for its absent block
 unfoldable pub not_rising_before_fault : Type 0

@@ -1,12 +1,12 @@
 -- The words of the worked rows: an image, a list of jobs, and the records and bytes that come of them. The
 -- rows' files say these by hand, and their proofs compute them by the definitions, on whole pages.
-use Rattle.std.specs.Prelude.{◌≡◌, ℕ, ◌+◌, ◌-◌, ◌*◌, ◌/◌, ◌%◌, ◌^◌, Bool, true, List, ◌++◌, map, length, replicate, slice_set, Option, None, Some, if◌then◌else◌}
+use Rattle.std.specs.Prelude.{◌≡◌, ℕ, ◌+◌, ◌-◌, ◌*◌, ◌/◌, ◌%◌, ◌^◌, Bool, List, ◌++◌, map, length, replicate, Option, None, Some, if◌then◌else◌}
 use Rattle.std.specs.List.{range_with_len}
 use Rattle.dml_types.specs.declared.jobs.Job.{Job}
 use Rattle.dml_types.specs.declared.records.BatchRecord.{BatchRecord}
 use Rattle.dml_types.specs.declared.records.Record.{Record}
 use Rattle.dml_types.specs.declared.statuses.Status.{Status}
-use Rattle.dml_types.specs.Memory.{Memory, page_size, has, byte_at, overwrite}
+use Rattle.dml_types.specs.Memory.{Memory, page_size, has, byte_at}
 use Rattle.dml_types.specs.Step.{memory_after, records_of, batch}
 
 -- the n bytes that a number's hexadecimal digits show, from the left

@@ -1,5 +1,5 @@
 -- The words of the worked rows: an image, a list of jobs, and the records and bytes that come of them. The
--- rows' files say these by hand, and their proofs compute them by the definitions, on whole pages.
+-- rows' files say these by hand; their proofs evaluate the definitions, on whole pages.
 use Rattle.std.specs.Prelude.{◌≡◌, ℕ, ◌+◌, ◌-◌, ◌*◌, ◌/◌, ◌%◌, ◌^◌, Bool, List, ◌++◌, map, length, replicate, Option, None, Some, if◌then◌else◌}
 use Rattle.std.specs.List.{range_with_len}
 use Rattle.dml_types.specs.declared.jobs.Job.{Job}

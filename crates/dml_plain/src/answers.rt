@@ -7,7 +7,7 @@ use dml_types::{Job, Record, Status};
 const CHECK_RESULT: u32 = 0x80;
 
 /// The record of a job that was done to an end.
-pub fn ended(status: Status, outcome: u8, completed: u32) -> Record
+pub(crate) fn ended(status: Status, outcome: u8, completed: u32) -> Record
     ensures { result ≡ ended status outcome completed 0 }
 {
     Record {
@@ -20,7 +20,7 @@ pub fn ended(status: Status, outcome: u8, completed: u32) -> Record
 }
 
 /// The record of a job that an absent byte stopped.
-pub fn faulted(status: Status, address: u64, outcome: u8, completed: u32) -> Record
+pub(crate) fn faulted(status: Status, address: u64, outcome: u8, completed: u32) -> Record
     ensures { result ≡ faulted (record { status = status; address = address }) outcome completed 0 }
 {
     Record {
@@ -33,7 +33,7 @@ pub fn faulted(status: Status, address: u64, outcome: u8, completed: u32) -> Rec
 }
 
 /// The status of a job that came to a result, which is the expected one or not.
-pub fn judged(job: &Job, is_expected: bool) -> Status
+pub(crate) fn judged(job: &Job, is_expected: bool) -> Status
     ensures { result ≡ judged job.now is_expected }
 {
     if job.flags & CHECK_RESULT != CHECK_RESULT || is_expected {

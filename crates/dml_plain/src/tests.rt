@@ -61,9 +61,9 @@ fn assert_bytes(rt: &impl Abort, image: &Plain, address: u64, bytes: &[u8]) {
 
 #[test]
 fn mismatch_before_fault(rt: HostRuntime) -> Result<(), Fail> {
-    let mut image = image_of(&rt, rt.alloc(), 4, &[0, 2], &[(4095, &[0x01])])?;
+    let image = image_of(&rt, rt.alloc(), 4, &[0, 2], &[(4095, &[0x01])])?;
     assert_eq!(rt;
-        image.run(&Job::compare(0, 8192, 8192)),
+        image.compare(&Job::compare(0, 8192, 8192)),
         record(Status::Success, 1, 4095, 0)
     );
     Ok(())
@@ -98,7 +98,7 @@ fn forward_move_over_itself(rt: HostRuntime) -> Result<(), Fail> {
     let back = [0xd0, 0xd1, 0xd2, 0xd3, 0xd4, 0xd5];
     let mut image = image_of(&rt, rt.alloc(), 1, &[0], &[(0, &front), (100, &back)])?;
     assert_eq!(rt;
-        image.run(&Job::move_bytes(4, 0, 100)),
+        image.move_bytes(&Job::move_bytes(4, 0, 100)),
         record(Status::Success, 0, 100, 0)
     );
     assert_bytes(
@@ -122,10 +122,11 @@ fn forward_move_over_itself(rt: HostRuntime) -> Result<(), Fail> {
 fn fill_into_absent_page(rt: HostRuntime) -> Result<(), Fail> {
     let mut image = image_of(&rt, rt.alloc(), 2, &[0], &[])?;
     assert_eq!(rt;
-        image.run(&Job::fill(0x0807060504030201, 4090, 12)),
+        image.fill(&Job::fill(0x0807060504030201, 4090, 12)),
         record(Status::WriteFault, 0, 6, 4096)
     );
     assert_bytes(&rt, &image, 4088, &[0, 0, 1, 2, 3, 4, 5, 6]);
+    assert!(rt; image.has(4095) && !image.has(4096));
     assert_eq!(rt; image.byte(4096), None);
     Ok(())
 }

@@ -1,0 +1,10 @@
+pub mod CompareRows
+pub mod CreateRows
+pub mod ApplyRows
+pub mod FillRows
+pub mod ListRows
+pub mod MoveRows
+pub mod Plain
+pub mod RefusalRows
+pub mod RestRows
+pub mod Row

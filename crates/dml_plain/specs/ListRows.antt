@@ -1,0 +1,54 @@
+-- Worked rows of lists and batches of jobs: staging, conflicts and levels, and a batch's own record.
+use Rattle.std.specs.Prelude.{◌≡◌, ℕ, true, false, [], ◌∷◌, ◌++◌, List, length, replicate}
+use Rattle.dml_types.specs.declared.jobs.Job.{Job}
+use Rattle.dml_types.specs.declared.statuses.Status.TheVariants.{Success, BatchFailed, BadOpcode, BadFlags, BadSize, StagingRefused}
+use Rattle.dml_types.specs.Memory.{put}
+use Rattle.dml_types.specs.Job.{no_op_job, move_job, fill_job}
+use Rattle.dml_types.specs.Conflict.{clash_of, levels_of}
+use Rattle.dml_types.specs.Descriptor.{decoded}
+use Rattle.dml_types.specs.Step.{records_of}
+use Rattle.dml_plain.specs.Row.{hex, image, flagged, answer, Answers, AnswersBatch, Shows, after}
+
+abbrev pub levels : List Job → List ℕ
+levels jobs = levels_of (clash_of jobs) (length jobs)
+
+unfoldable pub batch_with_bad_opcode : Type 0
+batch_with_bad_opcode =
+    AnswersBatch (image (true ∷ []))
+    (fill_job 1 0 8 ∷ decoded (hex 8 0x0000000000000010 ++ replicate 56 0) ∷ fill_job 2 8 8 ∷ [])
+    (answer Success 0 8 0 0 ∷ answer BadOpcode 0 0 0 0 ∷ answer Success 0 8 0 0 ∷ []) BatchFailed 3
+
+-- staging of 64 bytes: each job alone is judged
+unfoldable pub staging_refusal_and_two_waves : Type 0
+staging_refusal_and_two_waves =
+    let jobs = move_job 0 256 64 ∷ move_job 0 512 65 ∷ move_job 0 1024 64 ∷ [] in
+    (records_of (image (true ∷ [])) jobs 64
+    ≡ answer Success 0 64 0 0 ∷ answer StagingRefused 0 0 0 0 ∷ answer Success 0 64 0 0 ∷ [])
+    × (levels jobs ≡ 0 ∷ 0 ∷ 0 ∷ [])
+
+-- the second job reads what the first wrote, and the third writes what the first read
+unfoldable pub conflict_chain : Type 0
+conflict_chain =
+    let memory = put (image (true ∷ [])) 0 (hex 8 0x0102030405060708) in
+    let jobs = move_job 0 64 16 ∷ move_job 64 128 16 ∷ fill_job 0xffffffffffffffff 0 16 ∷ [] in
+    Answers memory jobs (answer Success 0 16 0 0 ∷ answer Success 0 16 0 0 ∷ answer Success 0 16 0 0 ∷ [])
+    × Shows (after memory jobs) 0 (hex 8 0xffffffffffffffff)
+    × Shows (after memory jobs) 64 (hex 8 0x0102030405060708)
+    × Shows (after memory jobs) 128 (hex 8 0x0102030405060708)
+    × (levels jobs ≡ 0 ∷ 1 ∷ 1 ∷ [])
+
+unfoldable pub levels_of_four_jobs : Type 0
+levels_of_four_jobs =
+    levels (fill_job 1 0 8 ∷ move_job 0 64 8 ∷ fill_job 2 512 8 ∷ move_job 512 0 8 ∷ []) ≡ 0 ∷ 1 ∷ 0 ∷ 2 ∷ []
+
+-- flags are judged before the size; an empty range of absent bytes is no fault; an empty batch is a success
+unfoldable pub flags_before_size : Type 0
+flags_before_size =
+    let memory = image (false ∷ []) in
+    Answers memory (flagged (move_job 0 0 1048577) 0x10 ∷ move_job 0 0 1048577 ∷ move_job 0 0 0 ∷ flagged no_op_job 1 ∷ [])
+    (answer BadFlags 0 0 0 0 ∷ answer BadSize 0 0 0 0 ∷ answer Success 0 0 0 0 ∷ answer BadFlags 0 0 0 0 ∷ [])
+    × AnswersBatch memory [] [] Success 0
+
+-- a fence is refused, in a batch too
+unfoldable pub fence_in_batch : Type 0
+fence_in_batch = AnswersBatch (image (false ∷ [])) (flagged no_op_job 1 ∷ []) (answer BadFlags 0 0 0 0 ∷ []) BatchFailed 1

@@ -13,8 +13,8 @@ use Rattle.dml_desc.specs.Checked.{CheckedWithinLimits, IsChecked, KeepsRules, L
 use Rattle.dml_types.specs.Job.{op_of}
 use Rattle.dml_types.specs.Range.{span, shares, is_past}
 use Rattle.dml_types.specs.Refusal.{first_broken, has_bad_flags, refusal, refusal_under, need, need_of}
-use Rattle.dml_types.specs.RefusalLaws.{BreaksNone}
-use Rattle.dml_types.proofs.RefusalLemmas.{accepted_where_none_broken}
+use Rattle.dml_desc.specs.RefusalLaws.{BreaksNone}
+use Rattle.dml_desc.proofs.RefusalLemmas.{accepted_where_none_broken}
 
 -- the staging that an operation, if there is one, needs for a job
 abbrev staging_under : Option Op → Job → ℕ

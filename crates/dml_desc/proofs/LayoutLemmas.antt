@@ -15,7 +15,7 @@ use Rattle.std.proofs.lemmas.Bool.Decides.{nat_tests}
 use Rattle.dml_types.specs.declared.jobs.Job.{Job}
 use Rattle.dml_types.specs.declared.operations.Op.{Op}
 use Rattle.dml_types.specs.declared.operations.Op.TheVariants.{NoOp, Move, Fill, Compare, ComparePattern, CreateDelta, ApplyDelta, Dualcast}
-use Rattle.dml_types.specs.Descriptor.{common_fields, with_own_fields, decoded, bytes_of_record, bytes_of_batch}
+use Rattle.dml_desc.specs.Descriptor.{common_fields, with_own_fields, decoded, bytes_of_record, bytes_of_batch}
 use Rattle.dml_types.specs.Job.{op_of, plain}
 use Rattle.dml_desc.specs.Laws.{common, own, RecordHasItsFields, BatchHasItsFields, DecodedByMeaning, has_meaning}
 

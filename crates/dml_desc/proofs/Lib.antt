@@ -1,2 +1,3 @@
 pub mod CheckedLemmas
 pub mod LayoutLemmas
+pub mod RefusalLemmas

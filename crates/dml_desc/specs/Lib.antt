@@ -1,3 +1,5 @@
 pub mod Checked
+pub mod Descriptor
 pub mod Laws
 pub mod Operation
+pub mod RefusalLaws

@@ -1,5 +1,5 @@
 ghost use Rattle.std.specs.Prelude.{◌≡◌};
-ghost use Rattle.dml_types.specs.Descriptor.{bytes_of_record, bytes_of_batch};
+ghost use Rattle.dml_desc.specs.Descriptor.{bytes_of_record, bytes_of_batch};
 
 use byteorder::{ByteOrder, LittleEndian};
 use dml_types::{BatchRecord, Record};

@@ -1,5 +1,5 @@
 ghost use Rattle.std.specs.Prelude.{◌≡◌, ◌+◌, ◌≤◌};
-ghost use Rattle.dml_types.specs.Descriptor as layout;
+ghost use Rattle.dml_desc.specs.Descriptor as layout;
 
 use byteorder::{ByteOrder, LittleEndian};
 use dml_types::{Job, Op};
@@ -36,8 +36,8 @@ fn common_fields(bytes: &[u8; 64]) -> Job
     }
 }
 
-#[tactic(auto, unfolding(dml_types::specs::Descriptor::decoded))]
 /// The job of a descriptor. What its operation does not use is read past.
+#[tactic(auto, unfolding(crate::specs::Descriptor::decoded))]
 pub fn decode(bytes: &[u8; 64]) -> Job
     ensures { result ≡ layout.decoded bytes.now }
 {

@@ -9,12 +9,14 @@ mod checks;
 mod completions;
 mod descriptors;
 mod laws;
+mod refusal_laws;
 mod rules;
 
 pub use checks::{Checked, check, need};
 pub use completions::{batch_bytes, record_bytes};
 pub use descriptors::decode;
 pub use laws::{law_of_checked_jobs, law_of_descriptors, law_of_records};
+pub use refusal_laws::law_of_refusals;
 
 #[cfg(test)]
 mod tests;

@@ -1,5 +1,4 @@
 pub mod FirstLemmas
 pub mod MemoryLemmas
 pub mod MoveLemmas
-pub mod RefusalLemmas
 pub mod StepLemmas

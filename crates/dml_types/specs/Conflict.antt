@@ -1,5 +1,5 @@
 -- Which jobs of a list have to wait for earlier ones.
-use Rattle.std.specs.Prelude.{unwrap_or, option_map, ℕ, zero, suc, ◌+◌, max, Bool, ◌||◌, List, [], ◌∷◌, ◌++◌, map, filter, slice_index, slice_index_or}
+use Rattle.std.specs.Prelude.{fold, unwrap_or, option_map, ℕ, zero, suc, ◌+◌, max, Bool, ◌||◌, List, [], ◌∷◌, ◌++◌, map, filter, slice_index, slice_index_or}
 use Rattle.dml_types.specs.Types.{Job, Span, range_with_len}
 use Rattle.dml_types.specs.Job.{op_of, no_op_job}
 use Rattle.dml_types.specs.Range.{any_shares, reads, writes}
@@ -23,13 +23,9 @@ job_at jobs i = slice_index_or jobs i no_op_job
 abbrev pub clash_of : List Job → ℕ → ℕ → Bool
 clash_of jobs i k = conflict (job_at jobs i) (job_at jobs k)
 
-abbrev pub greatest : List ℕ → ℕ
-greatest [] = 0
-greatest (x ∷ xs) = max x (greatest xs)
-
 -- one more than the greatest level of an earlier job that job i clashes with, and 0 where there is none
 abbrev pub level_over : (ℕ → ℕ → Bool) → List ℕ → ℕ → ℕ
-level_over clash levels i = greatest (map (λ k. slice_index levels k + 1) (filter (λ k. clash k i) (range_with_len 0 i)))
+level_over clash levels i = fold max 0 (map (λ k. slice_index levels k + 1) (filter (λ k. clash k i) (range_with_len 0 i)))
 
 -- the levels of the first n jobs
 abbrev pub levels_of : (ℕ → ℕ → Bool) → ℕ → List ℕ

@@ -2,7 +2,7 @@
 -- image as it stood before the job.
 use Rattle.std.specs.Prelude.{ℕ, Bool, not, ◌||◌, List, [], find, unwrap_or, if◌then◌else◌, ◌==◌}
 use Rattle.dml_types.specs.Types.{Job, Record, Status, Success, FalsePredicate, ReadFault, WriteFault, list_all}
-use Rattle.dml_types.specs.Flags.{check_result, has_flags}
+use Rattle.dml_types.specs.Flags.{has_flags}
 use Rattle.dml_types.specs.Memory.{Memory, Put, has}
 
 pub record Effect : Type 0 where
@@ -38,9 +38,9 @@ is_clear memory faults = list_all (λ fault. has memory fault.address) faults
 abbrev pub first_fault : Memory → List Fault → Fault
 first_fault memory faults = unwrap_or (find (λ fault. not (has memory fault.address)) faults) (read_fault 0)
 
--- the status of a job that ended with a result which is the expected one, or not
+-- the status of a job that ended with a result which is the expected one, or not: the flag 0x80 asks for a check
 abbrev pub judged : Job → Bool → Status
-judged job is_expected = if not (has_flags job.flags check_result) || is_expected then Success else FalsePredicate
+judged job is_expected = if not (has_flags job.flags 0x80) || is_expected then Success else FalsePredicate
 
 -- a refused job
 abbrev pub refused : Status → Effect

@@ -12,9 +12,6 @@ flag_table =
 abbrev pub accepted_flags : ℕ
 accepted_flags = 0x18E
 
-abbrev pub check_result : ℕ
-check_result = 0x80
-
 -- whether flags have each bit of a mask
 abbrev pub has_flags : ℕ → ℕ → Bool
 has_flags flags mask = nat_eq (bit_and flags mask) mask

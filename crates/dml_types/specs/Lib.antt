@@ -3,7 +3,6 @@ pub mod Compare
 pub mod Conflict
 pub mod Copy
 pub mod Delta
-pub mod Descriptor
 pub mod Effect
 pub mod First
 pub mod Flags
@@ -12,7 +11,6 @@ pub mod Memory
 pub mod Pattern
 pub mod Range
 pub mod Refusal
-pub mod RefusalLaws
 pub mod Rest
 pub mod Settings
 pub mod Status

@@ -11,7 +11,6 @@ mod laws;
 mod limits;
 mod operations;
 mod records;
-mod refusal_laws;
 mod spans;
 mod statuses;
 
@@ -22,6 +21,5 @@ pub use laws::{law_of_first, law_of_folds, law_of_moves, law_of_puts, law_of_ste
 pub use limits::Settings;
 pub use operations::{Direction, Op};
 pub use records::{BatchRecord, Record};
-pub use refusal_laws::law_of_refusals;
 pub use spans::Span;
 pub use statuses::Status;

@@ -1,7 +1,12 @@
 -- The 64 bytes of a descriptor and the 32 of a completion record, with the layout of `linux/idxd.h`. All numbers
 -- are little-endian.
 use Rattle.std.specs.Prelude.{ℕ, ◌+◌, ◌%◌, ◌^◌, List, ◌∷◌, ◌++◌, Option, Some, replicate, slice_index, slice_range}
-use Rattle.dml_types.specs.Types.{Job, Op, Compare, ComparePattern, CreateDelta, ApplyDelta, Dualcast, Record, BatchRecord, from_le_bytes, to_le_bytes, w32, w64}
+use Rattle.std.specs.Int.{from_le_bytes, to_le_bytes, w32, w64}
+use Rattle.dml_types.specs.declared.jobs.Job.{Job}
+use Rattle.dml_types.specs.declared.operations.Op.{Op}
+use Rattle.dml_types.specs.declared.operations.Op.TheVariants.{Compare, ComparePattern, CreateDelta, ApplyDelta, Dualcast}
+use Rattle.dml_types.specs.declared.records.BatchRecord.{BatchRecord}
+use Rattle.dml_types.specs.declared.records.Record.{Record}
 use Rattle.dml_types.specs.Job.{plain, op_of}
 use Rattle.dml_types.specs.Status.{code_of}
 

@@ -1,6 +1,9 @@
 -- That a job is answered by one status at most, and that it is the one of the first rule which the job breaks.
 use Rattle.std.specs.Prelude.{◌≡◌, ◌↔◌, ◌⊎◌, ℕ, ◌<◌, Bool, true, false, List, None, Some, IfSome, slice_get}
-use Rattle.dml_types.specs.Types.{Job, Op, Status, BadOpcode}
+use Rattle.dml_types.specs.declared.jobs.Job.{Job}
+use Rattle.dml_types.specs.declared.operations.Op.{Op}
+use Rattle.dml_types.specs.declared.statuses.Status.{Status}
+use Rattle.dml_types.specs.declared.statuses.Status.TheVariants.{BadOpcode}
 use Rattle.dml_types.specs.Job.{op_of}
 use Rattle.dml_types.specs.Refusal.{rules_of, refusal}
 

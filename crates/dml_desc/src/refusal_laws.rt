@@ -1,4 +1,4 @@
-ghost use Rattle.dml_types.specs.RefusalLaws.{RefusedByFirstBroken, AcceptedWhereNoneBroken, OneStatusAtMost};
+ghost use Rattle.dml_desc.specs.RefusalLaws.{RefusedByFirstBroken, AcceptedWhereNoneBroken, OneStatusAtMost};
 
 /// The laws about refusals: a job is answered by the status of the first rule that it breaks, by none where it
 /// breaks no rule, and never by two.

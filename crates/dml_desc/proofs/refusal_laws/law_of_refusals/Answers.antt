@@ -1,5 +1,5 @@
-use Rattle.dml_types.proofs.RefusalLemmas.{refused_by_first_broken, accepted_where_none_broken, one_status_at_most}
-use Rattle.dml_types.proofs.refusal_laws.law_of_refusals.Goals as goal
+use Rattle.dml_desc.proofs.RefusalLemmas.{refused_by_first_broken, accepted_where_none_broken, one_status_at_most}
+use Rattle.dml_desc.proofs.refusal_laws.law_of_refusals.Goals as goal
 
 pub returns-clause-refused : goal.returns-clause-refused
 returns-clause-refused c = refused_by_first_broken

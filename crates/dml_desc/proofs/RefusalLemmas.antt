@@ -2,10 +2,12 @@
 use Rattle.std.proofs.Common.{◌≡◌, ℕ, zero, suc, ◌<◌, Bool, true, false, List, [], ◌∷◌, Option, None, Some, refl, sym, ap, subst, ◌∙◌, inl, inr, arith}
 use Rattle.std.specs.Prelude.{slice_get}
 use Rattle.std.specs.Option.{option_map}
-use Rattle.dml_types.specs.Types.{Job, Op, Status}
+use Rattle.dml_types.specs.declared.jobs.Job.{Job}
+use Rattle.dml_types.specs.declared.operations.Op.{Op}
+use Rattle.dml_types.specs.declared.statuses.Status.{Status}
 use Rattle.dml_types.specs.Job.{op_of}
 use Rattle.dml_types.specs.Refusal.{rules_of, first_broken, refusal_under}
-use Rattle.dml_types.specs.RefusalLaws.{IsKept, IsFirstBroken, BreaksNone, IsRefusedBy, RefusedByFirstBroken, AcceptedWhereNoneBroken, OneStatusAtMost}
+use Rattle.dml_desc.specs.RefusalLaws.{IsKept, IsFirstBroken, BreaksNone, IsRefusedBy, RefusedByFirstBroken, AcceptedWhereNoneBroken, OneStatusAtMost}
 
 -- the status that a list of rules gives is that of the first broken one
 first_broken_is : (rules : List (Bool × Status)) (status : Status) → first_broken rules ≡ Some status → IsFirstBroken rules status

@@ -87,9 +87,7 @@ pub fn check(job: &Job, staging: u32) -> Result<Checked, Status>
     refuse_if(rules::has_dualcast_bits(op, job), Status::DualcastBits)?;
     refuse_if(rules::has_overlap(op, job), Status::Overlap)?;
     refuse_if(rules::has_range_past(op, job), Status::RangePast)?;
-    refuse_if(
-        need_for(op, job) > u64::from(staging),
-        Status::StagingRefused,
-    )?;
+    let exceeds = need_for(op, job) > u64::from(staging);
+    refuse_if(exceeds, Status::StagingRefused)?;
     Ok(Checked { job: *job, op })
 }

@@ -5,7 +5,7 @@ use Rattle.dml_types.specs.declared.statuses.Status.TheVariants.{Success, BatchF
 use Rattle.dml_types.specs.Memory.{put}
 use Rattle.dml_types.specs.Job.{no_op_job, move_job, fill_job}
 use Rattle.dml_types.specs.Conflict.{clash_of, levels_of}
-use Rattle.dml_types.specs.Descriptor.{decoded}
+use Rattle.dml_desc.specs.Descriptor.{decoded}
 use Rattle.dml_types.specs.Step.{records_of}
 use Rattle.dml_plain.specs.Row.{hex, image, flagged, answer, Answers, AnswersBatch, Shows, after}
 

@@ -3,7 +3,7 @@ use Rattle.std.specs.Prelude.{true, false, [], ◌∷◌}
 use Rattle.dml_types.specs.declared.statuses.Status.TheVariants.{Success, ReadFault, WriteFault, Overlap, DualcastBits, RangePast}
 use Rattle.dml_types.specs.Memory.{put}
 use Rattle.dml_types.specs.Job.{move_job, dualcast_job}
-use Rattle.dml_plain.specs.Plain.{brought}
+use Rattle.dml_image.specs.Brought.{brought}
 use Rattle.dml_plain.specs.Row.{hex, image, page_of, answer, Answers, Shows, after}
 
 -- the destination begins inside the source: the move begins with its last byte, and that one is absent

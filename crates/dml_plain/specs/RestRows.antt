@@ -4,7 +4,7 @@ use Rattle.dml_types.specs.declared.statuses.Status.TheVariants.{Success, ReadFa
 use Rattle.dml_types.specs.Memory.{put}
 use Rattle.dml_types.specs.Job.{move_job, fill_job, compare_job, create_job}
 use Rattle.dml_types.specs.Rest.{rest}
-use Rattle.dml_plain.specs.Plain.{brought}
+use Rattle.dml_image.specs.Brought.{brought}
 use Rattle.dml_plain.specs.Row.{hex, image, page_of, answer, Answers, Shows, after}
 
 -- the pattern of the rest is turned

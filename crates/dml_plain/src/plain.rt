@@ -1,6 +1,6 @@
 ghost use Rattle.std.specs.Prelude.{◌≡◌, ℕ, ◌+◌, ◌*◌, ◌^◌, ◌<◌, ◌≤◌, true, [], ◌∷◌, length, IfOk, Some, None, if◌then◌else◌};
 ghost use Rattle.dml_types.specs.Memory.{has, byte_at, present_bytes, put};
-ghost use Rattle.dml_plain.specs.Plain.{all_absent, brought};
+ghost use Rattle.dml_image.specs.Brought.{all_absent, brought};
 
 use std::alloc::{AllocError, Global};
 use std::marker::Model;

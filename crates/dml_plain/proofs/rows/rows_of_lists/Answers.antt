@@ -4,7 +4,7 @@ use Rattle.dml_types.specs.Memory.{overwrite}
 use Rattle.dml_types.specs.Pattern.{pattern_bytes}
 use Rattle.dml_types.specs.Copy.{moved, filled}
 use Rattle.dml_types.specs.Step.{effect}
-use Rattle.dml_types.specs.Descriptor.{decoded}
+use Rattle.dml_desc.specs.Descriptor.{decoded}
 use Rattle.dml_plain.specs.ListRows as row
 use Rattle.dml_plain.proofs.rows.rows_of_lists.Goals as goal
 

@@ -1,0 +1,6 @@
+pub mod Faults
+pub mod Grammar
+pub mod Number
+pub mod Reads
+pub mod Table
+pub mod Text

@@ -1,13 +1,38 @@
 -- What the functions of the reader answer.
-use Rattle.std.specs.Prelude.{◌≡◌, List, Option, Some, None, Result, Ok, Err}
+use Rattle.std.specs.Prelude.{◌≡◌, ℕ, Bool, List, map, Option, Some, None, Result, Ok, Err}
+use Rattle.std.specs.Borrow.{Bor}
+use Rattle.dml_script.specs.declared.table.Slot.{Slot}
+use Rattle.dml_script.specs.declared.entries.Values.{Values}
 use Rattle.dml_script.specs.declared.faults.Kind.{Kind}
 use Rattle.dml_script.specs.declared.faults.ScriptFault.{ScriptFault}
 use Rattle.dml_script.specs.declared.faults.ScriptError.{ScriptError}
 use Rattle.dml_script.specs.declared.faults.ScriptError.TheVariants as scripts
+use Rattle.dml_script.specs.declared.faults.ReadError.{ReadError}
+use Rattle.dml_script.specs.declared.faults.ReadError.TheVariants as errors
 use Rattle.dml_script.specs.declared.lines.Line.{Line}
+use Rattle.dml_script.specs.Grammar as grammar
 
 -- the lines of a script, its first fault, or want of memory
 abbrev pub Reads : Result (List Line) ScriptError → Result (List Line) ScriptFault → Type 0
 Reads (Ok lines) parsed = parsed ≡ Ok lines
 Reads (Err scripts.NoMemory) parsed = Unit {0}
 Reads (Err (scripts.Fault fault)) parsed = parsed ≡ Err fault
+
+-- the first fault of a line that was looked for, or want of memory
+abbrev pub Fails : ReadError → Option Kind → Type 0
+Fails errors.NoMemory found = Unit {0}
+Fails (errors.Fault kind) found = found ≡ Some kind
+
+-- the words of entries, behind their references
+abbrev pub word_seen : Option (Bor (List ℕ)) → Option (List ℕ)
+word_seen None = None
+word_seen (Some word) = Some word.now
+
+abbrev pub entries_seen : List (Slot × Option (Bor (List ℕ))) → List (Slot × Option (List ℕ))
+entries_seen entries = map (λ e. (e.0, word_seen e.1)) entries
+
+abbrev pub values_seen : Values → grammar.Values
+values_seen values = record { numbers = values.numbers.items; bytes = values.bytes.items }
+
+abbrev pub faults_in : List (Slot × Option (Bor (List ℕ))) → List (Bool × Kind)
+faults_in entries = map (λ e. grammar.slot_fault e.0 e.1) (entries_seen entries)

@@ -3,6 +3,7 @@
 ghost use Rattle.std.specs.Prelude.{◌≡◌};
 ghost use Rattle.dml_script.specs.Faults.{text_of};
 
+use std::alloc::AllocError;
 use thiserror::Error;
 
 /// What is wrong with a line, in the order in which faults are looked for.
@@ -61,5 +62,25 @@ pub fn fault_text(kind: Kind) -> &'static str
         Kind::BadNumber => "not a number of the right size",
         Kind::BadHex => "not hexadecimal text of the right length",
         Kind::BadRange => "out of range",
+    }
+}
+
+/// Why a line was not read.
+#[derive(Clone, Copy, PartialEq, Eq, Debug)]
+pub(crate) enum ReadError {
+    /// The line's first fault.
+    Fault(Kind),
+    /// Want of memory.
+    NoMemory,
+}
+
+impl From<AllocError> for ReadError {
+    ghost use Rattle.std.specs.Prelude.{◌≡◌};
+    ghost use Rattle.dml_script.specs.declared.faults.ReadError.TheVariants.{NoMemory};
+
+    ghost from_gives = { λ _ e. e ≡ NoMemory };
+
+    fn from(_error: AllocError) -> ReadError {
+        ReadError::NoMemory
     }
 }

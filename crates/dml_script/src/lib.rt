@@ -1,8 +1,10 @@
 //! Scripts of data mover jobs: the reader of their text.
 #![tactic(auto)]
 
+mod entries;
 mod faults;
 mod lines;
+mod numbers;
 mod table;
 mod words;
 

@@ -4,3 +4,4 @@ pub mod Number
 pub mod Reads
 pub mod Table
 pub mod Text
+pub mod Tracks

@@ -1,5 +1,5 @@
 -- What the functions of the reader answer.
-use Rattle.std.specs.Prelude.{◌≡◌, ℕ, Bool, List, map, Option, Some, None, Result, Ok, Err}
+use Rattle.std.specs.Prelude.{◌≡◌, ◌<◌, ◌≤◌, ℕ, Bool, List, [], length, map, Option, Some, None, Result, Ok, Err}
 use Rattle.std.specs.Borrow.{Bor}
 use Rattle.dml_script.specs.declared.table.Slot.{Slot}
 use Rattle.dml_script.specs.declared.entries.Values.{Values}
@@ -10,6 +10,9 @@ use Rattle.dml_script.specs.declared.faults.ScriptError.TheVariants as scripts
 use Rattle.dml_script.specs.declared.faults.ReadError.{ReadError}
 use Rattle.dml_script.specs.declared.faults.ReadError.TheVariants as errors
 use Rattle.dml_script.specs.declared.lines.Line.{Line}
+use Rattle.dml_script.specs.declared.lines.Line.TheVariants as line
+use Rattle.dml_script.specs.declared.table.Word.{Word}
+use Rattle.dml_script.specs.declared.table.Word.TheVariants as word
 use Rattle.dml_script.specs.Grammar as grammar
 
 -- the lines of a script, its first fault, or want of memory
@@ -36,3 +39,29 @@ values_seen values = record { numbers = values.numbers.items; bytes = values.byt
 
 abbrev pub faults_in : List (Slot × Option (Bor (List ℕ))) → List (Bool × Kind)
 faults_in entries = map (λ e. grammar.slot_fault e.0 e.1) (entries_seen entries)
+
+-- a line that may come next: an image of few pages at the start, a page of the image
+abbrev pub IsNext : List Line → Line → Type 0
+IsNext before (line.Image pages) = (before ≡ []) × (pages ≤ 4096)
+IsNext before (line.Page page bytes) = page < grammar.pages_of before
+IsNext before (line.Poke address bytes) = Unit {0}
+IsNext before (line.Job job) = Unit {0}
+IsNext before (line.Show address len) = Unit {0}
+
+-- values that fit their fields
+abbrev pub HasSizes : Word → grammar.Values → Type 0
+HasSizes word.Image v = Unit {0}
+HasSizes word.Page v = Unit {0}
+HasSizes word.Poke v = length v.bytes ≤ 4096
+HasSizes word.NoOp v = grammar.number_at v 0 ≤ 0xffffff
+HasSizes word.Fill v = (grammar.number_at v 2 ≤ 0xffff_ffff) × (grammar.number_at v 3 ≤ 0xffffff)
+HasSizes word.Show v = Unit {0}
+
+-- what a reader of one line answers: a line or none, or why it failed
+abbrev pub verdict_from : Option Line → grammar.Verdict
+verdict_from None = grammar.Skipped
+verdict_from (Some found) = grammar.Fine found
+
+abbrev pub Condemns : ReadError → grammar.Verdict → Type 0
+Condemns errors.NoMemory verdict = Unit {0}
+Condemns (errors.Fault kind) verdict = verdict ≡ grammar.Faulty kind

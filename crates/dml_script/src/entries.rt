@@ -69,6 +69,7 @@ pub fn fit<'a>(parts: &[Part], line: &'a [u8]) -> Option<ArrayVec<Entry<'a>, MOS
 }
 
 /// What the words of a line write: the number of each entry, and the bytes of the hexadecimal one.
+#[derive(Drop)]
 pub struct Values {
     pub numbers: ArrayVec<Option<u64>, MOST_PARTS>,
     pub bytes: Vec<u8>,

@@ -3,8 +3,10 @@
 
 mod entries;
 mod faults;
+mod judge;
 mod lines;
 mod numbers;
+mod reading;
 mod table;
 mod words;
 

@@ -1,0 +1,103 @@
+//! One line of text: skipped, read, or faulty.
+
+ghost use Rattle.std.specs.Prelude.{◌≡◌, ◌≤◌, [], IfOk, IfErr, IfSome, OnOk, Some, None, true, false};
+ghost use Rattle.std.specs.List.{list_all};
+ghost use Rattle.dml_script.specs.Grammar as grammar;
+ghost use Rattle.dml_script.specs.Reads.{Condemns, Fails, HasSizes, IsNext, entries_seen, values_seen, verdict_from};
+ghost use Rattle.dml_script.specs.Table.{parts_in};
+ghost use Rattle.dml_script.specs.Text as text_spec;
+
+use crate::entries::{Values, fit, read_entries};
+use crate::faults::{Kind, ReadError};
+use crate::lines::{Bytes, Line};
+use crate::reading::Reading;
+use crate::table::{Word, parts_of, word_of};
+use crate::words::next_word;
+use dml_types::Job;
+use std::alloc::Global;
+
+/// The most bytes of a line.
+const LONGEST_LINE: usize = 16_384;
+
+/// Whether all bytes are tabs or from the space to the tilde.
+fn is_text(text: &[u8]) -> bool
+    ensures { result ≡ list_all text_spec.is_text text.now }
+{
+    text.iter().all(|c| *c == b'\t' || (b' '..=b'~').contains(c))
+}
+
+/// Whether the first byte of a word is `#`.
+fn is_comment(first: &[u8]) -> bool
+    ensures { result ≡ grammar.is_comment first.now }
+{
+    matches!(first, [b'#', ..])
+}
+
+/// The number of an entry, or 0 where its word was left out.
+fn number_at(values: &Values, place: usize) -> u64
+    ensures { result ≡ grammar.number_at (values_seen values.now) place }
+{
+    match values.numbers.get(place) {
+        Some(Some(number)) => *number,
+        _ => 0,
+    }
+}
+
+/// Whether a line's numbers are out of range.
+fn is_out_of_range(word: Word, values: &Values, reading: &Reading) -> bool
+    requires { HasSizes word (values_seen values.now) }
+    ensures { result ≡ grammar.is_out_of_range word (values_seen values.now) reading.now }
+{
+    let first = number_at(values, 0);
+    match word {
+        Word::Image => !(1..=4096).contains(&first),
+        Word::Page => !reading.has_page(first),
+        Word::Poke => !reading.has_bytes(first, values.bytes.len()),
+        Word::NoOp | Word::Fill => false,
+        Word::Show => {
+            let len = number_at(values, 1);
+            !(1..=65_536).contains(&len) || u128::from(first) + u128::from(len) > 1 << 64
+        }
+    }
+}
+
+/// The line of values that are in range.
+fn line_of(word: Word, values: Values, reading: &Reading) -> Line
+    requires sizes { HasSizes word (values_seen values) }
+    requires range { grammar.is_out_of_range word (values_seen values) reading.now ≡ false }
+    ensures line { result ≡ grammar.line_of word (values_seen values) }
+{
+    let first = number_at(&values, 0);
+    match word {
+        Word::Image => Line::Image { pages: first as u32 },
+        Word::Page => {
+            let _within = reading.has_page(first);
+            Line::Page { page: first as u32, bytes: Bytes { list: values.bytes } }
+        }
+        Word::Poke => Line::Poke { addr: first, bytes: Bytes { list: values.bytes } },
+        Word::NoOp => Line::Job(Job::no_op().with_flags(first as u32)),
+        Word::Fill => {
+            let job = Job::fill(first, number_at(&values, 1), number_at(&values, 2) as u32);
+            Line::Job(job.with_flags(number_at(&values, 3) as u32))
+        }
+        Word::Show => Line::Show { addr: first, len: number_at(&values, 1) as u32 },
+    }
+}
+
+/// The line of a known first word that may stand here, of the words after it.
+fn read_words(alloc: Global, reading: &Reading, word: Word, rest: &[u8]) -> Result<Line, ReadError>
+    requires { grammar.is_image word ≡ true → reading.now ≡ [] }
+    ensures fine { OnOk result (grammar.first_of (grammar.entry_faults word (grammar.fitted (parts_in word) (text_spec.words rest.now)) reading.now) ≡ None) }
+    ensures line { IfOk result (λ line. grammar.line_in (Some word) (text_spec.words rest.now) ≡ grammar.Fine line) }
+    ensures next { IfOk result (λ line. IsNext reading.now line) }
+    ensures err { IfErr result (λ e. Fails e (grammar.first_of (grammar.entry_faults word (grammar.fitted (parts_in word) (text_spec.words rest.now)) reading.now))) }
+{
+    let Some(entries) = fit(parts_of(word), rest) else {
+        return Err(ReadError::Fault(Kind::WrongWords));
+    };
+    let values = read_entries(alloc, entries.as_slice())?;
+    if is_out_of_range(word, &values, reading) {
+        return Err(ReadError::Fault(Kind::BadRange));
+    }
+    Ok(line_of(word, values, reading))
+}

@@ -138,12 +138,16 @@ is_image word.NoOp = false
 is_image word.Fill = false
 is_image word.Show = false
 
+-- the first line is the `image` line, and the only one
+abbrev pub place_faults : Word → List Line → List (Bool × Kind)
+place_faults first before =
+    (nat_eq (length before) 0 && not (is_image first), MissingImage)
+    ∷ (nat_lt 0 (length before) && is_image first, SecondImage) ∷ []
+
 abbrev pub word_faults : Option Word → List (List ℕ) → List Line → List (Bool × Kind)
 word_faults None after before = (true, UnknownWord) ∷ []
 word_faults (Some first) after before =
-    (nat_eq (length before) 0 && not (is_image first), MissingImage)
-    ∷ (nat_lt 0 (length before) && is_image first, SecondImage)
-    ∷ entry_faults first (fitted (parts_in first) after) before
+    place_faults first before ++ entry_faults first (fitted (parts_in first) after) before
 
 abbrev pub faults_of : List ℕ → List ℕ → List (List ℕ) → List Line → List (Bool × Kind)
 faults_of text first after before =

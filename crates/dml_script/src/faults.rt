@@ -48,6 +48,17 @@ pub enum ScriptError {
     NoMemory,
 }
 
+impl From<AllocError> for ScriptError {
+    ghost use Rattle.std.specs.Prelude.{◌≡◌};
+    ghost use Rattle.dml_script.specs.declared.faults.ScriptError.TheVariants.{NoMemory};
+
+    ghost from_gives = { λ _ e. e ≡ NoMemory };
+
+    fn from(_error: AllocError) -> ScriptError {
+        ScriptError::NoMemory
+    }
+}
+
 /// What a kind of fault is called.
 pub fn fault_text(kind: Kind) -> &'static str
     ensures { result.now ≡ text_of kind }

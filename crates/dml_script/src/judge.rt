@@ -1,10 +1,10 @@
 //! One line of text: skipped, read, or faulty.
 
-ghost use Rattle.std.specs.Prelude.{◌≡◌, ◌≤◌, [], IfOk, IfErr, IfSome, OnOk, Some, None, true, false};
+ghost use Rattle.std.specs.Prelude.{◌≡◌, [], IfOk, IfErr, IfSome, OnOk, Some, None, true, false};
 ghost use Rattle.std.specs.List.{list_all};
 ghost use Rattle.dml_script.specs.Grammar as grammar;
 ghost use Rattle.dml_script.specs.Reads.{Condemns, Fails, HasSizes, IsNext, entries_seen, values_seen, verdict_from};
-ghost use Rattle.dml_script.specs.Table.{parts_in};
+ghost use Rattle.dml_script.specs.Table.{parts_in, word_with};
 ghost use Rattle.dml_script.specs.Text as text_spec;
 
 use crate::entries::{Values, fit, read_entries};
@@ -100,4 +100,56 @@ fn read_words(alloc: Global, reading: &Reading, word: Word, rest: &[u8]) -> Resu
         return Err(ReadError::Fault(Kind::BadRange));
     }
     Ok(line_of(word, values, reading))
+}
+
+/// Whether a first word may not stand here: the first line is the `image` line, and the only one.
+fn misplaced(word: Word, reading: &Reading) -> Option<Kind>
+    ensures kind { result ≡ grammar.first_of (grammar.place_faults word reading.now) }
+    ensures image { result ≡ None → grammar.is_image word ≡ true → reading.now ≡ [] }
+{
+    match (reading.is_empty(), word == Word::Image) {
+        (true, false) => Some(Kind::MissingImage),
+        (false, true) => Some(Kind::SecondImage),
+        _ => None,
+    }
+}
+
+/// The line of text with this first word and what follows it, after the lines read so far.
+fn read_line(alloc: Global, reading: &Reading, text: &[u8], first: &[u8], rest: &[u8]) -> Result<Line, ReadError>
+    ensures fine { OnOk result (grammar.first_of (grammar.faults_of text.now first.now (text_spec.words rest.now) reading.now) ≡ None) }
+    ensures line { IfOk result (λ line. grammar.line_in (word_with first.now) (text_spec.words rest.now) ≡ grammar.Fine line) }
+    ensures next { IfOk result (λ line. IsNext reading.now line) }
+    ensures err { IfErr result (λ e. Fails e (grammar.first_of (grammar.faults_of text.now first.now (text_spec.words rest.now) reading.now))) }
+{
+    if text.len() > LONGEST_LINE {
+        return Err(ReadError::Fault(Kind::LongLine));
+    }
+    if !is_text(text) {
+        return Err(ReadError::Fault(Kind::NotAscii));
+    }
+    let Some(word) = word_of(first) else {
+        return Err(ReadError::Fault(Kind::UnknownWord));
+    };
+    if let Some(kind) = misplaced(word, reading) {
+        return Err(ReadError::Fault(kind));
+    }
+    read_words(alloc, reading, word, rest)
+}
+
+/// What a line of text is after the lines read so far: None where it is skipped.
+pub fn judge(alloc: Global, reading: &Reading, text: &[u8]) -> Result<Option<Line>, ReadError>
+    ensures ok { IfOk result (λ line. grammar.verdict text.now reading.now ≡ verdict_from line) }
+    ensures next { IfOk result (λ line. IfSome line (λ line. IsNext reading.now line)) }
+    ensures err { IfErr result (λ e. Condemns e (grammar.verdict text.now reading.now)) }
+{
+    let Some((first, rest)) = next_word(text) else {
+        return Ok(None);
+    };
+    if is_comment(first) {
+        return Ok(None);
+    }
+    match read_line(alloc, reading, text, first, rest) {
+        Ok(line) => Ok(Some(line)),
+        Err(error) => Err(error),
+    }
 }

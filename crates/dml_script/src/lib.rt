@@ -6,9 +6,11 @@ mod faults;
 mod judge;
 mod lines;
 mod numbers;
+mod reader;
 mod reading;
 mod table;
 mod words;
 
 pub use faults::{Kind, ScriptError, ScriptFault, fault_text};
 pub use lines::{Bytes, Line, Script};
+pub use reader::read_script;

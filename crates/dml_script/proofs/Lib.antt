@@ -1,4 +1,5 @@
 pub mod EntryLemmas
+pub mod FirstFaultLemmas
 pub mod LineLemmas
 pub mod NumberLemmas
 pub mod PresenceLemmas

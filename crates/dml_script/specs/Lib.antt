@@ -1,4 +1,5 @@
 pub mod Faults
+pub mod FirstFault
 pub mod Grammar
 pub mod Number
 pub mod Reads

@@ -4,6 +4,7 @@
 mod entries;
 mod faults;
 mod judge;
+mod laws;
 mod lines;
 mod numbers;
 mod reader;
@@ -12,5 +13,6 @@ mod table;
 mod words;
 
 pub use faults::{Kind, ScriptError, ScriptFault, fault_text};
+pub use laws::law_first_fault;
 pub use lines::{Bytes, Line, Script};
 pub use reader::read_script;

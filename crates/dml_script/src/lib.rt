@@ -16,3 +16,6 @@ pub use faults::{Kind, ScriptError, ScriptFault, fault_text};
 pub use laws::law_first_fault;
 pub use lines::{Bytes, Line, Script};
 pub use reader::read_script;
+
+#[cfg(test)]
+mod tests;

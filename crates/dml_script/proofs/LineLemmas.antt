@@ -1,10 +1,11 @@
 -- Laws of lines: the sizes of their values, the order of their faults, and what may come next.
-use Rattle.std.proofs.Common.{◌≡◌, ℕ, zero, suc, ◌+◌, ◌*◌, ◌/◌, ◌<◌, ◌≤◌, List, [], ◌∷◌, ◌++◌, length, map, get_or, refl, sym, ◌∙◌, ap, subst, arith, rules, Bool, true, false, not, ◌&&◌, Option, Some, None, unwrap_or, Result, Ok, Err, inl, inr, nat_le, nat_eq}
-use Rattle.std.specs.List.{flat_map}
+use Rattle.std.proofs.Common.{◌≡◌, ℕ, zero, suc, ◌+◌, ◌*◌, ◌/◌, ◌<◌, ◌≤◌, List, [], ◌∷◌, ◌++◌, length, map, get_or, refl, sym, ◌∙◌, ap, subst, arith, rules, Bool, true, false, cond, not, ◌&&◌, Option, Some, None, unwrap_or, Result, Ok, Err, inl, inr, nat_le, nat_eq}
+use Rattle.std.specs.List.{count_by, flat_map}
 use Rattle.std.specs.Option.{option_map, option_and_then}
 use Rattle.std.specs.Result.{result_ok}
 use Rattle.std.proofs.lemmas.Bool.{cases_Bool, leb-true, ltb-true, and_parts, not-false}
-use Rattle.std.proofs.lemmas.List.{length-append, append-nil}
+use Rattle.std.proofs.lemmas.List.{length-append}
+use Rattle.std.proofs.lemmas.List.Sums.{sum_by-cons}
 use Rattle.hex.specs.Hex.{decode_of}
 use Rattle.hex.proofs.HexLemmas.{decode_of-ok}
 use Rattle.dml_script.specs.declared.faults.Kind.{Kind}
@@ -151,3 +152,7 @@ next_in_range word.Poke v before start within = tt
 next_in_range word.NoOp v before start within = tt
 next_in_range word.Fill v before start within = tt
 next_in_range word.Show v before start within = tt
+
+-- how many texts pass a test, the first apart
+pub count_by_first : (test : List ℕ → Bool) (text : List ℕ) (texts : List (List ℕ)) → count_by test (text ∷ texts) ≡ cond (test text) 1 0 + count_by test texts
+count_by_first test text texts = sum_by-cons (λ x. cond (test x) 1 0) text texts

@@ -1,5 +1,5 @@
 -- Laws of faults in a list.
-use Rattle.std.proofs.Common.{◌≡◌, ℕ, ◌<◌, ◌+◌, List, [], ◌∷◌, ◌++◌, length, get_or, drop, Bool, true, false, Option, Some, None, refl, sym, ◌∙◌, ap, subst}
+use Rattle.std.proofs.Common.{◌≡◌, ℕ, ◌<◌, ◌+◌, List, [], ◌∷◌, length, get_or, drop, Bool, true, false, Option, Some, None, sym, ◌∙◌, ap, subst}
 use Rattle.std.specs.Borrow.{Bor}
 use Rattle.std.proofs.lemmas.List.{at_drop_more}
 use Rattle.dml_script.specs.declared.faults.Kind.{Kind}
@@ -26,7 +26,7 @@ pub fails_at : (e : ReadError) (entries : List (Slot × Option (Bor (List ℕ)))
     → first_of (faults_in (drop i entries)) ≡ first_of (faults_in entries) → Fails e (first_of (faults_in entries))
 fails_at e entries i d word low is fails rest =
     let here : faults_in (drop i entries) ≡ slot_fault (get_or entries i d).0 (word_seen (get_or entries i d).1) ∷ faults_in (drop (i + 1) entries) =
-        at_drop_more faults_in entries i d low in
+    at_drop_more faults_in entries i d low in
     let there : Fails e (first_of (slot_fault (get_or entries i d).0 (word_seen (get_or entries i d).1) ∷ faults_in (drop (i + 1) entries))) =
-        fails_first e _ (faults_in (drop (i + 1) entries)) (subst (λ (o : Option (Bor (List ℕ))). Fails e (first_of (slot_fault (get_or entries i d).0 (word_seen o) ∷ []))) (sym is) fails) in
+    fails_first e _ (faults_in (drop (i + 1) entries)) (subst (λ (o : Option (Bor (List ℕ))). Fails e (first_of (slot_fault (get_or entries i d).0 (word_seen o) ∷ []))) (sym is) fails) in
     subst (λ (found : Option Kind). Fails e found) (ap first_of (sym here) ∙ rest) there

@@ -1,5 +1,5 @@
 -- The law of `parse`: by induction on the lines of text, then both ways.
-use Rattle.std.proofs.Common.{◌≡◌, ◌↔◌, ◌⊎◌, inl, inr, ℕ, zero, suc, ◌+◌, ◌<◌, ◌≤◌, List, [], ◌∷◌, ◌++◌, length, take, get_or, Option, Some, None, Result, Ok, Err, refl, sym, ◌∙◌, ap, subst, arith, Bool, true, false, nat_eq}
+use Rattle.std.proofs.Common.{◌≡◌, inl, inr, ℕ, zero, suc, ◌+◌, ◌<◌, List, [], ◌∷◌, ◌++◌, length, Option, Some, None, Result, Ok, Err, refl, sym, ◌∙◌, ap, subst, arith, nat_eq}
 use Rattle.std.specs.Result.{MatchResult}
 use Rattle.std.specs.Str.Lines.{lines}
 use Rattle.std.proofs.lemmas.Bool.{cases_Bool, cases_order, eqb-true, eqb-false}
@@ -9,8 +9,8 @@ use Rattle.dml_script.specs.declared.faults.Kind.{Kind}
 use Rattle.dml_script.specs.declared.faults.Kind.TheVariants.{MissingImage}
 use Rattle.dml_script.specs.declared.faults.ScriptFault.{ScriptFault}
 use Rattle.dml_script.specs.declared.lines.Line.{Line}
-use Rattle.dml_script.specs.Grammar.{Verdict, Skipped, Faulty, Fine, verdict, fault_at, parse, parse_from}
-use Rattle.dml_script.specs.FirstFault.{grown, lines_after, fault_of, fault_in, FaultlessBelow, AreLines, IsFaultAt, HasNoLine, IsFirstFault, ReadsFaultless, NamesFirstFault}
+use Rattle.dml_script.specs.Grammar.{Skipped, Faulty, Fine, verdict, fault_at, parse, parse_from}
+use Rattle.dml_script.specs.FirstFault.{grown, lines_after, fault_of, fault_in, FaultlessBelow, AreLines, IsFaultAt, IsFirstFault, ReadsFaultless, NamesFirstFault}
 
 -- what a result of `parse_from` says
 abbrev Says : ℕ → List Line → List (List ℕ) → Result (List Line) ScriptFault → Type 0
@@ -27,19 +27,22 @@ says_more : (text : List ℕ) (texts : List (List ℕ)) (number : ℕ) (before a
     → fault_of (verdict text before) ≡ None → grown before (verdict text before) ≡ after
     → Says (number + 1) after texts parsed → Says number before (text ∷ texts) parsed
 says_more text texts number before after (Ok found) none grows says = record {
-    faultless = faultless_more text texts before after (length texts) none grows says.faultless;
-    lines = says.lines ∙ ap (λ so_far. lines_after so_far texts) (sym grows);
-    some = says.some;
-  }
+  faultless = faultless_more text texts before after (length texts) none grows says.faultless;
+  lines = says.lines ∙ ap (λ so_far. lines_after so_far texts) (sym grows);
+  some = says.some;
+}
 says_more text texts number before after (Err fault) none grows says =
     elim says as (λ _. IsFirstFault number before (text ∷ texts) fault) [
-      inl at ↦ inl (suc at.0, record {
-        within = let h : at.0 < length texts = at.1.within in omega arith;
-        line = let h : fault.line ≡ (number + 1) + at.0 = at.1.line in omega arith;
-        kind = subst (λ (so_far : List Line). fault_in so_far texts at.0 ≡ Some fault.kind) (sym grows) at.1.kind;
-        first = faultless_more text texts before after at.0 none grows at.1.first;
-      })
-    | inr without ↦ inr (record {
+      | inl at ↦ inl (
+        suc at.0,
+        record {
+          within = let h : at.0 < length texts = at.1.within in omega arith;
+          line = let h : fault.line ≡ (number + 1) + at.0 = at.1.line in omega arith;
+          kind = subst (λ (so_far : List Line). fault_in so_far texts at.0 ≡ Some fault.kind) (sym grows) at.1.kind;
+          first = faultless_more text texts before after at.0 none grows at.1.first;
+        },
+      )
+      | inr without ↦ inr (record {
         faultless = faultless_more text texts before after (length texts) none grows without.faultless;
         none = ap (λ so_far. lines_after so_far texts) grows ∙ without.none;
         behind = without.behind ∙ ap (λ n. fault_at n MissingImage) (let e : (number + 1) + length texts ≡ number + suc (length texts) = omega arith in e);
@@ -48,23 +51,26 @@ says_more text texts number before after (Err fault) none grows says =
 
 says_faulty : (text : List ℕ) (texts : List (List ℕ)) (number : ℕ) (before : List Line) (kind : Kind) → verdict text before ≡ Faulty kind
     → Says number before (text ∷ texts) (Err (fault_at number kind))
-says_faulty text texts number before kind faulty = inl (zero, record {
+says_faulty text texts number before kind faulty = inl (
+  zero,
+  record {
     within = omega arith;
     line = omega arith;
     kind = ap fault_of faulty;
     first = λ place low. absurd (omega arith);
-  })
+  },
+)
 
 says_end : (number : ℕ) (before : List Line) → Says number before [] (parse_from number before [])
 unfolding parse_from
 says_end number before =
     elim (cases_Bool (nat_eq (length before) 0)) as (λ _. Says number before [] (parse_from number before [])) [
-      inl none ↦ rw none (inr (record {
+      | inl none ↦ rw none (inr (record {
         faultless = λ place low. absurd (omega arith);
         none = nil_from_length before (eqb-true (length before) 0 none);
         behind = ap (λ n. fault_at n MissingImage) (let e : number ≡ number + 0 = omega arith in e);
       }))
-    | inr some ↦ rw some (record {
+      | inr some ↦ rw some (record {
         faultless = λ place low. absurd (omega arith);
         lines = refl;
         some = let h = eqb-false (length before) 0 some in omega arith;
@@ -76,13 +82,13 @@ unfolding parse_from
 says_from [] number before = says_end number before
 says_from (text ∷ texts) number before =
     elim (verdict text before) as (λ v. verdict text before ≡ v → Says number before (text ∷ texts) (elim v [
-        Skipped ↦ parse_from (number + 1) before texts
+      | Skipped ↦ parse_from (number + 1) before texts
       | Faulty kind ↦ Err (fault_at number kind)
       | Fine found ↦ parse_from (number + 1) (before ++ found ∷ []) texts
-      ])) [
-      Skipped ↦ λ is. says_more text texts number before before _ (ap fault_of is) (ap (grown before) is) (says_from texts (number + 1) before)
-    | Faulty kind ↦ λ is. says_faulty text texts number before kind is
-    | Fine found ↦ λ is. says_more text texts number before (before ++ found ∷ []) _ (ap fault_of is) (ap (grown before) is) (says_from texts (number + 1) (before ++ found ∷ []))
+    ])) [
+      | Skipped ↦ λ is. says_more text texts number before before _ (ap fault_of is) (ap (grown before) is) (says_from texts (number + 1) before)
+      | Faulty kind ↦ λ is. says_faulty text texts number before kind is
+      | Fine found ↦ λ is. says_more text texts number before (before ++ found ∷ []) _ (ap fault_of is) (ap (grown before) is) (says_from texts (number + 1) (before ++ found ∷ []))
     ] refl
 
 says : (bytes : List ℕ) → Says 1 [] (lines bytes) (parse bytes)
@@ -98,21 +104,21 @@ not_both : (number : ℕ) (before : List Line) (texts : List (List ℕ)) (found 
     → AreLines before texts found → IsFirstFault number before texts fault → ⊥
 not_both number before texts found fault are first =
     elim first [
-      inl at ↦ none_and_some _ fault.kind (are.faultless at.0 at.1.within) at.1.kind
-    | inr without ↦
-        let nothing : length found ≡ 0 = ap length (are.lines ∙ without.none) in
-        let some : 0 < length found = are.some in
-        absurd (omega arith)
+      | inl at ↦ none_and_some _ fault.kind (are.faultless at.0 at.1.within) at.1.kind
+      | inr without ↦
+          let nothing : length found ≡ 0 = ap length (are.lines ∙ without.none) in
+          let some : 0 < length found = are.some in
+          absurd (omega arith)
     ]
 
 same_place : (number : ℕ) (before : List Line) (texts : List (List ℕ)) (one other : ScriptFault) (p q : ℕ)
     → IsFaultAt number before texts one p → IsFaultAt number before texts other q → p ≡ q
 same_place number before texts one other p q at_p at_q =
     elim (cases_order p q) [
-      inl same ↦ same
-    | inr apart ↦ elim apart [
-        inl low ↦ absurd (none_and_some _ one.kind (at_q.first p low) at_p.kind)
-      | inr high ↦ absurd (none_and_some _ other.kind (at_p.first q high) at_q.kind)
+      | inl same ↦ same
+      | inr apart ↦ elim apart [
+        | inl low ↦ absurd (none_and_some _ one.kind (at_q.first p low) at_p.kind)
+        | inr high ↦ absurd (none_and_some _ other.kind (at_p.first q high) at_q.kind)
       ]
     ]
 
@@ -138,18 +144,18 @@ same_first number before texts one other (inr without) (inr also) = without.behi
 
 pub reads_faultless : ReadsFaultless
 reads_faultless bytes found = (
-    λ is. MatchResult-at_ok (AreLines [] (lines bytes)) (IsFirstFault 1 [] (lines bytes)) found is (says bytes),
-    λ are. elim (parse bytes) as (λ parsed. Says 1 [] (lines bytes) parsed → parsed ≡ Ok found) [
-      Ok other ↦ λ says. ap Ok (says.lines ∙ sym are.lines)
+  λ is. MatchResult-at_ok (AreLines [] (lines bytes)) (IsFirstFault 1 [] (lines bytes)) found is (says bytes),
+  λ are. elim (parse bytes) as (λ parsed. Says 1 [] (lines bytes) parsed → parsed ≡ Ok found) [
+    | Ok other ↦ λ says. ap Ok (says.lines ∙ sym are.lines)
     | Err fault ↦ λ says. absurd (not_both 1 [] (lines bytes) found fault are says)
-    ] (says bytes),
-  )
+  ] (says bytes),
+)
 
 pub names_first_fault : NamesFirstFault
 names_first_fault bytes fault = (
-    λ is. MatchResult-at_err (AreLines [] (lines bytes)) (IsFirstFault 1 [] (lines bytes)) fault is (says bytes),
-    λ first. elim (parse bytes) as (λ parsed. Says 1 [] (lines bytes) parsed → parsed ≡ Err fault) [
-      Ok found ↦ λ says. absurd (not_both 1 [] (lines bytes) found fault says first)
+  λ is. MatchResult-at_err (AreLines [] (lines bytes)) (IsFirstFault 1 [] (lines bytes)) fault is (says bytes),
+  λ first. elim (parse bytes) as (λ parsed. Says 1 [] (lines bytes) parsed → parsed ≡ Err fault) [
+    | Ok found ↦ λ says. absurd (not_both 1 [] (lines bytes) found fault says first)
     | Err other ↦ λ says. ap Err (same_first 1 [] (lines bytes) other fault says first)
-    ] (says bytes),
-  )
+  ] (says bytes),
+)

@@ -1,7 +1,7 @@
 -- Laws of lines: the sizes of their values, the order of their faults, and what may come next.
-use Rattle.std.proofs.Common.{◌≡◌, ℕ, zero, suc, ◌+◌, ◌*◌, ◌/◌, ◌<◌, ◌≤◌, List, [], ◌∷◌, ◌++◌, length, map, get_or, refl, sym, ◌∙◌, ap, subst, arith, rules, Bool, true, false, cond, not, ◌&&◌, Option, Some, None, unwrap_or, Result, Ok, Err, inl, inr, nat_le, nat_eq}
-use Rattle.std.specs.List.{count_by, flat_map}
-use Rattle.std.specs.Option.{option_map, option_and_then}
+use Rattle.std.proofs.Common.{◌≡◌, ℕ, zero, suc, ◌+◌, ◌*◌, ◌/◌, ◌≤◌, List, [], ◌∷◌, ◌++◌, length, map, get_or, refl, sym, ◌∙◌, ap, subst, arith, Bool, true, false, cond, ◌&&◌, Option, Some, None, unwrap_or, Ok, Err, inl, inr, nat_le}
+use Rattle.std.specs.List.{count_by}
+use Rattle.std.specs.Option.{option_and_then}
 use Rattle.std.specs.Result.{result_ok}
 use Rattle.std.proofs.lemmas.Bool.{cases_Bool, leb-true, ltb-true, and_parts, not-false}
 use Rattle.std.proofs.lemmas.List.{length-append}
@@ -84,8 +84,8 @@ at_most_fits : (largest : ℕ) (number : Option ℕ) → unwrap_or (at_most larg
 at_most_fits largest None = omega arith
 at_most_fits largest (Some n) =
     elim (cases_Bool (nat_le n largest)) as (λ _. unwrap_or (at_most largest (Some n)) 0 ≤ largest) [
-      inl within ↦ rw within (leb-true n largest within)
-    | inr above ↦ rw above (omega arith)
+      | inl within ↦ rw within (leb-true n largest within)
+      | inr above ↦ rw above (omega arith)
     ]
 
 number_fits : (slot : Slot) (w : Option (List ℕ)) → unwrap_or (grammar.slot_number slot w) 0 ≤ limit_of slot
@@ -102,15 +102,15 @@ number_at_fits (entry ∷ entries) (suc place) = number_at_fits entries place
 decoded_fits : (w : List ℕ) (most : ℕ) → length w ≤ most → length (unwrap_or (result_ok (decode_of w)) []) ≤ most / 2
 decoded_fits w most within =
     elim (decode_of w) as (λ r. decode_of w ≡ r → length (unwrap_or (result_ok r) []) ≤ most / 2) [
-      Ok bytes ↦ λ is. let twice : length w ≡ 2 * length bytes = (decode_of-ok w bytes is).2 in omega arith
-    | Err e ↦ λ _. omega arith
+      | Ok bytes ↦ λ is. let twice : length w ≡ 2 * length bytes = (decode_of-ok w bytes is).2 in omega arith
+      | Err e ↦ λ _. omega arith
     ] refl
 
 digits_fit : (least most : ℕ) (w : List ℕ) → length (unwrap_or (bytes_in least most w) []) ≤ most / 2
 digits_fit least most w =
     elim (cases_Bool (nat_le least (length w) && nat_le (length w) most)) as (λ _. length (unwrap_or (bytes_in least most w) []) ≤ most / 2) [
-      inl within ↦ rw within (decoded_fits w most (leb-true _ _ (and_parts _ _ within).1))
-    | inr outside ↦ rw outside (omega arith)
+      | inl within ↦ rw within (decoded_fits w most (leb-true _ _ (and_parts _ _ within).1))
+      | inr outside ↦ rw outside (omega arith)
     ]
 
 bytes_fit : (slot : Slot) (w : Option (List ℕ)) → length (grammar.slot_bytes slot w) ≤ most_bytes slot

@@ -1,5 +1,5 @@
 -- Laws of numbers: what `from_str_radix` reads of digits alone, and numbers up to a largest.
-use Rattle.std.proofs.Common.{◌≡◌, ℕ, ◌+◌, ◌-◌, ◌<◌, ◌≤◌, ◌^◌, suc, List, [], ◌∷◌, length, get_or, refl, sym, ◌∙◌, ap, subst, arith, rules, Bool, true, false, cond, ◌&&◌, ◌≢◌, Option, Some, None, Result, Ok, Err, inl, inr, nat_eq, nat_le, nat_lt, drop}
+use Rattle.std.proofs.Common.{◌≡◌, ℕ, ◌<◌, ◌≤◌, ◌^◌, List, [], ◌∷◌, length, refl, ap, subst, arith, true, Option, Some, None, Result, Ok, Err, inl, inr}
 use Rattle.std.specs.List.{list_all, All, AllPass}
 use Rattle.std.specs.Char.{is_digit, digit_value}
 use Rattle.std.specs.Str.{IsUtf8}
@@ -8,9 +8,8 @@ use Rattle.std.specs.Result.{result_ok, OkIff}
 use Rattle.std.proofs.lemmas.Str.{IsUtf8-from_ascii}
 use Rattle.std.proofs.lemmas.Str.Ascii.{IsAscii-from_all}
 use Rattle.std.proofs.lemmas.List.Sums.{AllPass-from_list_all}
-use Rattle.std.proofs.lemmas.Bool.{ltb-true, lt-leb, le-leb, leb-true, leb-false, and_parts, cond-true, cond-false, cases_lt, ne_eqb, cases_Bool, cases_eq}
+use Rattle.std.proofs.lemmas.Bool.{ltb-true, lt-leb, le-leb, and_parts, cases_lt, ne_eqb, cases_eq}
 use Rattle.std.proofs.lemmas.Bool.Decides.{nat_tests}
-use Rattle.std.proofs.lemmas.Grind.{common_steps}
 use Rattle.dml_script.specs.Number.{at_most}
 
 abbrev greatest : ℕ
@@ -19,8 +18,8 @@ greatest = 0xffff_ffff_ffff_ffff
 digit_is_small : (c : ℕ) → digit_value c < 36 → c < 128
 digit_is_small c digit =
     elim (cases_lt c 128) as (λ _. c < 128) [
-      inl low ↦ low
-    | inr high ↦ absurd (grind (arith, nat_tests))
+      | inl low ↦ low
+      | inr high ↦ absurd (grind (arith, nat_tests))
     ]
 
 digits_numeral : (radix : ℕ) (ds : List ℕ) → list_all (λ c. is_digit c radix) ds ≡ true → AllDigits radix ds
@@ -34,8 +33,8 @@ no_plus : (radix : ℕ) (ds : List ℕ) → radix ≤ 36 → AllDigits radix ds 
 no_plus radix [] small all = refl
 no_plus radix (c ∷ cs) small all =
     elim (cases_eq c 43) as (λ _. without_leading_plus (c ∷ cs) ≡ c ∷ cs) [
-      inl plus ↦ absurd (let h : digit_value 43 < radix = subst (λ (n : ℕ). digit_value n < radix) plus all.0 in omega arith)
-    | inr other ↦ rw (ne_eqb c 43 other) refl
+      | inl plus ↦ absurd (let h : digit_value 43 < radix = subst (λ (n : ℕ). digit_value n < radix) plus all.0 in omega arith)
+      | inr other ↦ rw (ne_eqb c 43 other) refl
     ]
 
 pub digits_are_text : (radix : ℕ) (ds : List ℕ) → radix ≤ 36 → list_all (λ c. is_digit c radix) ds ≡ true → IsUtf8 ds
@@ -48,8 +47,8 @@ read_at : {E : Type 0} (n : ℕ) (P : Type 0) (r : Result ℕ E) → P → OkIff
 read_at n P (Ok x) holds says = rw (le-leb n greatest (let h : n < 2 ^ 64 = says.0.1 in omega arith)) (ap Some says.1)
 read_at n P (Err e) holds says =
     elim (cases_lt n (2 ^ 64)) as (λ _. None ≡ at_most greatest (Some n)) [
-      inl low ↦ absurd (says (holds, low))
-    | inr high ↦ rw (lt-leb n greatest (omega arith)) refl
+      | inl low ↦ absurd (says (holds, low))
+      | inr high ↦ rw (lt-leb n greatest (omega arith)) refl
     ]
 
 pub digits_read : {E : Type 0} (radix : ℕ) (ds : List ℕ) (r : Result ℕ E) → radix ≤ 36 → 0 < length ds → list_all (λ c. is_digit c radix) ds ≡ true
@@ -63,6 +62,6 @@ pub at_most_again : (largest : ℕ) (number : Option ℕ) → largest ≤ greate
 at_most_again largest None small = refl
 at_most_again largest (Some n) small =
     elim (cases_lt greatest n) as (λ _. at_most largest (at_most greatest (Some n)) ≡ at_most largest (Some n)) [
-      inl high ↦ rw (lt-leb n greatest high, lt-leb n largest (omega arith)) refl
-    | inr low ↦ rw (le-leb n greatest low) refl
+      | inl high ↦ rw (lt-leb n greatest high, lt-leb n largest (omega arith)) refl
+      | inr low ↦ rw (le-leb n greatest low) refl
     ]

@@ -1,5 +1,5 @@
 -- The grammar of scripts: from the bytes of a script to its lines, or to its first fault.
-use Rattle.std.specs.Prelude.{◌≡◌, ℕ, ◌+◌, ◌/◌, ◌^◌, Bool, true, false, not, ◌&&◌, ◌||◌, if◌then◌else◌, List, [], ◌∷◌, ◌++◌, length, map, nat_eq, nat_lt, nat_le, bytes_eq, codes, find, Option, Some, None, is_none, unwrap_or, slice_index, slice_index_or, Result, Ok, Err}
+use Rattle.std.specs.Prelude.{ℕ, ◌+◌, ◌/◌, ◌^◌, Bool, true, false, not, ◌&&◌, ◌||◌, if◌then◌else◌, List, [], ◌∷◌, ◌++◌, length, map, nat_eq, nat_lt, nat_le, bytes_eq, find, Option, Some, None, is_none, unwrap_or, slice_index, slice_index_or, Result, Ok, Err}
 use Rattle.std.specs.List.{flat_map, list_all, list_any, range_with_len}
 use Rattle.std.specs.Option.{option_map, option_and_then}
 use Rattle.std.specs.Str.Lines.{lines}
@@ -198,10 +198,10 @@ fault_at number kind = record { line = number; kind = kind }
 unfoldable pub parse_from : ℕ → List Line → List (List ℕ) → Result (List Line) ScriptFault
 parse_from number before [] = if nat_eq (length before) 0 then Err (fault_at number MissingImage) else Ok before
 parse_from number before (text ∷ texts) = elim (verdict text before) [
-    Skipped ↦ parse_from (number + 1) before texts
+  | Skipped ↦ parse_from (number + 1) before texts
   | Faulty kind ↦ Err (fault_at number kind)
   | Fine found ↦ parse_from (number + 1) (before ++ found ∷ []) texts
-  ]
+]
 
 unfoldable pub parse : List ℕ → Result (List Line) ScriptFault
 parse bytes = parse_from 1 [] (lines bytes)

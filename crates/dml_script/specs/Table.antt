@@ -1,5 +1,5 @@
 -- The table of lines: which words may come after a first word, and what each of them is.
-use Rattle.std.specs.Prelude.{ℕ, ◌-◌, ◌^◌, List, [], ◌∷◌, Option, codes, bytes_eq, find}
+use Rattle.std.specs.Prelude.{ℕ, List, [], ◌∷◌, Option, codes, bytes_eq, find}
 use Rattle.std.specs.Option.{option_map}
 use Rattle.dml_script.specs.declared.table.Word.{Word}
 use Rattle.dml_script.specs.declared.table.Word.TheVariants as word

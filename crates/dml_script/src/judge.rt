@@ -23,7 +23,8 @@ const LONGEST_LINE: usize = 16_384;
 fn is_text(text: &[u8]) -> bool
     ensures { result ≡ list_all text_spec.is_text text.now }
 {
-    text.iter().all(|c| *c == b'\t' || (b' '..=b'~').contains(c))
+    text.iter()
+        .all(|c| *c == b'\t' || (b' '..=b'~').contains(c))
 }
 
 /// Whether the first byte of a word is `#`.
@@ -79,18 +80,29 @@ fn line_of(word: Word, values: Values, reading: &Reading) -> Line
 {
     let first = number_at(&values, 0);
     match word {
-        Word::Image => Line::Image { pages: first as u32 },
+        Word::Image => Line::Image {
+            pages: first as u32,
+        },
         Word::Page => {
             let _within = reading.has_page(first);
-            Line::Page { page: first as u32, bytes: Bytes { list: values.bytes } }
+            Line::Page {
+                page: first as u32,
+                bytes: Bytes { list: values.bytes },
+            }
         }
-        Word::Poke => Line::Poke { addr: first, bytes: Bytes { list: values.bytes } },
+        Word::Poke => Line::Poke {
+            addr: first,
+            bytes: Bytes { list: values.bytes },
+        },
         Word::NoOp => Line::Job(Job::no_op().with_flags(first as u32)),
         Word::Fill => {
             let job = Job::fill(first, number_at(&values, 1), number_at(&values, 2) as u32);
             Line::Job(job.with_flags(number_at(&values, 3) as u32))
         }
-        Word::Show => Line::Show { addr: first, len: number_at(&values, 1) as u32 },
+        Word::Show => Line::Show {
+            addr: first,
+            len: number_at(&values, 1) as u32,
+        },
     }
 }
 
@@ -125,7 +137,13 @@ fn misplaced(word: Word, reading: &Reading) -> Option<Kind>
 }
 
 /// The line of text with this first word and what follows it, after the lines read so far.
-fn read_line(alloc: Global, reading: &Reading, text: &[u8], first: &[u8], rest: &[u8]) -> Result<Line, ReadError>
+fn read_line(
+    alloc: Global,
+    reading: &Reading,
+    text: &[u8],
+    first: &[u8],
+    rest: &[u8],
+) -> Result<Line, ReadError>
     ensures fine { OnOk result (grammar.first_of (grammar.faults_of text.now first.now (text_spec.words rest.now) reading.now) ≡ None) }
     ensures line { IfOk result (λ line. grammar.line_in (word_with first.now) (text_spec.words rest.now) ≡ grammar.Fine line) }
     ensures next { IfOk result (λ line. IsNext reading.now line) }

@@ -7,5 +7,4 @@ ghost use Rattle.dml_script.specs.FirstFault.{NamesFirstFault, ReadsFaultless};
 pub fn law_first_fault()
     ensures lines { ReadsFaultless }
     ensures fault { NamesFirstFault }
-{
-}
+{}

@@ -75,7 +75,12 @@ pub fn number_of(largest: u64, word: &[u8]) -> Option<u64>
 }
 
 /// The bytes that a word of `least` to `most` hexadecimal digits writes, if it is one.
-pub fn bytes_of(alloc: Global, least: usize, most: usize, word: &[u8]) -> Result<Option<Vec<u8>>, AllocError>
+pub fn bytes_of(
+    alloc: Global,
+    least: usize,
+    most: usize,
+    word: &[u8],
+) -> Result<Option<Vec<u8>>, AllocError>
     ensures { IfOk result (λ bytes. option_map (λ v. v.items) bytes ≡ spec.bytes_in least most word.now) }
 {
     if word.len() < least || word.len() > most {

@@ -45,13 +45,19 @@ pub fn read_script(alloc: Global, bytes: &[u8]) -> Result<Script, ScriptError>
             Ok(None) => {}
             Ok(Some(line)) => reading.push(alloc, line)?,
             Err(ReadError::NoMemory) => return Err(ScriptError::NoMemory),
-            Err(ReadError::Fault(kind)) => return Err(ScriptError::Fault(ScriptFault { line: number, kind })),
+            Err(ReadError::Fault(kind)) => return Err(ScriptError::Fault(ScriptFault {
+                line: number,
+                kind,
+            })),
         }
         number += 1;
         rest = after;
     }
     if reading.is_empty() {
-        return Err(ScriptError::Fault(ScriptFault { line: number, kind: Kind::MissingImage }));
+        return Err(ScriptError::Fault(ScriptFault {
+            line: number,
+            kind: Kind::MissingImage,
+        }));
     }
     Ok(reading.into_script())
 }

@@ -1,6 +1,5 @@
 //! The lines read so far, and what they say of the image's pages.
 
-
 use crate::lines::{Bytes, Line, Script};
 use std::alloc::{AllocError, Global};
 use std::marker::Model;

@@ -50,7 +50,9 @@ pub enum Part {
 pub const MOST_PARTS: usize = 4;
 
 const LONG: Part = Part::One(Slot::Number(0xffff_ffff_ffff_ffff));
+
 const SHORT: Part = Part::One(Slot::Number(0xffff_ffff));
+
 const FLAGS: Part = Part::Named(Suffix::Flags, Slot::Number(0xff_ffff));
 
 /// The first word with this text, if it is one.

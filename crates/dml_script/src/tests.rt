@@ -16,7 +16,13 @@ fn fault_of(rt: &impl Abort, alloc: Global, text: &[u8]) -> Option<(u32, Kind)> 
 }
 
 /// A text with so many copies of a byte between a front and a back.
-fn padded(alloc: Global, front: &str, byte: u8, copies: usize, back: &str) -> Result<Vec<u8>, AllocError> {
+fn padded(
+    alloc: Global,
+    front: &str,
+    byte: u8,
+    copies: usize,
+    back: &str,
+) -> Result<Vec<u8>, AllocError> {
     let mut text = vec![in alloc]?;
     text.extend_from_slice(front.as_bytes())?;
     for _ in 0..copies {
@@ -64,7 +70,11 @@ fn each_kind_of_fault(rt: HostRuntime) {
         ("image 2\npage 0\npoke 4095 0102", 3, Kind::BadRange),
         ("image 2\npage 1\npoke 4095 0102", 3, Kind::BadRange),
         ("image 2\npoke 0 01\npage 0", 2, Kind::BadRange),
-        ("image 1\npage 0\npoke 0xffffffffffffffff 0102", 3, Kind::BadRange),
+        (
+            "image 1\npage 0\npoke 0xffffffffffffffff 0102",
+            3,
+            Kind::BadRange,
+        ),
         ("image 1\nshow 0 0", 2, Kind::BadRange),
         ("image 1\nshow 0 65537", 2, Kind::BadRange),
         ("image 1\nshow 18446744073709551615 2", 2, Kind::BadRange),
@@ -74,7 +84,11 @@ fn each_kind_of_fault(rt: HostRuntime) {
         ("# a", 2, Kind::MissingImage),
         ("#image 1\n", 2, Kind::MissingImage),
     ] {
-        assert_eq!(rt; fault_of(&rt, rt.alloc(), text.as_bytes()), Some((line, kind)), "at {text:?}");
+        assert_eq!(rt;
+            fault_of(&rt, rt.alloc(), text.as_bytes()),
+            Some((line, kind)),
+            "at {text:?}"
+        );
     }
 }
 
@@ -96,7 +110,11 @@ fn the_first_of_two_faults_on_a_line(rt: HostRuntime) {
         ("image 1\npage 1\nmove", 2, Kind::BadRange),
         ("image 1\nmove\npage 1", 2, Kind::UnknownWord),
     ] {
-        assert_eq!(rt; fault_of(&rt, rt.alloc(), text.as_bytes()), Some((line, kind)), "at {text:?}");
+        assert_eq!(rt;
+            fault_of(&rt, rt.alloc(), text.as_bytes()),
+            Some((line, kind)),
+            "at {text:?}"
+        );
     }
 }
 
@@ -113,7 +131,11 @@ fn lines_and_words(rt: HostRuntime) {
         ("image 1\nno\rop\n", Some((2, Kind::NotAscii))),
         ("image 1\n\u{b}", Some((2, Kind::NotAscii))),
     ] {
-        assert_eq!(rt; fault_of(&rt, rt.alloc(), text.as_bytes()), fault, "at {text:?}");
+        assert_eq!(rt;
+            fault_of(&rt, rt.alloc(), text.as_bytes()),
+            fault,
+            "at {text:?}"
+        );
     }
 }
 
@@ -143,13 +165,20 @@ fn number_forms(rt: HostRuntime) -> Result<(), Fail> {
         let read = match read_script(rt.alloc(), bytes) {
             Ok(script) => match script.list.get(1) {
                 Some(Line::Job(job)) => {
-                    assert_eq!(rt; (job.opcode, job.flags, job.size), (0x04, 0xff_ffff, 0xffff_ffff));
+                    assert_eq!(rt;
+                        (job.opcode, job.flags, job.size),
+                        (0x04, 0xff_ffff, 0xffff_ffff)
+                    );
                     Some(job.source)
                 }
                 _ => None,
             },
             Err(ScriptError::Fault(fault)) => {
-                assert_eq!(rt; (fault.line, fault.kind), (2, Kind::BadNumber), "at {number}");
+                assert_eq!(rt;
+                    (fault.line, fault.kind),
+                    (2, Kind::BadNumber),
+                    "at {number}"
+                );
                 None
             }
             Err(ScriptError::NoMemory) => panic!(rt; "out of memory"),
@@ -165,28 +194,69 @@ fn longest_lines_and_words(rt: HostRuntime) -> Result<(), Fail> {
         ("image 1\nnoop", b' ', 16_380, "", None),
         ("image 1\nnoop", b' ', 16_380, "\r\n", None),
         ("image 1\nnoop", b' ', 16_381, "", Some((2, Kind::LongLine))),
-        ("image 1\nnoop\u{e9}", b' ', 16_380, "", Some((2, Kind::LongLine))),
-        ("image 1\nmove ", b' ', 16_380, "", Some((2, Kind::LongLine))),
-        ("image 1\nnoop", b' ', 16_380, "\r", Some((2, Kind::LongLine))),
+        (
+            "image 1\nnoop\u{e9}",
+            b' ',
+            16_380,
+            "",
+            Some((2, Kind::LongLine)),
+        ),
+        (
+            "image 1\nmove ",
+            b' ',
+            16_380,
+            "",
+            Some((2, Kind::LongLine)),
+        ),
+        (
+            "image 1\nnoop",
+            b' ',
+            16_380,
+            "\r",
+            Some((2, Kind::LongLine)),
+        ),
         ("image 1\n", b' ', 20_000, "", None),
         ("image 1\n#", b'\xff', 20_000, "\n", None),
         ("image 1\npage 0 ", b'a', 8192, "", None),
         ("image 1\npage 0 ", b'a', 8194, "", Some((2, Kind::BadHex))),
         ("image 1\npage 0\npoke 0 ", b'a', 8192, "", None),
-        ("image 1\npage 0\npoke 1 ", b'a', 8192, "", Some((3, Kind::BadRange))),
-        ("image 1\npage 0\npoke 0 ", b'a', 8194, "", Some((3, Kind::BadHex))),
+        (
+            "image 1\npage 0\npoke 1 ",
+            b'a',
+            8192,
+            "",
+            Some((3, Kind::BadRange)),
+        ),
+        (
+            "image 1\npage 0\npoke 0 ",
+            b'a',
+            8194,
+            "",
+            Some((3, Kind::BadHex)),
+        ),
         ("image 2\npage 1\npage 0\npoke 4095 ", b'a', 8192, "", None),
-        ("image 3\npage 0\npage 2\npoke 4095 ", b'a', 4, "", Some((4, Kind::BadRange))),
+        (
+            "image 3\npage 0\npage 2\npoke 4095 ",
+            b'a',
+            4,
+            "",
+            Some((4, Kind::BadRange)),
+        ),
     ] {
         let text = padded(rt.alloc(), front, byte, copies, back)?;
-        assert_eq!(rt; fault_of(&rt, rt.alloc(), text.as_slice()), fault, "at {front:?}");
+        assert_eq!(rt;
+            fault_of(&rt, rt.alloc(), text.as_slice()),
+            fault,
+            "at {front:?}"
+        );
     }
     Ok(())
 }
 
 #[test]
 fn each_line_is_read(rt: HostRuntime) -> Result<(), Fail> {
-    let text = b"image 4096\npage 4095 00fF\npage 0\npoke 4094 0102\nnoop flags 0x10\nfill 0x0807 4090 12\nshow 4088 65536\n";
+    let text =
+        b"image 4096\npage 4095 00fF\npage 0\npoke 4094 0102\nnoop flags 0x10\nfill 0x0807 4090 12\nshow 4088 65536\n";
     let lines = [
         "Image { pages: 4096 }",
         "Page { page: 4095, bytes: Bytes { list: [0, 255] } }",
@@ -213,7 +283,10 @@ fn fault_texts(rt: HostRuntime) {
         (Kind::LongLine, "the line is too long"),
         (Kind::NotAscii, "the line is not ASCII text"),
         (Kind::UnknownWord, "unknown word"),
-        (Kind::MissingImage, "the script must begin with an image line"),
+        (
+            Kind::MissingImage,
+            "the script must begin with an image line",
+        ),
         (Kind::SecondImage, "a second image line"),
         (Kind::WrongWords, "wrong number or kind of words"),
         (Kind::BadNumber, "not a number of the right size"),

@@ -1,4 +1,4 @@
-use Rattle.std.proofs.Common.{◌∙◌, ap, arith, ◌≤◌}
+use Rattle.std.proofs.Common.{◌∙◌, ap, arith}
 use Rattle.dml_script.specs.Number.{at_most, number_of}
 use Rattle.dml_script.proofs.NumberLemmas.{at_most_again}
 use Rattle.dml_script.proofs.numbers.number_of.Goals as goal

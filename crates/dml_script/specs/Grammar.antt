@@ -130,6 +130,9 @@ entry_faults first None before = (true, WrongWords) ∷ []
 entry_faults first (Some entries) before =
     map (λ e. slot_fault e.0 e.1) entries ++ (is_out_of_range first (values_of entries) before, BadRange) ∷ []
 
+abbrev pub rest_faults : Word → List (List ℕ) → List Line → List (Bool × Kind)
+rest_faults first after before = entry_faults first (fitted (parts_in first) after) before
+
 abbrev pub is_image : Word → Bool
 is_image word.Image = true
 is_image word.Page = false
@@ -147,7 +150,7 @@ place_faults first before =
 abbrev pub word_faults : Option Word → List (List ℕ) → List Line → List (Bool × Kind)
 word_faults None after before = (true, UnknownWord) ∷ []
 word_faults (Some first) after before =
-    place_faults first before ++ entry_faults first (fitted (parts_in first) after) before
+    place_faults first before ++ rest_faults first after before
 
 abbrev pub faults_of : List ℕ → List ℕ → List (List ℕ) → List Line → List (Bool × Kind)
 faults_of text first after before =

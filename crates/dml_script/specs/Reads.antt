@@ -1,5 +1,5 @@
 -- What the functions of the reader answer.
-use Rattle.std.specs.Prelude.{◌≡◌, ◌<◌, ◌≤◌, ℕ, Bool, List, [], length, map, Option, Some, None, Result, Ok, Err}
+use Rattle.std.specs.Prelude.{◌≡◌, ◌<◌, ◌≤◌, ◌^◌, ℕ, Bool, List, [], length, map, Option, Some, None, Result, Ok, Err}
 use Rattle.std.specs.Borrow.{Bor}
 use Rattle.dml_script.specs.declared.table.Slot.{Slot}
 use Rattle.dml_script.specs.declared.entries.Values.{Values}
@@ -48,7 +48,7 @@ IsNext before (line.Poke address bytes) = Unit {0}
 IsNext before (line.Job job) = Unit {0}
 IsNext before (line.Show address len) = Unit {0}
 
--- values that fit their fields
+-- what the slots of a line say of its values
 abbrev pub HasSizes : Word → grammar.Values → Type 0
 HasSizes word.Image v = Unit {0}
 HasSizes word.Page v = Unit {0}
@@ -56,6 +56,15 @@ HasSizes word.Poke v = length v.bytes ≤ 4096
 HasSizes word.NoOp v = grammar.number_at v 0 ≤ 0xffffff
 HasSizes word.Fill v = (grammar.number_at v 2 ≤ 0xffff_ffff) × (grammar.number_at v 3 ≤ 0xffffff)
 HasSizes word.Show v = Unit {0}
+
+-- numbers that fit the fields of 32 bits
+abbrev pub FitsFields : Word → grammar.Values → Type 0
+FitsFields word.Image v = grammar.number_at v 0 < 2 ^ 32
+FitsFields word.Page v = grammar.number_at v 0 < 2 ^ 32
+FitsFields word.Poke v = Unit {0}
+FitsFields word.NoOp v = grammar.number_at v 0 < 2 ^ 32
+FitsFields word.Fill v = (grammar.number_at v 2 < 2 ^ 32) × (grammar.number_at v 3 < 2 ^ 32)
+FitsFields word.Show v = grammar.number_at v 1 < 2 ^ 32
 
 -- what a reader of one line answers: a line or none, or why it failed
 abbrev pub verdict_from : Option Line → grammar.Verdict

@@ -3,9 +3,9 @@
 ghost use Rattle.std.specs.Prelude.{◌≡◌, [], IfOk, IfErr, IfSome, OnOk, Some, None, true, false};
 ghost use Rattle.std.specs.List.{list_all};
 ghost use Rattle.dml_script.specs.Grammar as grammar;
-ghost use Rattle.dml_script.specs.Reads.{Condemns, Fails, HasSizes, IsNext, entries_seen, values_seen, verdict_from};
-ghost use Rattle.dml_script.specs.Table.{parts_in, word_with};
-ghost use Rattle.dml_script.specs.Text as text_spec;
+ghost use Rattle.dml_script.specs.Reads.{Condemns, Fails, FitsFields, HasSizes, IsNext, values_seen, verdict_from};
+ghost use Rattle.dml_script.specs.Table.{word_with};
+ghost use Rattle.dml_script.specs.Text.{is_text, words};
 
 use crate::entries::{Values, fit, read_entries};
 use crate::faults::{Kind, ReadError};
@@ -21,7 +21,7 @@ const LONGEST_LINE: usize = 16_384;
 
 /// Whether all bytes are tabs or from the space to the tilde.
 fn is_text(text: &[u8]) -> bool
-    ensures { result ≡ list_all text_spec.is_text text.now }
+    ensures { result ≡ list_all is_text text.now }
 {
     text.iter()
         .all(|c| *c == b'\t' || (b' '..=b'~').contains(c))
@@ -36,7 +36,7 @@ fn is_comment(first: &[u8]) -> bool
 
 /// Whether a line is skipped: it has no word, or its first word begins with `#`.
 pub fn is_skipped(text: &[u8]) -> bool
-    ensures { result ≡ grammar.is_skipped (text_spec.words text.now) }
+    ensures { result ≡ grammar.is_skipped (words text.now) }
 {
     match next_word(text) {
         Some((first, _)) => is_comment(first),
@@ -57,7 +57,8 @@ fn number_at(values: &Values, place: usize) -> u64
 /// Whether a line's numbers are out of range.
 fn is_out_of_range(word: Word, values: &Values, reading: &Reading) -> bool
     requires { HasSizes word (values_seen values.now) }
-    ensures { result ≡ grammar.is_out_of_range word (values_seen values.now) reading.now }
+    ensures value { result ≡ grammar.is_out_of_range word (values_seen values.now) reading.now }
+    ensures fields { result ≡ false → FitsFields word (values_seen values.now) }
 {
     let first = number_at(values, 0);
     match word {
@@ -72,24 +73,20 @@ fn is_out_of_range(word: Word, values: &Values, reading: &Reading) -> bool
     }
 }
 
-/// The line of values that are in range.
-fn line_of(word: Word, values: Values, reading: &Reading) -> Line
-    requires sizes { HasSizes word (values_seen values) }
-    requires range { grammar.is_out_of_range word (values_seen values) reading.now ≡ false }
-    ensures line { result ≡ grammar.line_of word (values_seen values) }
+/// The line of values that fit its fields.
+fn line_of(word: Word, values: Values) -> Line
+    requires { FitsFields word (values_seen values) }
+    ensures { result ≡ grammar.line_of word (values_seen values) }
 {
     let first = number_at(&values, 0);
     match word {
         Word::Image => Line::Image {
             pages: first as u32,
         },
-        Word::Page => {
-            let _within = reading.has_page(first);
-            Line::Page {
-                page: first as u32,
-                bytes: Bytes { list: values.bytes },
-            }
-        }
+        Word::Page => Line::Page {
+            page: first as u32,
+            bytes: Bytes { list: values.bytes },
+        },
         Word::Poke => Line::Poke {
             addr: first,
             bytes: Bytes { list: values.bytes },
@@ -109,10 +106,10 @@ fn line_of(word: Word, values: Values, reading: &Reading) -> Line
 /// The line of a known first word that may stand here, of the words after it.
 fn read_words(alloc: Global, reading: &Reading, word: Word, rest: &[u8]) -> Result<Line, ReadError>
     requires { grammar.is_image word ≡ true → reading.now ≡ [] }
-    ensures fine { OnOk result (grammar.first_of (grammar.entry_faults word (grammar.fitted (parts_in word) (text_spec.words rest.now)) reading.now) ≡ None) }
-    ensures line { IfOk result (λ line. grammar.line_in (Some word) (text_spec.words rest.now) ≡ grammar.Fine line) }
+    ensures fine { OnOk result (grammar.first_of (grammar.rest_faults word (words rest.now) reading.now) ≡ None) }
+    ensures line { IfOk result (λ line. grammar.line_in (Some word) (words rest.now) ≡ grammar.Fine line) }
     ensures next { IfOk result (λ line. IsNext reading.now line) }
-    ensures err { IfErr result (λ e. Fails e (grammar.first_of (grammar.entry_faults word (grammar.fitted (parts_in word) (text_spec.words rest.now)) reading.now))) }
+    ensures err { IfErr result (λ e. Fails e (grammar.first_of (grammar.rest_faults word (words rest.now) reading.now))) }
 {
     let Some(entries) = fit(parts_of(word), rest) else {
         return Err(ReadError::Fault(Kind::WrongWords));
@@ -121,7 +118,7 @@ fn read_words(alloc: Global, reading: &Reading, word: Word, rest: &[u8]) -> Resu
     if is_out_of_range(word, &values, reading) {
         return Err(ReadError::Fault(Kind::BadRange));
     }
-    Ok(line_of(word, values, reading))
+    Ok(line_of(word, values))
 }
 
 /// Whether a first word may not stand here: the first line is the `image` line, and the only one.
@@ -144,10 +141,10 @@ fn read_line(
     first: &[u8],
     rest: &[u8],
 ) -> Result<Line, ReadError>
-    ensures fine { OnOk result (grammar.first_of (grammar.faults_of text.now first.now (text_spec.words rest.now) reading.now) ≡ None) }
-    ensures line { IfOk result (λ line. grammar.line_in (word_with first.now) (text_spec.words rest.now) ≡ grammar.Fine line) }
+    ensures fine { let faults = grammar.faults_of text.now first.now (words rest.now) reading.now in OnOk result (grammar.first_of faults ≡ None) }
+    ensures line { IfOk result (λ line. grammar.line_in (word_with first.now) (words rest.now) ≡ grammar.Fine line) }
     ensures next { IfOk result (λ line. IsNext reading.now line) }
-    ensures err { IfErr result (λ e. Fails e (grammar.first_of (grammar.faults_of text.now first.now (text_spec.words rest.now) reading.now))) }
+    ensures err { let faults = grammar.faults_of text.now first.now (words rest.now) reading.now in IfErr result (λ e. Fails e (grammar.first_of faults)) }
 {
     if text.len() > LONGEST_LINE {
         return Err(ReadError::Fault(Kind::LongLine));
@@ -176,8 +173,5 @@ pub fn judge(alloc: Global, reading: &Reading, text: &[u8]) -> Result<Option<Lin
     if is_comment(first) {
         return Ok(None);
     }
-    match read_line(alloc, reading, text, first, rest) {
-        Ok(line) => Ok(Some(line)),
-        Err(error) => Err(error),
-    }
+    read_line(alloc, reading, text, first, rest).map(Some)
 }

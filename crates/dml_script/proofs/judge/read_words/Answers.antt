@@ -20,20 +20,14 @@ is_out_of_range-requires c =
     cc (c.in-Some.ensures, c.as_slice.ensures.value, c.parts_of.ensures.parts) in
     rw c.in_ok-values.ensures.values (sizes_of_fitted c.args.word (words c.args.rest.now) _ fitted)
 
-pub line_of-requires-clause-sizes : goal.line_of-requires-clause-sizes
-line_of-requires-clause-sizes c =
-    let fitted : grammar.fitted (parts_in c.args.word) (words c.args.rest.now) ≡ Some (entries_seen c.as_slice.result.now) =
-    cc (c.in-Some.ensures, c.as_slice.ensures.value, c.parts_of.ensures.parts) in
-    rw c.in_ok-values.ensures.values (sizes_of_fitted c.args.word (words c.args.rest.now) _ fitted)
-
 pub returns-clause-fine : goal.returns-clause-fine
 returns-clause-fine c =
     let fitted : grammar.fitted (parts_in c.args.word) (words c.args.rest.now) ≡ Some (entries_seen c.as_slice.result.now) =
     cc (c.in-Some.ensures, c.as_slice.ensures.value, c.parts_of.ensures.parts) in
     let within : grammar.is_out_of_range c.args.word (grammar.values_of (entries_seen c.as_slice.result.now)) c.args.reading.now ≡ false =
-    rw c.in_ok-values.ensures.values at (sym c.is_out_of_range.ensures ∙ c.if-is_out_of_range.false) in
+    rw c.in_ok-values.ensures.values at (sym c.is_out_of_range.ensures.value ∙ c.if-is_out_of_range.false) in
     rw fitted (first_of_more (faults_in c.as_slice.result.now) _ c.in_ok-values.ensures.fine ∙ rw within refl)
 
 pub returns-clause-next : goal.returns-clause-next
 returns-clause-next c =
-    rw c.line_of.ensures.line (next_in_range c.args.word (values_seen c.in_ok-values.values) c.args.reading.now c.requires (sym c.is_out_of_range.ensures ∙ c.if-is_out_of_range.false))
+    rw c.line_of.ensures (next_in_range c.args.word (values_seen c.in_ok-values.values) c.args.reading.now c.requires (sym c.is_out_of_range.ensures.value ∙ c.if-is_out_of_range.false))

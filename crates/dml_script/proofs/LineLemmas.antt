@@ -1,10 +1,10 @@
 -- Laws of lines: the sizes of their values, the order of their faults, and what may come next.
-use Rattle.std.proofs.Common.{◌≡◌, ℕ, zero, suc, ◌+◌, ◌*◌, ◌/◌, ◌≤◌, List, [], ◌∷◌, ◌++◌, length, map, get_or, refl, sym, ◌∙◌, ap, subst, arith, Bool, true, false, cond, ◌&&◌, Option, Some, None, unwrap_or, Ok, Err, inl, inr, nat_le}
+use Rattle.std.proofs.Common.{◌≡◌, ℕ, zero, suc, ◌+◌, ◌*◌, ◌/◌, ◌≤◌, List, [], ◌∷◌, ◌++◌, length, map, get_or, refl, sym, ◌∙◌, ap, subst, arith, Bool, true, false, cond, ◌&&◌, Option, Some, None, unwrap_or, is_none, Ok, Err, inl, inr, nat_le}
 use Rattle.std.specs.List.{count_by}
 use Rattle.std.specs.Option.{option_and_then}
 use Rattle.std.specs.Result.{result_ok}
 use Rattle.std.proofs.lemmas.Bool.{cases_Bool, leb-true, ltb-true, and_parts, not-false}
-use Rattle.std.proofs.lemmas.List.{length-append}
+use Rattle.std.proofs.lemmas.List.{length-append, append-nil}
 use Rattle.std.proofs.lemmas.List.Sums.{sum_by-cons}
 use Rattle.hex.specs.Hex.{decode_of}
 use Rattle.hex.proofs.HexLemmas.{decode_of-ok}
@@ -20,7 +20,7 @@ use Rattle.dml_script.specs.declared.table.Part.{Part}
 use Rattle.dml_script.specs.Grammar as grammar
 use Rattle.dml_script.specs.Number.{number_of, at_most, bytes_in}
 use Rattle.dml_script.specs.Reads.{Fails, HasSizes, IsNext}
-use Rattle.dml_script.specs.Table.{parts_in}
+use Rattle.dml_script.specs.Table.{parts_in, descriptor_digits}
 
 abbrev Entries : Type 0
 Entries = List (Slot × Option (List ℕ))
@@ -125,22 +125,63 @@ all_bytes_fit (entry ∷ entries) =
     let after = all_bytes_fit entries in
     omega (arith, here, after, length-append (grammar.slot_bytes entry.0 entry.1) (grammar.values_of entries).bytes)
 
+-- the one word of a descriptor has 128 digits, if it has no fault
+raw_fitted : (ws : List (List ℕ)) (entries : Entries) → grammar.fitted (parts_in word.Raw) ws ≡ Some entries
+    → (w : List ℕ) × (entries ≡ (descriptor_digits, Some w) ∷ [])
+raw_fitted [] entries is = cc
+raw_fitted (w ∷ []) entries is = (w, cc)
+raw_fitted (w ∷ v ∷ ws) entries is = cc
+
+decoded_twice : (w : List ℕ) → length w ≡ 128 → is_none (result_ok (decode_of w)) ≡ false → length (unwrap_or (result_ok (decode_of w)) []) ≡ 64
+decoded_twice w long =
+    elim (decode_of w) as (λ r. decode_of w ≡ r → is_none (result_ok r) ≡ false → length (unwrap_or (result_ok r) []) ≡ 64) [
+      | Ok bytes ↦ λ is fine. let twice : length w ≡ 2 * length bytes = (decode_of-ok w bytes is).2 in omega arith
+      | Err e ↦ λ is fine. cc
+    ] refl
+
+descriptor_size : (w : List ℕ) → is_none (bytes_in 128 128 w) ≡ false → length (unwrap_or (bytes_in 128 128 w) []) ≡ 64
+descriptor_size w =
+    elim (cases_Bool (nat_le 128 (length w) && nat_le (length w) 128)) as (λ _. is_none (bytes_in 128 128 w) ≡ false → length (unwrap_or (bytes_in 128 128 w) []) ≡ 64) [
+      | inl within ↦
+          let both = and_parts (nat_le 128 (length w)) (nat_le (length w) 128) within in
+          let least : 128 ≤ length w = leb-true 128 (length w) both.0 in
+          let most : length w ≤ 128 = leb-true (length w) 128 both.1 in
+          rw within (decoded_twice w (omega arith))
+      | inr outside ↦ rw outside (λ fine. cc)
+    ]
+
+no_fault : (is_there : Bool) (kind : Kind) → grammar.first_of ((is_there, kind) ∷ []) ≡ None → is_there ≡ false
+no_fault true kind none = cc
+no_fault false kind none = refl
+
+raw_size : (ws : List (List ℕ)) (entries : Entries) → grammar.fitted (parts_in word.Raw) ws ≡ Some entries
+    → grammar.first_of (map (λ e. grammar.slot_fault e.0 e.1) entries) ≡ None → length (grammar.values_of entries).bytes ≡ 64
+raw_size ws entries is none =
+    let one = raw_fitted ws entries is in
+    let w : List ℕ = one.0 in
+    let fine : is_none (bytes_in 128 128 w) ≡ false =
+    no_fault _ _ (subst (λ (es : Entries). grammar.first_of (map (λ e. grammar.slot_fault e.0 e.1) es) ≡ None) one.1 none) in
+    let long : length (unwrap_or (bytes_in 128 128 w) [] ++ []) ≡ 64 = rw append-nil (descriptor_size w fine) in
+    subst (λ (es : Entries). length (grammar.values_of es).bytes ≡ 64) (sym one.1) long
+
 pub sizes_of_fitted : (first : Word) (ws : List (List ℕ)) (entries : Entries) → grammar.fitted (parts_in first) ws ≡ Some entries
+    → grammar.first_of (map (λ e. grammar.slot_fault e.0 e.1) entries) ≡ None
     → HasSizes first (grammar.values_of entries)
-sizes_of_fitted word.Image ws entries is = tt
-sizes_of_fitted word.Page ws entries is = tt
-sizes_of_fitted word.Poke ws entries is =
+sizes_of_fitted word.Image ws entries is fine = tt
+sizes_of_fitted word.Page ws entries is fine = tt
+sizes_of_fitted word.Poke ws entries is fine =
     let slots = fitted_slots (parts_in word.Poke) ws entries is in
     subst (λ (slots : List Slot). length (grammar.values_of entries).bytes ≤ bytes_of_slots slots) slots (all_bytes_fit entries)
-sizes_of_fitted word.NoOp ws entries is =
+sizes_of_fitted word.NoOp ws entries is fine =
     let slots = fitted_slots (parts_in word.NoOp) ws entries is in
     subst (λ (slots : List Slot). grammar.number_at (grammar.values_of entries) 0 ≤ limit_of (get_or slots 0 (Number 0))) slots (number_at_fits entries 0)
-sizes_of_fitted word.Fill ws entries is =
+sizes_of_fitted word.Fill ws entries is fine =
     let slots = fitted_slots (parts_in word.Fill) ws entries is in (
       subst (λ (slots : List Slot). grammar.number_at (grammar.values_of entries) 2 ≤ limit_of (get_or slots 2 (Number 0))) slots (number_at_fits entries 2),
       subst (λ (slots : List Slot). grammar.number_at (grammar.values_of entries) 3 ≤ limit_of (get_or slots 3 (Number 0))) slots (number_at_fits entries 3),
     )
-sizes_of_fitted word.Show ws entries is = tt
+sizes_of_fitted word.Raw ws entries is fine = raw_size ws entries is fine
+sizes_of_fitted word.Show ws entries is fine = tt
 
 -- What may come next.
 
@@ -151,6 +192,7 @@ next_in_range word.Page v before start within = ltb-true _ _ (not-false _ within
 next_in_range word.Poke v before start within = tt
 next_in_range word.NoOp v before start within = tt
 next_in_range word.Fill v before start within = tt
+next_in_range word.Raw v before start within = tt
 next_in_range word.Show v before start within = tt
 
 -- how many texts pass a test, the first apart

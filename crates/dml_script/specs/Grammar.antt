@@ -3,6 +3,7 @@ use Rattle.std.specs.Prelude.{ℕ, ◌+◌, ◌/◌, ◌^◌, Bool, true, false,
 use Rattle.std.specs.List.{flat_map, list_all, list_any, range_with_len}
 use Rattle.std.specs.Option.{option_map, option_and_then}
 use Rattle.std.specs.Str.Lines.{lines}
+use Rattle.dml_types.specs.Descriptor.{decoded, u8_at}
 use Rattle.dml_types.specs.Job.{no_op_job, fill_job}
 use Rattle.dml_types.specs.Memory.{page_size}
 use Rattle.dml_script.specs.declared.faults.Kind.{Kind}
@@ -106,6 +107,7 @@ line_of word.Page v = line.Page (number_at v 0) v.bytes
 line_of word.Poke v = line.Poke (number_at v 0) v.bytes
 line_of word.NoOp v = line.Job (record no_op_job { flags = number_at v 0 })
 line_of word.Fill v = line.Job (record (fill_job (number_at v 0) (number_at v 1) (number_at v 2)) { flags = number_at v 3 })
+line_of word.Raw v = line.Job (decoded v.bytes)
 line_of word.Show v = line.Show (number_at v 0) (number_at v 1)
 
 -- whether a line's numbers are out of range: pages 1 to 4,096, a page of the image, present bytes, 1 to 65,536 bytes to show
@@ -115,8 +117,23 @@ is_out_of_range word.Page v before = not (nat_lt (number_at v 0) (pages_of befor
 is_out_of_range word.Poke v before = not (has_bytes before (number_at v 0) (length v.bytes))
 is_out_of_range word.NoOp v before = false
 is_out_of_range word.Fill v before = false
+is_out_of_range word.Raw v before = false
 is_out_of_range word.Show v before =
     not (nat_le 1 (number_at v 1) && nat_le (number_at v 1) 65536) || nat_lt (2 ^ 64) (number_at v 0 + number_at v 1)
+
+-- the opcodes whose lines are not read yet: move, both compares, create, apply and dualcast
+abbrev pub later_opcodes : List ℕ
+later_opcodes = 0x03 ∷ 0x05 ∷ 0x06 ∷ 0x07 ∷ 0x08 ∷ 0x09 ∷ []
+
+-- whether a descriptor has one of these; its opcode is byte 7
+abbrev pub has_later_opcode : Word → Values → Bool
+has_later_opcode word.Image v = false
+has_later_opcode word.Page v = false
+has_later_opcode word.Poke v = false
+has_later_opcode word.NoOp v = false
+has_later_opcode word.Fill v = false
+has_later_opcode word.Raw v = list_any (λ opcode. nat_eq (u8_at v.bytes 7) opcode) later_opcodes
+has_later_opcode word.Show v = false
 
 -- Faults: in their order, each with what to look for.
 
@@ -128,7 +145,8 @@ slot_fault (Digits least most) (Some w) = (is_none (bytes_in least most w), BadH
 abbrev pub entry_faults : Word → Option (List (Slot × Option (List ℕ))) → List Line → List (Bool × Kind)
 entry_faults first None before = (true, WrongWords) ∷ []
 entry_faults first (Some entries) before =
-    map (λ e. slot_fault e.0 e.1) entries ++ (is_out_of_range first (values_of entries) before, BadRange) ∷ []
+    map (λ e. slot_fault e.0 e.1) entries
+    ++ (has_later_opcode first (values_of entries), UnknownWord) ∷ (is_out_of_range first (values_of entries) before, BadRange) ∷ []
 
 abbrev pub rest_faults : Word → List (List ℕ) → List Line → List (Bool × Kind)
 rest_faults first after before = entry_faults first (fitted (parts_in first) after) before
@@ -139,6 +157,7 @@ is_image word.Page = false
 is_image word.Poke = false
 is_image word.NoOp = false
 is_image word.Fill = false
+is_image word.Raw = false
 is_image word.Show = false
 
 -- the first line is the `image` line, and the only one

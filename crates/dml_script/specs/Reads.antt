@@ -55,6 +55,7 @@ HasSizes word.Page v = Unit {0}
 HasSizes word.Poke v = length v.bytes ≤ 4096
 HasSizes word.NoOp v = grammar.number_at v 0 ≤ 0xffffff
 HasSizes word.Fill v = (grammar.number_at v 2 ≤ 0xffff_ffff) × (grammar.number_at v 3 ≤ 0xffffff)
+HasSizes word.Raw v = length v.bytes ≡ 64
 HasSizes word.Show v = Unit {0}
 
 -- numbers that fit the fields of 32 bits
@@ -64,6 +65,7 @@ FitsFields word.Page v = grammar.number_at v 0 < 2 ^ 32
 FitsFields word.Poke v = Unit {0}
 FitsFields word.NoOp v = grammar.number_at v 0 < 2 ^ 32
 FitsFields word.Fill v = (grammar.number_at v 2 < 2 ^ 32) × (grammar.number_at v 3 < 2 ^ 32)
+FitsFields word.Raw v = length v.bytes ≡ 64
 FitsFields word.Show v = grammar.number_at v 1 < 2 ^ 32
 
 -- what a reader of one line answers: a line or none, or why it failed

@@ -14,7 +14,7 @@ use Rattle.dml_script.specs.declared.table.Part.TheVariants.{One, Maybe, Named}
 abbrev pub first_words : List (List ℕ × Word)
 first_words =
     (codes "image", word.Image) ∷ (codes "page", word.Page) ∷ (codes "poke", word.Poke) ∷ (codes "noop", word.NoOp)
-    ∷ (codes "fill", word.Fill) ∷ (codes "show", word.Show) ∷ []
+    ∷ (codes "fill", word.Fill) ∷ (codes "raw", word.Raw) ∷ (codes "show", word.Show) ∷ []
 
 abbrev pub word_with : List ℕ → Option Word
 word_with text = option_map (λ row. row.1) (find (λ row. bytes_eq text row.0) first_words)
@@ -34,6 +34,10 @@ flags = Named Flags (Number 0xffffff)
 abbrev pub page_digits : Slot
 page_digits = Digits 2 8192
 
+-- the 64 bytes of a descriptor in hexadecimal
+abbrev pub descriptor_digits : Slot
+descriptor_digits = Digits 128 128
+
 -- what comes after a first word, in this order
 abbrev pub parts_in : Word → List Part
 parts_in word.Image = long ∷ []
@@ -41,6 +45,7 @@ parts_in word.Page = long ∷ Maybe page_digits ∷ []
 parts_in word.Poke = long ∷ One page_digits ∷ []
 parts_in word.NoOp = flags ∷ []
 parts_in word.Fill = long ∷ long ∷ short ∷ flags ∷ []
+parts_in word.Raw = One descriptor_digits ∷ []
 parts_in word.Show = long ∷ long ∷ []
 
 -- the word that a suffix begins with

@@ -13,6 +13,7 @@ use crate::lines::{Bytes, Line};
 use crate::reading::Reading;
 use crate::table::{Word, parts_of, word_of};
 use crate::words::next_word;
+use dml_desc::decode;
 use dml_types::Job;
 use std::alloc::Global;
 
@@ -54,6 +55,13 @@ fn number_at(values: &Values, place: usize) -> u64
     }
 }
 
+/// Whether a line has a descriptor with an opcode whose lines are not read yet.
+fn has_later_opcode(word: Word, values: &Values) -> bool
+    ensures { result ≡ grammar.has_later_opcode word (values_seen values.now) }
+{
+    word == Word::Raw && matches!(values.bytes.get(7), Some(0x03 | 0x05..=0x09))
+}
+
 /// Whether a line's numbers are out of range.
 fn is_out_of_range(word: Word, values: &Values, reading: &Reading) -> bool
     requires { HasSizes word (values_seen values.now) }
@@ -65,7 +73,7 @@ fn is_out_of_range(word: Word, values: &Values, reading: &Reading) -> bool
         Word::Image => !(1..=4096).contains(&first),
         Word::Page => !reading.has_page(first),
         Word::Poke => !reading.has_bytes(first, values.bytes.len()),
-        Word::NoOp | Word::Fill => false,
+        Word::NoOp | Word::Fill | Word::Raw => false,
         Word::Show => {
             let len = number_at(values, 1);
             !(1..=65_536).contains(&len) || u128::from(first) + u128::from(len) > 1 << 64
@@ -96,6 +104,11 @@ fn line_of(word: Word, values: Values) -> Line
             let job = Job::fill(first, number_at(&values, 1), number_at(&values, 2) as u32);
             Line::Job(job.with_flags(number_at(&values, 3) as u32))
         }
+        Word::Raw => {
+            let mut descriptor = [0; 64];
+            descriptor.copy_from_slice(&values.bytes);
+            Line::Job(decode(&descriptor))
+        }
         Word::Show => Line::Show {
             addr: first,
             len: number_at(&values, 1) as u32,
@@ -115,6 +128,9 @@ fn read_words(alloc: Global, reading: &Reading, word: Word, rest: &[u8]) -> Resu
         return Err(ReadError::Fault(Kind::WrongWords));
     };
     let values = read_entries(alloc, entries.as_slice())?;
+    if has_later_opcode(word, &values) {
+        return Err(ReadError::Fault(Kind::UnknownWord));
+    }
     if is_out_of_range(word, &values, reading) {
         return Err(ReadError::Fault(Kind::BadRange));
     }

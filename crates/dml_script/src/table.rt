@@ -11,6 +11,7 @@ pub enum Word {
     Poke,
     NoOp,
     Fill,
+    Raw,
     Show,
 }
 
@@ -65,6 +66,7 @@ pub fn word_of(text: &[u8]) -> Option<Word>
         b"poke" => Some(Word::Poke),
         b"noop" => Some(Word::NoOp),
         b"fill" => Some(Word::Fill),
+        b"raw" => Some(Word::Raw),
         b"show" => Some(Word::Show),
         _ => None,
     }
@@ -81,6 +83,7 @@ pub fn parts_of(word: Word) -> &'static [Part]
         Word::Poke => &[LONG, Part::One(Slot::Digits(2, 8192))],
         Word::NoOp => &[FLAGS],
         Word::Fill => &[LONG, LONG, SHORT, FLAGS],
+        Word::Raw => &[Part::One(Slot::Digits(128, 128))],
         Word::Show => &[LONG, LONG],
     }
 }

@@ -62,6 +62,9 @@ fn each_kind_of_fault(rt: HostRuntime) {
         ("image 1\npage 0 000", 2, Kind::BadHex),
         ("image 1\npage 0 0g", 2, Kind::BadHex),
         ("image 1\npage 0 0x00", 2, Kind::BadHex),
+        ("image 1\nraw", 2, Kind::WrongWords),
+        ("image 1\nraw 00 flags 1", 2, Kind::WrongWords),
+        ("image 1\nraw 00", 2, Kind::BadHex),
         ("image 0", 1, Kind::BadRange),
         ("image 4097", 1, Kind::BadRange),
         ("image 18446744073709551615", 1, Kind::BadRange),
@@ -256,7 +259,7 @@ fn longest_lines_and_words(rt: HostRuntime) -> Result<(), Fail> {
 #[test]
 fn each_line_is_read(rt: HostRuntime) -> Result<(), Fail> {
     let text =
-        b"image 4096\npage 4095 00fF\npage 0\npoke 4094 0102\nnoop flags 0x10\nfill 0x0807 4090 12\nshow 4088 65536\n";
+        b"image 4096\npage 4095 00fF\npage 0\npoke 4094 0102\nnoop flags 0x10\nfill 0x0807 4090 12\nshow 4088 65536\nraw 000000000C0000040000000000000000001000000000000000200000000000006400000000000000000000000000000000000000000000000000000000000000\n";
     let lines = [
         "Image { pages: 4096 }",
         "Page { page: 4095, bytes: Bytes { list: [0, 255] } }",
@@ -265,6 +268,7 @@ fn each_line_is_read(rt: HostRuntime) -> Result<(), Fail> {
         "Job(Job { opcode: 0, flags: 16, source: 0, target: 0, size: 0, extra: 0, delta_size: 0, expected: 0 })",
         "Job(Job { opcode: 4, flags: 0, source: 2055, target: 4090, size: 12, extra: 0, delta_size: 0, expected: 0 })",
         "Show { addr: 4088, len: 65536 }",
+        "Job(Job { opcode: 4, flags: 12, source: 4096, target: 8192, size: 100, extra: 0, delta_size: 0, expected: 0 })",
     ];
     let Ok(script) = read_script(rt.alloc(), text) else {
         panic!(rt; "not read");
@@ -273,6 +277,47 @@ fn each_line_is_read(rt: HostRuntime) -> Result<(), Fail> {
     for (line, expected) in script.list.iter().zip(lines) {
         let shown = format!(in rt.alloc(); "{line:?}")?;
         assert_eq!(rt; shown.as_str(), expected);
+    }
+    Ok(())
+}
+
+/// A `raw` line after an `image` line: so many zeros, an opcode of two digits, and zeros up to a length.
+fn raw_script(alloc: Global, opcode: &str, digits: usize) -> Result<Vec<u8>, AllocError> {
+    let mut text = Vec::from_slice(alloc, b"image 1\nraw 00000000000000")?;
+    text.extend_from_slice(opcode.as_bytes())?;
+    for _ in 16..digits {
+        text.push(b'0')?;
+    }
+    Ok(text)
+}
+
+#[test]
+fn raw_lines(rt: HostRuntime) -> Result<(), Fail> {
+    for (opcode, digits, fault) in [
+        ("00", 128, None),
+        ("04", 128, None),
+        ("0a", 128, None),
+        ("10", 128, None),
+        ("fF", 128, None),
+        ("03", 128, Some((2, Kind::UnknownWord))),
+        ("05", 128, Some((2, Kind::UnknownWord))),
+        ("06", 128, Some((2, Kind::UnknownWord))),
+        ("07", 128, Some((2, Kind::UnknownWord))),
+        ("08", 128, Some((2, Kind::UnknownWord))),
+        ("09", 128, Some((2, Kind::UnknownWord))),
+        // short_raw_line
+        ("00", 126, Some((2, Kind::BadHex))),
+        ("03", 127, Some((2, Kind::BadHex))),
+        ("03", 129, Some((2, Kind::BadHex))),
+        ("00", 130, Some((2, Kind::BadHex))),
+        ("0x", 128, Some((2, Kind::BadHex))),
+    ] {
+        let text = raw_script(rt.alloc(), opcode, digits)?;
+        assert_eq!(rt;
+            fault_of(&rt, rt.alloc(), text.as_slice()),
+            fault,
+            "at {opcode} {digits}"
+        );
     }
     Ok(())
 }

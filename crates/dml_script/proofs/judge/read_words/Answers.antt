@@ -18,7 +18,7 @@ pub is_out_of_range-requires : goal.is_out_of_range-requires
 is_out_of_range-requires c =
     let fitted : grammar.fitted (parts_in c.args.word) (words c.args.rest.now) ≡ Some (entries_seen c.as_slice.result.now) =
     cc (c.in-Some.ensures, c.as_slice.ensures.value, c.parts_of.ensures.parts) in
-    rw c.in_ok-values.ensures.values (sizes_of_fitted c.args.word (words c.args.rest.now) _ fitted)
+    rw c.in_ok-values.ensures.values (sizes_of_fitted c.args.word (words c.args.rest.now) _ fitted c.in_ok-values.ensures.fine)
 
 pub returns-clause-fine : goal.returns-clause-fine
 returns-clause-fine c =
@@ -26,7 +26,10 @@ returns-clause-fine c =
     cc (c.in-Some.ensures, c.as_slice.ensures.value, c.parts_of.ensures.parts) in
     let within : grammar.is_out_of_range c.args.word (grammar.values_of (entries_seen c.as_slice.result.now)) c.args.reading.now ≡ false =
     rw c.in_ok-values.ensures.values at (sym c.is_out_of_range.ensures.value ∙ c.if-is_out_of_range.false) in
-    rw fitted (first_of_more (faults_in c.as_slice.result.now) _ c.in_ok-values.ensures.fine ∙ rw within refl)
+    let later : grammar.has_later_opcode c.args.word (grammar.values_of (entries_seen c.as_slice.result.now)) ≡ false =
+    rw c.in_ok-values.ensures.values at (sym c.has_later_opcode.ensures ∙ c.if-has_later_opcode.false)
+    in
+    rw fitted (first_of_more (faults_in c.as_slice.result.now) _ c.in_ok-values.ensures.fine ∙ rw (later, within) refl)
 
 pub returns-clause-next : goal.returns-clause-next
 returns-clause-next c =

@@ -13,7 +13,7 @@ mod table;
 mod words;
 
 pub use faults::{Kind, ScriptError, ScriptFault, fault_text};
-pub use laws::law_first_fault;
+pub use laws::law_of_first_fault;
 pub use lines::{Bytes, Line, Script};
 pub use reader::read_script;
 

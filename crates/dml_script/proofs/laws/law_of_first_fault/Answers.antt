@@ -1,5 +1,5 @@
 use Rattle.dml_script.proofs.FirstFaultLemmas.{reads_faultless, names_first_fault}
-use Rattle.dml_script.proofs.laws.law_first_fault.Goals as goal
+use Rattle.dml_script.proofs.laws.law_of_first_fault.Goals as goal
 
 pub returns-clause-lines : goal.returns-clause-lines
 returns-clause-lines c = reads_faultless

@@ -3,7 +3,7 @@ use Rattle.std.specs.Prelude.{ℕ, ◌+◌, ◌/◌, ◌^◌, Bool, true, false,
 use Rattle.std.specs.List.{flat_map, list_all, list_any, range_with_len}
 use Rattle.std.specs.Option.{option_map, option_and_then}
 use Rattle.std.specs.Str.Lines.{lines}
-use Rattle.dml_types.specs.Descriptor.{decoded, u8_at}
+use Rattle.dml_desc.specs.Descriptor.{decoded, u8_at}
 use Rattle.dml_types.specs.Job.{no_op_job, fill_job}
 use Rattle.dml_types.specs.Memory.{page_size}
 use Rattle.dml_script.specs.declared.faults.Kind.{Kind}

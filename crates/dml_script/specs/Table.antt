@@ -1,5 +1,6 @@
 -- The table of lines: which words may come after a first word, and what each of them is.
-use Rattle.std.specs.Prelude.{ℕ, List, [], ◌∷◌, Option, codes, bytes_eq, find}
+use Rattle.std.specs.Prelude.{ℕ, List, [], ◌∷◌, Option, codes, bytes_eq, find, map}
+use Rattle.std.specs.Borrow.{Bor}
 use Rattle.std.specs.Option.{option_map}
 use Rattle.dml_script.specs.declared.table.Word.{Word}
 use Rattle.dml_script.specs.declared.table.Word.TheVariants as word
@@ -16,8 +17,15 @@ first_words =
     (codes "image", word.Image) ∷ (codes "page", word.Page) ∷ (codes "poke", word.Poke) ∷ (codes "noop", word.NoOp)
     ∷ (codes "fill", word.Fill) ∷ (codes "raw", word.Raw) ∷ (codes "show", word.Show) ∷ []
 
+abbrev pub word_in : List (List ℕ × Word) → List ℕ → Option Word
+word_in rows text = option_map (λ row. row.1) (find (λ row. bytes_eq text row.0) rows)
+
+-- the rows of a table, behind their references
+abbrev pub rows_seen : List (Bor (List ℕ) × Word) → List (List ℕ × Word)
+rows_seen rows = map (λ row. (row.0.now, row.1)) rows
+
 abbrev pub word_with : List ℕ → Option Word
-word_with text = option_map (λ row. row.1) (find (λ row. bytes_eq text row.0) first_words)
+word_with text = word_in first_words text
 
 -- an address, a pattern or a number whose range is looked for later: 64 bits; and a size of 32 bits
 abbrev pub long : Part

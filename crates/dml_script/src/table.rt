@@ -1,7 +1,7 @@
 //! The table of lines: which words may come after a first word, and what each of them is.
 
 ghost use Rattle.std.specs.Prelude.{◌≡◌, ◌≤◌, length};
-ghost use Rattle.dml_script.specs.Table.{word_with, parts_in, suffix_text};
+ghost use Rattle.dml_script.specs.Table.{rows_seen, word_in, word_with, parts_in, suffix_text};
 
 /// The first word of a line.
 #[derive(Clone, Copy, PartialEq, Eq, Debug)]
@@ -56,20 +56,34 @@ const SHORT: Part = Part::One(Slot::Number(0xffff_ffff));
 
 const FLAGS: Part = Part::Named(Suffix::Flags, Slot::Number(0xff_ffff));
 
+/// The first words of lines.
+const FIRST_WORDS: [(&[u8], Word); 7] = [
+    (b"image", Word::Image),
+    (b"page", Word::Page),
+    (b"poke", Word::Poke),
+    (b"noop", Word::NoOp),
+    (b"fill", Word::Fill),
+    (b"raw", Word::Raw),
+    (b"show", Word::Show),
+];
+
+/// The word beside a text in a table, if it is there.
+fn find_word(rows: &[(&[u8], Word)], text: &[u8]) -> Option<Word>
+    ensures { result ≡ word_in (rows_seen rows.now) text.now }
+{
+    for (name, word) in rows {
+        if text == *name {
+            return Some(*word);
+        }
+    }
+    None
+}
+
 /// The first word with this text, if it is one.
 pub fn word_of(text: &[u8]) -> Option<Word>
     ensures { result ≡ word_with text.now }
 {
-    match text {
-        b"image" => Some(Word::Image),
-        b"page" => Some(Word::Page),
-        b"poke" => Some(Word::Poke),
-        b"noop" => Some(Word::NoOp),
-        b"fill" => Some(Word::Fill),
-        b"raw" => Some(Word::Raw),
-        b"show" => Some(Word::Show),
-        _ => None,
-    }
+    find_word(&FIRST_WORDS, text)
 }
 
 /// The parts of a line with this first word.

@@ -149,7 +149,7 @@ opcode_kept (Some CreateDelta) bytes job = refl
 opcode_kept (Some ApplyDelta) bytes job = refl
 opcode_kept (Some Dualcast) bytes job = refl
 
-op_of-decoded : (bytes : List ℕ) → op_of (decoded bytes) ≡ op_of (common_fields bytes)
+pub op_of-decoded : (bytes : List ℕ) → op_of (decoded bytes) ≡ op_of (common_fields bytes)
 unfolding decoded
 op_of-decoded bytes = ap (λ n. op_of (plain n)) (opcode_kept (op_of (common_fields bytes)) bytes (common_fields bytes))
 

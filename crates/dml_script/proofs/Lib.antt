@@ -1,7 +1,14 @@
+pub mod BytesLemmas
 pub mod EntryLemmas
 pub mod FirstFaultLemmas
+pub mod FitLemmas
+pub mod FollowLemmas
+pub mod JobLemmas
 pub mod LineLemmas
 pub mod NumberLemmas
 pub mod PresenceLemmas
 pub mod Rows
+pub mod RunLemmas
+pub mod SessionLemmas
+pub mod TextLemmas
 pub mod WordLemmas

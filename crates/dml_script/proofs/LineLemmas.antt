@@ -22,7 +22,7 @@ use Rattle.dml_script.specs.Number.{number_of, at_most, bytes_in}
 use Rattle.dml_script.specs.Reads.{Fails, HasSizes, IsNext}
 use Rattle.dml_script.specs.Table.{parts_in, descriptor_digits}
 
-abbrev Entries : Type 0
+abbrev pub Entries : Type 0
 Entries = List (Slot × Option (List ℕ))
 
 -- The first fault of a list, and of another after it.
@@ -43,7 +43,7 @@ fails_front (errors.Fault kind) faults more fails = first_of_front faults more k
 
 -- Sizes. The entries of a line have the slots of its parts.
 
-abbrev slots_of : Entries → List Slot
+abbrev pub slots_of : Entries → List Slot
 slots_of entries = map (λ e. e.0) entries
 
 with_first_slots : (entry : Slot × Option (List ℕ)) (some : Option Entries) (entries : Entries) (slots : List Slot)
@@ -61,7 +61,7 @@ part_slots part parts None entries is after = cc
 part_slots part parts (Some t) entries is after =
     with_first_slots (grammar.slot_of part, t.0) (grammar.fitted parts t.1) entries (map grammar.slot_of parts) is (after t.1)
 
-fitted_slots : (parts : List Part) (ws : List (List ℕ)) (entries : Entries) → grammar.fitted parts ws ≡ Some entries → slots_of entries ≡ map grammar.slot_of parts
+pub fitted_slots : (parts : List Part) (ws : List (List ℕ)) (entries : Entries) → grammar.fitted parts ws ≡ Some entries → slots_of entries ≡ map grammar.slot_of parts
 fitted_slots [] [] entries is = let none : [] ≡ entries = cc in ap slots_of (sym none)
 fitted_slots [] (w ∷ ws) entries is = cc
 fitted_slots (part ∷ parts) ws entries is =
@@ -72,11 +72,11 @@ abbrev limit_of : Slot → ℕ
 limit_of (Number largest) = largest
 limit_of (Digits least most) = 0
 
-abbrev most_bytes : Slot → ℕ
+abbrev pub most_bytes : Slot → ℕ
 most_bytes (Number largest) = 0
 most_bytes (Digits least most) = most / 2
 
-abbrev bytes_of_slots : List Slot → ℕ
+abbrev pub bytes_of_slots : List Slot → ℕ
 bytes_of_slots [] = 0
 bytes_of_slots (slot ∷ slots) = most_bytes slot + bytes_of_slots slots
 
@@ -118,7 +118,7 @@ bytes_fit slot None = omega arith
 bytes_fit (Number largest) (Some w) = omega arith
 bytes_fit (Digits least most) (Some w) = digits_fit least most w
 
-all_bytes_fit : (entries : Entries) → length (grammar.values_of entries).bytes ≤ bytes_of_slots (slots_of entries)
+pub all_bytes_fit : (entries : Entries) → length (grammar.values_of entries).bytes ≤ bytes_of_slots (slots_of entries)
 all_bytes_fit [] = omega arith
 all_bytes_fit (entry ∷ entries) =
     let here = bytes_fit entry.0 entry.1 in

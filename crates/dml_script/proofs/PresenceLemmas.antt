@@ -34,7 +34,7 @@ bytes_present before address n each =
     let place : get_or (range_with_len 0 n) k d ≡ k = get_or-range_with_len 0 n k d within ∙ zero-add k in
     rw place (each k within))
 
-byte_present : (before : List Line) (address n i : ℕ) → i < n → has_bytes before address n ≡ true → is_present before ((address + i) / 4096) ≡ true
+pub byte_present : (before : List Line) (address n i : ℕ) → i < n → has_bytes before address n ≡ true → is_present before ((address + i) / 4096) ≡ true
 byte_present before address n i low all =
     let within : i < length (range_with_len 0 n) = omega (arith, length-range_with_len 0 n) in
     let place : get_or (range_with_len 0 n) i 0 ≡ i = get_or-range_with_len 0 n i 0 low ∙ zero-add i in

@@ -2,7 +2,10 @@ pub mod Faults
 pub mod FirstFault
 pub mod Grammar
 pub mod Number
+pub mod Output
 pub mod Reads
+pub mod Run
 pub mod Table
 pub mod Text
 pub mod Tracks
+pub mod Watching

@@ -1,0 +1,202 @@
+-- A script's lines fit the memory that they meet.
+use Rattle.std.proofs.Common.{◌≡◌, ◌≢◌, ℕ, zero, suc, ◌+◌, ◌/◌, ◌^◌, ◌<◌, ◌≤◌, List, [], ◌∷◌, ◌++◌, length, get_or, set, replicate, refl, sym, ◌∙◌, ap, subst, arith, eq-eqb, Bool, true, false, not, ◌||◌, Result, Ok, Err, inl, inr, nat_eq, append_assoc}
+use Rattle.std.specs.Str.Lines.{lines, lines_of_parts}
+use Rattle.std.specs.List.{slice_split}
+use Rattle.std.proofs.lemmas.Bool.{cases_Bool, eqb-true, eqb-false}
+use Rattle.std.proofs.lemmas.List.{append-nil, get_or-set_same, get_or-set_other, length-append, length-replicate, length-set}
+use Rattle.std.proofs.lemmas.List.Folds.{list_any-append}
+use Rattle.std.proofs.lemmas.List.Splits.{length-slice_split}
+use Rattle.std.proofs.lemmas.List.Sums.{count_by-le-length}
+use Rattle.dml_types.specs.Memory.{has}
+use Rattle.dml_types.proofs.FirstLemmas.{first_none}
+use Rattle.dml_types.proofs.StepLemmas.{step_present}
+use Rattle.dml_script.specs.declared.faults.ScriptFault.{ScriptFault}
+use Rattle.dml_script.specs.declared.lines.Line.{Line}
+use Rattle.dml_script.specs.declared.lines.Line.TheVariants as line
+use Rattle.dml_script.specs.Grammar.{Skipped, Faulty, Fine, brings, is_present, pages_of, parse, parse_from, verdict, fault_at}
+use Rattle.dml_script.specs.Run.{Session, AllFit, Fits, IsRunnable, after_line, opening}
+use Rattle.dml_script.proofs.FollowLemmas.{MayFollow, follows}
+use Rattle.dml_script.proofs.PresenceLemmas.{byte_present}
+
+-- a session after lines has the pages that they bring
+record Agrees (session : Session) (before : List Line) : Type 0 where
+  pages : length session.memory.present ≡ pages_of before
+  marks : (page : ℕ) → get_or session.memory.present page false ≡ is_present before page
+
+present_more : (before : List Line) (l : Line) (page : ℕ) → is_present (before ++ l ∷ []) page ≡ (is_present before page || (brings page l || false))
+present_more before l page = list_any-append (brings page) before (l ∷ [])
+
+-- a line after the first leaves the number of pages
+pages_more : (before : List Line) (l : Line) → 0 < length before → pages_of (before ++ l ∷ []) ≡ pages_of before
+pages_more [] l some = absurd (omega arith)
+pages_more (line.Image pages ∷ before) l some = refl
+pages_more (line.Page page bytes ∷ before) l some = refl
+pages_more (line.Poke address bytes ∷ before) l some = refl
+pages_more (line.Job job ∷ before) l some = refl
+pages_more (line.Show address len ∷ before) l some = refl
+
+more_of_none : (a b : Bool) → b ≡ false → (a || (b || false)) ≡ a
+more_of_none true b none = refl
+more_of_none false b none = rw none refl
+
+more_of_some : (a b : Bool) → b ≡ true → (a || (b || false)) ≡ true
+more_of_some true b found = refl
+more_of_some false b found = rw found refl
+
+not_first : (before : List Line) → 0 < length before → before ≡ [] → ⊥
+not_first before some none = let nothing : length before ≡ 0 = ap length none in omega arith
+
+-- one that brings no page leaves presence too
+agrees_same : (session after : Session) (before : List Line) (l : Line) → 0 < length before → Agrees session before
+    → after.memory.present ≡ session.memory.present → ((page : ℕ) → brings page l ≡ false) → Agrees after (before ++ l ∷ [])
+agrees_same session after before l some agrees same none = record {
+  pages = ap length same ∙ agrees.pages ∙ sym (pages_more before l some);
+  marks = λ page. ap (λ present. get_or present page false) same ∙ agrees.marks page ∙ sym (present_more before l page ∙ more_of_none _ _ (none page));
+}
+
+-- the page that a line brings is present, and of the others those that were
+page_marked : (session : Session) (before : List Line) (page : ℕ) (bytes : List ℕ) (at : ℕ) → page < length session.memory.present → Agrees session before
+    → get_or (set session.memory.present page true) at false ≡ is_present (before ++ line.Page page bytes ∷ []) at
+page_marked session before page bytes at inside agrees =
+    elim (cases_Bool (nat_eq page at)) [
+      | inl same ↦
+          let here : at ≡ page = sym (eqb-true page at same) in
+          rw here (get_or-set_same session.memory.present page true false inside) ∙ sym (present_more before (line.Page page bytes) at ∙ more_of_some _ _ same)
+      | inr other ↦
+          let apart : at ≢ page = λ here. eqb-false page at other (sym here) in
+          get_or-set_other session.memory.present page at true false apart ∙ agrees.marks at
+          ∙ sym (present_more before (line.Page page bytes) at ∙ more_of_none _ _ other)
+    ]
+
+agrees_more : (staging : ℕ) (session : Session) (before : List Line) (l : Line) → 0 < length before → Agrees session before → MayFollow before l
+    → Agrees (after_line staging session l) (before ++ l ∷ [])
+agrees_more staging session before (line.Image pages) some agrees may = absurd (not_first before some may.0)
+agrees_more staging session before (line.Page page bytes) some agrees may = record {
+  pages = length-set session.memory.present page true ∙ agrees.pages ∙ sym (pages_more before (line.Page page bytes) some);
+  marks = λ at. page_marked session before page bytes at (omega (arith, agrees.pages, may.1)) agrees;
+}
+agrees_more staging session before (line.Poke address bytes) some agrees may = agrees_same session _ before _ some agrees refl (λ page. refl)
+agrees_more staging session before (line.Job job) some agrees may = agrees_same session _ before _ some agrees (step_present session.memory job staging) (λ page. refl)
+agrees_more staging session before (line.Show address len) some agrees may = agrees_same session _ before _ some agrees refl (λ page. refl)
+
+fits_of : (session : Session) (before : List Line) (l : Line) → 0 < length before → Agrees session before → MayFollow before l → Fits session l
+fits_of session before (line.Image pages) some agrees may = not_first before some may.0
+fits_of session before (line.Page page bytes) some agrees may = (omega (arith, agrees.pages, may.1), may.2)
+fits_of session before (line.Poke address bytes) some agrees may =
+    let each : (i : ℕ) → i < length bytes → not (has session.memory (address + i)) ≡ false =
+    λ i low. ap not (agrees.marks ((address + i) / 4096) ∙ byte_present before address (length bytes) i low may.1) in
+    eq-eqb _ _ (first_none (length bytes) (λ i. not (has session.memory (address + i))) each)
+fits_of session before (line.Job job) some agrees may = may.1
+fits_of session before (line.Show address len) some agrees may = may.1
+
+abbrev read : List Line → Result (List Line) ScriptFault
+read found = Ok found
+
+ok_same : (before found : List Line) → read before ≡ read found → before ≡ found
+ok_same before found same = cc
+
+not_read : (fault : ScriptFault) (found : List Line) → Err fault ≡ read found → ⊥
+not_read fault found same = cc
+
+-- the lines that are found behind others, few of them, fit
+record Behind (staging : ℕ) (session : Session) (before found : List Line) (most : ℕ) : Type 0 where
+  rest : List Line
+  joined : found ≡ before ++ rest
+  fits : AllFit staging session rest
+  few : length rest ≤ most
+
+behind_more : (staging : ℕ) (session : Session) (before found : List Line) (l : Line) (most : ℕ) → Fits session l
+    → Behind staging (after_line staging session l) (before ++ l ∷ []) found most → Behind staging session before found (suc most)
+behind_more staging session before found l most here after = record {
+  rest = l ∷ after.rest;
+  joined = after.joined ∙ append_assoc before (l ∷ []) after.rest;
+  fits = (here, after.fits);
+  few = let few : length after.rest ≤ most = after.few in omega arith;
+}
+
+behind_end : (staging : ℕ) (number : ℕ) (before found : List Line) (session : Session) → 0 < length before → parse_from number before [] ≡ Ok found
+    → Behind staging session before found 0
+unfolding parse_from
+behind_end staging number before found session some parsed =
+    elim (cases_Bool (nat_eq (length before) 0)) [
+      | inl none ↦ let nothing : length before ≡ 0 = eqb-true (length before) 0 none in absurd (omega arith)
+      | inr more ↦
+          let ok : read before ≡ read found = rw more at parsed in
+          let same : before ≡ found = ok_same before found ok in
+          record { rest = []; joined = sym same ∙ sym (append-nil before); fits = tt; few = omega arith }
+    ]
+
+behind : (staging : ℕ) (texts : List (List ℕ)) (number : ℕ) (before found : List Line) (session : Session) → 0 < length before → Agrees session before
+    → parse_from number before texts ≡ Ok found → Behind staging session before found (length texts)
+unfolding parse_from
+behind staging [] number before found session some agrees parsed = behind_end staging number before found session some parsed
+behind staging (text ∷ texts) number before found session some agrees parsed =
+    elim (verdict text before) as (λ v. verdict text before ≡ v → (elim v [
+      | Skipped ↦ parse_from (number + 1) before texts
+      | Faulty kind ↦ Err (fault_at number kind)
+      | Fine l ↦ parse_from (number + 1) (before ++ l ∷ []) texts
+    ]) ≡ read found → Behind staging session before found (suc (length texts))) [
+      | Skipped ↦ λ is after.
+          let left = behind staging texts (number + 1) before found session some agrees after in
+          record { rest = left.rest; joined = left.joined; fits = left.fits; few = let few : length left.rest ≤ length texts = left.few in omega arith }
+      | Faulty kind ↦ λ is after. absurd (not_read (fault_at number kind) found after)
+      | Fine l ↦ λ is after.
+          let may = follows text before l is in
+          let longer : 0 < length (before ++ l ∷ []) = omega (arith, length-append before (l ∷ [])) in
+          behind_more staging session before found l (length texts) (fits_of session before l some agrees may)
+          (behind staging texts (number + 1) (before ++ l ∷ []) found (after_line staging session l) longer
+          (agrees_more staging session before l some agrees may) after)
+    ] refl parsed
+
+none_marked : (pages page : ℕ) → get_or (replicate pages false) page false ≡ false
+none_marked zero page = refl
+none_marked (suc pages) zero = refl
+none_marked (suc pages) (suc page) = none_marked pages page
+
+-- the first line is the image line
+from_first : (staging : ℕ) (texts : List (List ℕ)) (number : ℕ) (l : Line) (found : List Line) → length texts < 2 ^ 32 → MayFollow [] l
+    → parse_from number (l ∷ []) texts ≡ Ok found → IsRunnable staging found
+from_first staging texts number (line.Image pages) found few may after =
+    let agrees : Agrees (after_line staging opening (line.Image pages)) (line.Image pages ∷ []) =
+    record { pages = length-replicate pages false; marks = λ page. none_marked pages page } in
+    let left = behind staging texts number (line.Image pages ∷ []) found (after_line staging opening (line.Image pages)) (omega arith) agrees after in
+    let short : length left.rest ≤ length texts = left.few in
+    subst (IsRunnable staging) (sym left.joined) (may.1, may.2, omega arith, left.fits)
+from_first staging texts number (line.Page page bytes) found few may after = absurd (omega (arith, may.0))
+from_first staging texts number (line.Poke address bytes) found few may after = absurd (omega (arith, may.0))
+from_first staging texts number (line.Job job) found few may after = absurd (omega (arith, may.0))
+from_first staging texts number (line.Show address len) found few may after = absurd (omega (arith, may.0))
+
+from_start : (staging : ℕ) (texts : List (List ℕ)) (number : ℕ) (found : List Line) → length texts < 2 ^ 32 → parse_from number [] texts ≡ Ok found
+    → IsRunnable staging found
+unfolding parse_from
+from_start staging [] number found few parsed = absurd (not_read _ found parsed)
+from_start staging (text ∷ texts) number found few parsed =
+    let fewer : length texts < 2 ^ 32 = omega arith in
+    elim (verdict text []) as (λ v. verdict text [] ≡ v → (elim v [
+      | Skipped ↦ parse_from (number + 1) [] texts
+      | Faulty kind ↦ Err (fault_at number kind)
+      | Fine l ↦ parse_from (number + 1) (l ∷ []) texts
+    ]) ≡ read found → IsRunnable staging found) [
+      | Skipped ↦ λ is after. from_start staging texts (number + 1) found fewer after
+      | Faulty kind ↦ λ is after. absurd (not_read (fault_at number kind) found after)
+      | Fine l ↦ λ is after. from_first staging texts (number + 1) l found fewer (follows text [] l is) after
+    ] refl parsed
+
+-- there are no more lines than parts between line feeds
+lines_in_parts : (parts : List (List ℕ)) → length (lines_of_parts parts) ≤ length parts
+lines_in_parts [] = omega arith
+lines_in_parts (x ∷ []) =
+    elim (cases_Bool (nat_eq (length x) 0)) [ inl none ↦ rw none (omega arith) | inr some ↦ rw some (omega arith) ]
+lines_in_parts (x ∷ y ∷ more) = let rest : length (lines_of_parts (y ∷ more)) ≤ length (y ∷ more) = lines_in_parts (y ∷ more) in omega arith
+
+few_lines : (bytes : List ℕ) → length (lines bytes) ≤ length bytes + 1
+few_lines bytes =
+    let is_feed : ℕ → Bool = λ b. nat_eq b 10 in
+    omega (arith, lines_in_parts (slice_split is_feed bytes), length-slice_split is_feed bytes, count_by-le-length is_feed bytes)
+
+pub runnable : (staging : ℕ) (bytes : List ℕ) (found : List Line) → length bytes ≤ 4194304 → parse bytes ≡ Ok found → IsRunnable staging found
+unfolding parse
+runnable staging bytes found within parsed =
+    let few : length (lines bytes) < 2 ^ 32 = omega (arith, few_lines bytes) in
+    from_start staging (lines bytes) 1 found few parsed

@@ -1,0 +1,133 @@
+-- What the grammar gives of each line, after the lines before it.
+use Rattle.std.proofs.Common.{◌≡◌, ℕ, ◌+◌, ◌^◌, ◌<◌, ◌≤◌, List, [], ◌∷◌, ◌++◌, length, map, refl, sym, subst, arith, Bool, true, false, not, ◌&&◌, Option, Some, None, unwrap_or, find, inl, inr, nat_lt, nat_eq}
+use Rattle.std.specs.List.{list_all, list_any}
+use Rattle.dml_desc.specs.Descriptor.{decoded, u8_at}
+use Rattle.dml_desc.proofs.LayoutLemmas.{op_of-decoded}
+use Rattle.dml_types.specs.Job.{op_of, operations}
+use Rattle.dml_types.specs.declared.jobs.Job.{Job}
+use Rattle.dml_types.specs.declared.operations.Op.{Op}
+use Rattle.dml_types.specs.declared.operations.Op.TheVariants.{NoOp, Move, Fill, Compare, ComparePattern, CreateDelta, ApplyDelta, Dualcast}
+use Rattle.std.specs.Option.{option_map}
+use Rattle.std.proofs.lemmas.Bool.{cases_Bool, leb-true, ltb-true, ltb-false, and_parts, not-false, or_parts}
+use Rattle.std.proofs.lemmas.List.{nil_from_length}
+use Rattle.dml_script.specs.declared.faults.Kind.{Kind}
+use Rattle.dml_script.specs.declared.faults.Kind.TheVariants.{BadRange, LongLine, MissingImage, NotAscii, SecondImage, UnknownWord, WrongWords}
+use Rattle.dml_script.specs.declared.lines.Line.{Line}
+use Rattle.dml_script.specs.declared.lines.Line.TheVariants as line
+use Rattle.dml_script.specs.declared.table.Word.{Word}
+use Rattle.dml_script.specs.declared.table.Word.TheVariants as word
+use Rattle.dml_script.specs.declared.table.Slot.{Slot}
+use Rattle.dml_script.specs.Grammar as grammar
+use Rattle.dml_script.specs.Grammar.{Verdict, Skipped, Faulty, Fine, verdict, verdict_of, judged, longest_line, first_of, place_faults, entry_faults, faults_of, word_faults}
+use Rattle.dml_script.specs.Run.{IsCarried, IsCarriedBy}
+use Rattle.dml_script.specs.Table.{word_with, parts_in}
+use Rattle.dml_script.specs.Text.{is_text, words}
+use Rattle.dml_script.proofs.LineLemmas.{Entries, fitted_slots, bytes_of_slots, all_bytes_fit}
+
+-- whether a line may follow others: the image line alone is the first, its pages are 1 to 4,096, a brought page is one
+-- of them and its bytes are no more than it has, poked bytes are present, and a shown range ends at or below 2^64
+abbrev pub MayFollow : List Line → Line → Type 0
+MayFollow before (line.Image pages) = (before ≡ []) × (1 ≤ pages) × (pages ≤ 4096)
+MayFollow before (line.Page page bytes) = (0 < length before) × (page < grammar.pages_of before) × (length bytes ≤ 4096)
+MayFollow before (line.Poke address bytes) = (0 < length before) × (grammar.has_bytes before address (length bytes) ≡ true)
+MayFollow before (line.Job job) = (0 < length before) × IsCarried job
+MayFollow before (line.Show address len) = (0 < length before) × (address + len ≤ 2 ^ 64)
+
+-- where no fault is found, no test passes
+none_first : (test : Bool) (kind : Kind) (faults : List (Bool × Kind)) → first_of ((test, kind) ∷ faults) ≡ None → (test ≡ false) × (first_of faults ≡ None)
+none_first true kind faults none = cc
+none_first false kind faults none = (refl, none)
+
+none_of_two : (these those : List (Bool × Kind)) → first_of (these ++ those) ≡ None → (first_of these ≡ None) × (first_of those ≡ None)
+none_of_two [] those none = (refl, none)
+none_of_two ((true, kind) ∷ these) those none = cc
+none_of_two ((false, kind) ∷ these) those none = none_of_two these those none
+
+-- a line that is not the image line has lines before it
+some_before : (before : List Line) → (nat_eq (length before) 0 && not false) ≡ false → 0 < length before
+some_before [] first = cc
+some_before (l ∷ before) first = omega arith
+
+none_before : (before : List Line) → (nat_lt 0 (length before) && true) ≡ false → before ≡ []
+none_before before second =
+    elim (cases_Bool (nat_lt 0 (length before))) [
+      | inl some ↦ let both : true ≡ false = rw some at second in cc
+      | inr none ↦ nil_from_length before (omega (arith, ltb-false 0 (length before) none))
+    ]
+
+page_bytes : (ws : List (List ℕ)) (entries : Entries) → grammar.fitted (parts_in word.Page) ws ≡ Some entries → length (grammar.values_of entries).bytes ≤ 4096
+page_bytes ws entries is =
+    subst (λ (slots : List Slot). length (grammar.values_of entries).bytes ≤ bytes_of_slots slots) (fitted_slots (parts_in word.Page) ws entries is) (all_bytes_fit entries)
+
+-- the later opcodes left out, an opcode is that of a no-op, of a fill or of no operation
+carried_opcode : (n : ℕ) → list_any (λ opcode. nat_eq n opcode) grammar.later_opcodes ≡ false
+    → IsCarriedBy (option_map (λ row. row.1) (find (λ row. nat_eq n row.0) operations))
+carried_opcode n none =
+    let move = or_parts (nat_eq n 0x03) _ none in
+    let compare = or_parts (nat_eq n 0x05) _ move.1 in
+    let pattern = or_parts (nat_eq n 0x06) _ compare.1 in
+    let create = or_parts (nat_eq n 0x07) _ pattern.1 in
+    let apply = or_parts (nat_eq n 0x08) _ create.1 in
+    let dualcast = or_parts (nat_eq n 0x09) _ apply.1 in
+    elim (cases_Bool (nat_eq n 0x00)) [
+      | inl no_op ↦ rw no_op tt
+      | inr other ↦
+          elim (cases_Bool (nat_eq n 0x04)) [
+            | inl fill ↦ rw (other, move.0, fill) tt
+            | inr none ↦ rw (other, move.0, none, compare.0, pattern.0, create.0, apply.0, dualcast.0) tt
+          ]
+    ]
+
+carried_later : (bytes : List ℕ) → list_any (λ opcode. nat_eq (u8_at bytes 7) opcode) grammar.later_opcodes ≡ false → IsCarried (decoded bytes)
+carried_later bytes none = subst IsCarriedBy (sym (op_of-decoded bytes)) (carried_opcode (u8_at bytes 7) none)
+
+follows_by : (first : Word) (ws : List (List ℕ)) (entries : Entries) (before : List Line) → grammar.fitted (parts_in first) ws ≡ Some entries
+    → (nat_eq (length before) 0 && not (grammar.is_image first)) ≡ false → (nat_lt 0 (length before) && grammar.is_image first) ≡ false
+    → grammar.has_later_opcode first (grammar.values_of entries) ≡ false
+    → grammar.is_out_of_range first (grammar.values_of entries) before ≡ false
+    → MayFollow before (grammar.line_of first (grammar.values_of entries))
+follows_by word.Image ws entries before is missing second now range =
+    let within = and_parts _ _ (not-false _ range) in (none_before before second, leb-true _ _ within.0, leb-true _ _ within.1)
+follows_by word.Page ws entries before is missing second now range = (some_before before missing, ltb-true _ _ (not-false _ range), page_bytes ws entries is)
+follows_by word.Poke ws entries before is missing second now range = (some_before before missing, not-false _ range)
+follows_by word.NoOp ws entries before is missing second now range = (some_before before missing, tt)
+follows_by word.Fill ws entries before is missing second now range = (some_before before missing, tt)
+follows_by word.Raw ws entries before is missing second now range = (some_before before missing, carried_later _ now)
+follows_by word.Show ws entries before is missing second now range = (some_before before missing, ltb-false _ _ (or_parts _ _ range).1)
+
+follows_in : (first : Word) (ws : List (List ℕ)) (fitted : Option Entries) (before : List Line) → grammar.fitted (parts_in first) ws ≡ fitted
+    → first_of (place_faults first before ++ entry_faults first fitted before) ≡ None
+    → MayFollow before (grammar.line_of first (grammar.values_of (unwrap_or fitted [])))
+follows_in first ws None before is none = cc (none_of_two (place_faults first before) ((true, WrongWords) ∷ []) none).1
+follows_in first ws (Some entries) before is none =
+    let parts = none_of_two (place_faults first before) (entry_faults first (Some entries) before) none in
+    let second_place = (nat_lt 0 (length before) && grammar.is_image first, SecondImage) ∷ [] in
+    let missing = none_first (nat_eq (length before) 0 && not (grammar.is_image first)) MissingImage second_place parts.0 in
+    let second = none_first (nat_lt 0 (length before) && grammar.is_image first) SecondImage [] missing.1 in
+    let range_place = (grammar.is_out_of_range first (grammar.values_of entries) before, BadRange) ∷ [] in
+    let values = none_of_two (map (λ e. grammar.slot_fault e.0 e.1) entries)
+    ((grammar.has_later_opcode first (grammar.values_of entries), UnknownWord) ∷ range_place) parts.1 in
+    let now = none_first _ UnknownWord range_place values.1 in
+    follows_by first ws entries before is missing.0 second.0 now.0 (none_first _ BadRange [] now.1).0
+
+follows_judged : (found : Option Word) (kind : Option Kind) (after : List (List ℕ)) (before : List Line) (l : Line) → judged kind found after ≡ Fine l
+    → (kind ≡ None → first_of (word_faults found after before) ≡ None) → MayFollow before l
+follows_judged found (Some kind) after before l is none = cc
+follows_judged None None after before l is none = cc
+follows_judged (Some first) None after before l is none =
+    let same : grammar.line_of first (grammar.values_of (unwrap_or (grammar.fitted (parts_in first) after) [])) ≡ l = cc in
+    subst (λ (l : Line). MayFollow before l) same (follows_in first after (grammar.fitted (parts_in first) after) before refl (none refl))
+
+follows_of : (ws : List (List ℕ)) (text : List ℕ) (before : List Line) (l : Line) → verdict_of ws text before ≡ Fine l → MayFollow before l
+follows_of [] text before l is = cc
+follows_of (first ∷ after) text before l is =
+    elim (cases_Bool (grammar.is_comment first)) [
+      | inl comment ↦ let skipped : Skipped ≡ Fine l = rw comment at is in cc
+      | inr other ↦
+          let fine : judged (first_of (faults_of text first after before)) (word_with first) after ≡ Fine l = rw other at is in
+          let text_faults = (nat_lt longest_line (length text), LongLine) ∷ (not (list_all is_text text), NotAscii) ∷ [] in
+          follows_judged (word_with first) _ after before l fine (λ none. (none_of_two text_faults (word_faults (word_with first) after before) none).1)
+    ]
+
+pub follows : (text : List ℕ) (before : List Line) (l : Line) → verdict text before ≡ Fine l → MayFollow before l
+follows text before l is = follows_of (words text) text before l is

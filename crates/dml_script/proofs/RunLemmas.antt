@@ -1,0 +1,64 @@
+-- The run of a script's lines, one after another.
+use Rattle.std.proofs.Common.{◌≡◌, ℕ, suc, ◌+◌, ◌^◌, ◌<◌, ◌≤◌, List, ◌∷◌, ◌++◌, length, get_or, drop, Option, Some, None, IfSome, Result, Ok, Err, OnErr, sym, ap, subst, ◌∙◌, arith, add-one, drop-cons}
+use Rattle.dml_script.specs.declared.lines.Line.{Line}
+use Rattle.dml_script.specs.declared.lines.Line.TheVariants as line
+use Rattle.dml_script.specs.Grammar.{parse}
+use Rattle.dml_script.specs.Run.{Session, AllFit, after_line, answer, answer_from, answer_if, item_of, opening, text_if}
+use Rattle.dml_script.proofs.BytesLemmas.{IsWritten}
+
+pub on_error : {T E : Type 0} (r : Result T E) (P : Type 0) → P → OnErr r P
+on_error (Ok x) P h = tt
+on_error (Err e) P h = h
+
+-- the item at an index, and what follows it
+drop_next : {X : Type 0} (xs : List X) (i : ℕ) (x : X) → i < length xs → x ≡ get_or xs i x → drop i xs ≡ x ∷ drop (i + 1) xs
+drop_next xs i x below at = rw (add-one, drop-cons xs i x below) (ap (λ y. y ∷ drop (suc i) xs) (sym at))
+
+-- a line has at most one job
+jobs_after : (staging : ℕ) (session : Session) (l : Line) → (after_line staging session l).jobs ≤ session.jobs + 1
+jobs_after staging session (line.Image pages) = omega arith
+jobs_after staging session (line.Page page bytes) = omega arith
+jobs_after staging session (line.Poke address bytes) = omega arith
+jobs_after staging session (line.Job job) = omega arith
+jobs_after staging session (line.Show address len) = omega arith
+
+-- what a turn over the lines keeps
+pub record Turn (staging : ℕ) (session : Session) (left : List Line) (old now : Option (List ℕ)) (whole : List ℕ) : Type 0 where
+  pub fits : AllFit staging session left
+  pub counted : session.jobs + length left < 2 ^ 32
+  pub written : IsWritten old now (answer_from staging session left) whole
+
+-- the line of this turn, and what is left behind it
+pub record Taken (staging : ℕ) (session : Session) (l : Line) (left : List Line) (old now : Option (List ℕ)) (whole : List ℕ) : Type 0 where
+  pub fits : AllFit staging (after_line staging session l) left
+  pub counted : (after_line staging session l).jobs + length left < 2 ^ 32
+  pub written : IsWritten old now (text_if (item_of staging session l) ++ answer_from staging (after_line staging session l) left) whole
+
+taken_of : (staging : ℕ) (session : Session) (l : Line) (left : List Line) (old now : Option (List ℕ)) (whole : List ℕ)
+    → Turn staging session (l ∷ left) old now whole → Taken staging session l left old now whole
+taken_of staging session l left old now whole turn = record {
+  fits = turn.fits.1;
+  counted = omega (arith, jobs_after staging session l, turn.counted);
+  written = turn.written;
+}
+
+pub taken_at : (staging : ℕ) (session : Session) (lines : List Line) (i : ℕ) (l : Line) (old now : Option (List ℕ)) (whole : List ℕ)
+    → i < length lines → l ≡ get_or lines i l → Turn staging session (drop i lines) old now whole
+    → Taken staging session l (drop (i + 1) lines) old now whole
+taken_at staging session lines i l old now whole below at turn =
+    taken_of staging session l (drop (i + 1) lines) old now whole
+    (subst (λ (left : List Line). Turn staging session left old now whole) (drop_next lines i l below at) turn)
+
+-- what holds of the bytes that were read holds of all that there were
+pub of_all : (known : Option (List ℕ)) (bytes : List ℕ) (P : List ℕ → Type 0) → IfSome known (λ all. bytes ≡ all) → P bytes → IfSome known P
+of_all None bytes P same holds = tt
+of_all (Some all) bytes P same holds = subst P same holds
+
+pub answer_is : (bytes : List ℕ) (staging : ℕ) (lines : List Line) → parse bytes ≡ Ok lines → answer_from staging opening lines ≡ answer bytes staging
+unfolding answer
+answer_is bytes staging lines parsed = ap (λ p. answer_if p staging) (sym parsed)
+
+-- the lines of a script that was read from the bytes themselves
+pub parsed_lines : (bytes seen : List ℕ) (script items lines : List Line) → seen ≡ bytes → parse seen ≡ Ok script → lines ≡ items → items ≡ script
+    → parse bytes ≡ Ok lines
+parsed_lines bytes seen script items lines same parsed shown viewed = ap parse (sym same) ∙ parsed ∙ ap (λ ls. Ok ls) (sym (shown ∙ viewed))

@@ -1,0 +1,106 @@
+-- What a script's run writes: its lines change a memory, one after another, and jobs and shows add text.
+use Rattle.std.specs.Prelude.{ℕ, ◌+◌, ◌-◌, ◌^◌, ◌<◌, ◌≤◌, IsTrue, if◌then◌else◌, List, [], ◌∷◌, ◌++◌, length, map, replicate, Option, None, Some, Result, Ok, Err}
+use Rattle.std.specs.List.{range_with_len}
+use Rattle.dml_types.specs.declared.jobs.Job.{Job}
+use Rattle.dml_types.specs.declared.operations.Op.{Op}
+use Rattle.dml_types.specs.declared.operations.Op.TheVariants.{NoOp, Move, Fill, Compare, ComparePattern, CreateDelta, ApplyDelta, Dualcast}
+use Rattle.dml_types.specs.Job.{op_of}
+use Rattle.dml_types.specs.Memory.{Memory, page_size, has, has_all, byte_at, put}
+use Rattle.dml_types.specs.Step.{step}
+use Rattle.dml_image.specs.Brought.{all_absent, brought}
+use Rattle.dml_script.specs.declared.faults.ScriptFault.{ScriptFault}
+use Rattle.dml_script.specs.declared.items.Item.{Item}
+use Rattle.dml_script.specs.declared.items.Item.TheVariants as item
+use Rattle.dml_script.specs.declared.lines.Line.{Line}
+use Rattle.dml_script.specs.declared.lines.Line.TheVariants as line
+use Rattle.dml_script.specs.Grammar.{parse}
+use Rattle.dml_script.specs.Output.{text_of}
+
+-- the memory so far, and the number of jobs so far
+pub record Session : Type 0 where
+  pub memory : Memory
+  pub jobs : ℕ
+
+-- before the first line there is no page
+abbrev pub opening : Session
+opening = record { memory = all_absent 0; jobs = 0 }
+
+-- a page of these bytes, and then zeros
+abbrev pub page_of : List ℕ → List ℕ
+page_of bytes = bytes ++ replicate (page_size - length bytes) 0
+
+-- what a line leaves, at a staging size
+abbrev pub after_line : ℕ → Session → Line → Session
+after_line staging session (line.Image pages) = record session { memory = all_absent pages }
+after_line staging session (line.Page page bytes) = record session { memory = brought session.memory page (page_of bytes) }
+after_line staging session (line.Poke address bytes) = record session { memory = put session.memory address bytes }
+after_line staging session (line.Job job) = record { memory = (step session.memory job staging).0; jobs = session.jobs + 1 }
+after_line staging session (line.Show address len) = session
+
+-- what an address shows: its byte, or None where that is absent
+abbrev pub shown_at : Memory → ℕ → Option ℕ
+shown_at memory address = if has memory address then Some (byte_at memory address) else None
+
+abbrev pub shown_bytes : Memory → ℕ → ℕ → List (Option ℕ)
+shown_bytes memory address len = map (λ i. shown_at memory (address + i)) (range_with_len 0 len)
+
+-- what a line adds to the answer, if anything
+abbrev pub item_of : ℕ → Session → Line → Option Item
+item_of staging session (line.Image pages) = None
+item_of staging session (line.Page page bytes) = None
+item_of staging session (line.Poke address bytes) = None
+item_of staging session (line.Job job) = Some (item.Job session.jobs (step session.memory job staging).1)
+item_of staging session (line.Show address len) = Some (item.Show address (shown_bytes session.memory address len))
+
+abbrev pub text_if : Option Item → List ℕ
+text_if None = []
+text_if (Some shown) = text_of shown
+
+abbrev pub answer_from : ℕ → Session → List Line → List ℕ
+answer_from staging session [] = []
+answer_from staging session (l ∷ lines) =
+    text_if (item_of staging session l) ++ answer_from staging (after_line staging session l) lines
+
+-- a script with a fault has no answer
+abbrev pub answer_if : Result (List Line) ScriptFault → ℕ → List ℕ
+answer_if (Ok lines) staging = answer_from staging opening lines
+answer_if (Err fault) staging = []
+
+-- the answer of a script's bytes, at a staging size
+unfoldable pub answer : List ℕ → ℕ → List ℕ
+answer bytes staging = answer_if (parse bytes) staging
+
+-- the operations that a script's jobs can have for now
+abbrev pub IsCarriedBy : Option Op → Type 0
+IsCarriedBy None = Unit {0}
+IsCarriedBy (Some NoOp) = Unit {0}
+IsCarriedBy (Some Move) = ⊥
+IsCarriedBy (Some Fill) = Unit {0}
+IsCarriedBy (Some Compare) = ⊥
+IsCarriedBy (Some ComparePattern) = ⊥
+IsCarriedBy (Some CreateDelta) = ⊥
+IsCarriedBy (Some ApplyDelta) = ⊥
+IsCarriedBy (Some Dualcast) = ⊥
+
+abbrev pub IsCarried : Job → Type 0
+IsCarried job = IsCarriedBy (op_of job)
+
+-- what the grammar gives of a line after the first: its page is in the image, its bytes are present, and its range
+-- ends at or below 2^64
+abbrev pub Fits : Session → Line → Type 0
+Fits session (line.Image pages) = ⊥
+Fits session (line.Page page bytes) = (page < length session.memory.present) × (length bytes ≤ page_size)
+Fits session (line.Poke address bytes) = IsTrue (has_all session.memory address (length bytes))
+Fits session (line.Job job) = IsCarried job
+Fits session (line.Show address len) = address + len ≤ 2 ^ 64
+
+abbrev pub AllFit : ℕ → Session → List Line → Type 0
+AllFit staging session [] = Unit {0}
+AllFit staging session (l ∷ lines) = Fits session l × AllFit staging (after_line staging session l) lines
+
+-- the lines of a script: an image line first, and lines after it, too few to count jobs past 32 bits
+abbrev pub IsRunnable : ℕ → List Line → Type 0
+IsRunnable staging [] = ⊥
+IsRunnable staging (line.Image pages ∷ lines) =
+    (1 ≤ pages) × (pages ≤ 4096) × (length lines < 2 ^ 32) × AllFit staging (after_line staging opening (line.Image pages)) lines
+IsRunnable staging (other ∷ lines) = ⊥

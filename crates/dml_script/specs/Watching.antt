@@ -1,0 +1,19 @@
+-- A reader or writer that keeps whether a call failed.
+use Rattle.std.specs.Prelude.{◌≡◌, ℕ, Bool, true, ◌&&◌, ◌++◌, List, length, nat_eq, nat_lt, Option, Result, Ok, Err}
+use Rattle.std.specs.Io.KnownBytes.{Appends}
+use Rattle.dml_script.specs.declared.watching.Watched.{Watched}
+
+abbrev pub inner_of : {T : Type 0} → Watched T → T
+inner_of watched = watched.inner
+
+abbrev pub has_failed : {T : Type 0} → Watched T → Bool
+has_failed watched = watched.has_failed
+
+-- whether a write failed: it answered an error, or took none of at least one byte
+abbrev pub write_fails : {E : Type 0} → List ℕ → Result ℕ E → Bool
+write_fails bytes (Ok n) = nat_eq n 0 && nat_lt 0 (length bytes)
+write_fails bytes (Err e) = true
+
+-- known bytes grow by a front of some bytes
+abbrev pub AppendsFront : Option (List ℕ) → Option (List ℕ) → List ℕ → Type 0
+AppendsFront old new bytes = (front : List ℕ) × (rest : List ℕ) × (bytes ≡ front ++ rest) × Appends old new front

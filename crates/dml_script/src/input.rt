@@ -1,0 +1,48 @@
+ghost use Rattle.std.specs.Prelude.{◌≡◌, ◌<◌, ◌≤◌, true, length, vec_len, IfOk, IfSome, OnOk, IsErrOf};
+ghost use Rattle.std.specs.Io.KnownBytes.{IsAtEnd};
+ghost use Rattle.dml_script.specs.Watching.{inner_of, has_failed};
+
+use crate::watching::Watched;
+use std::alloc::Global;
+use std::io::Read;
+
+/// The most bytes of a script.
+pub const MAX_INPUT: usize = 4_194_304;
+
+/// Why an input was not read.
+#[derive(Clone, Copy, PartialEq, Eq, Debug)]
+pub enum InputError {
+    /// The reader answered an error.
+    Read,
+    /// It has more than `MAX_INPUT` bytes.
+    TooLong,
+    NoMemory,
+}
+
+/// All bytes of a reader, which is asked at most `MAX_INPUT + 1` times.
+pub fn read_all<R: Read>(alloc: Global, reader: &mut Watched<R>) -> Result<Vec<u8>, InputError>
+    ensures within { IfOk result (λ input. vec_len input ≤ MAX_INPUT) }
+    ensures all { IfOk result (λ input. IfSome (R.remaining (inner_of reader.old)) (λ bytes. input.items ≡ bytes)) }
+    ensures end { OnOk result (IsAtEnd (R.remaining (inner_of reader.new))) }
+    ensures read { IsErrOf result InputError.Read → has_failed reader.new ≡ true }
+    ensures too_long { IsErrOf result InputError.TooLong
+        → IfSome (R.remaining (inner_of reader.old)) (λ bytes. MAX_INPUT < length bytes) }
+{
+    let mut input = Vec::new(alloc);
+    let mut chunk = [0; 8192];
+    for _turn in 0..MAX_INPUT + 1 {
+        let Ok(count) = reader.read(&mut chunk) else {
+            return Err(InputError::Read);
+        };
+        if count == 0 {
+            return Ok(input);
+        }
+        if input.extend_from_slice(&chunk[..count]).is_err() {
+            return Err(InputError::NoMemory);
+        }
+        if input.len() > MAX_INPUT {
+            return Err(InputError::TooLong);
+        }
+    }
+    unreachable!()
+}

@@ -1,0 +1,445 @@
+//! Runs of scripts over readers and writers that give, take and fail as told. The expected answers are the format's.
+
+use super::*;
+use dml_types::{BatchRecord, Job, Record, Settings, Status};
+use std::alloc::{AllocError, Global};
+use std::io;
+use std::io::{ErrorKind, Read, Write};
+use std::process::Abort;
+use std::test::Fail;
+
+const DEFAULTS: Settings = Settings {
+    staging: 1_048_576,
+    chunk: 4096,
+    workers: 4,
+};
+
+const FILL: &str = "image 2\npage 0\nfill 0x0807060504030201 4090 12\nshow 4088 10\n";
+
+const FILL_ANSWER: &str =
+    "job 0 status 83 result 0 completed 6 fault 4096 delta 0\nshow 4088 0000010203040506----\n";
+
+/// What a script's run answers, and what it writes.
+fn run(rt: &impl Abort, alloc: Global, script: &[u8]) -> (Result<(), RunFault>, Vec<u8>) {
+    let mut reader = Watched::new(script);
+    let mut writer = Watched::new(Vec::new(alloc));
+    let outcome = run_script(alloc, &mut reader, &mut writer, DEFAULTS);
+    assert!(rt; !reader.failed());
+    assert!(rt; !writer.failed());
+    (outcome, writer.into_inner())
+}
+
+#[test]
+fn scripts_and_their_answers(rt: HostRuntime) {
+    for (name, script, answer) in [
+        ("bare_image", "image 1", ""),
+        ("fill_into_absent_page", FILL, FILL_ANSWER),
+        (
+            "fill_refusals",
+            "image 1\npage 0\nfill 0 0 1048577\nnoop flags 0x10\nfill 0 0xfffffffffffffff8 9\nfill 0 0xfffffffffffffff8 8",
+            "job 0 status 13 result 0 completed 0 fault 0 delta 0\n\
+             job 1 status 11 result 0 completed 0 fault 0 delta 0\n\
+             job 2 status 7d result 0 completed 0 fault 0 delta 0\n\
+             job 3 status 83 result 0 completed 0 fault 18446744073709551608 delta 0\n",
+        ),
+        (
+            "a no-op, and a fill of a whole range",
+            "image 1\npage 0 ff\nnoop flags 0x8e\nfill 0xf0e0d0c0b0a09080 1 0\nfill 0xf0e0d0c0b0a09080 1 10\nshow 0 12",
+            "job 0 status 01 result 0 completed 0 fault 0 delta 0\n\
+             job 1 status 01 result 0 completed 0 fault 0 delta 0\n\
+             job 2 status 01 result 0 completed 10 fault 0 delta 0\n\
+             show 0 ff8090a0b0c0d0e0f0809000\n",
+        ),
+        (
+            "bytes over a page's edge, a page brought again, and addresses past the last page",
+            "image 3\npage 0\npage 1 0a0b\npoke 4094 01020304\nshow 4093 6\npage 0\nshow 4093 6\nshow 8190 4\nshow 18446744073709551615 1",
+            "show 4093 000102030400\nshow 4093 000000030400\nshow 8190 0000----\nshow 18446744073709551615 --\n",
+        ),
+    ] {
+        let (outcome, written) = run(&rt, rt.alloc(), script.as_bytes());
+        assert_eq!(rt; outcome, Ok(()), "at {name}");
+        assert_eq!(rt; written.as_slice(), answer.as_bytes(), "at {name}");
+    }
+}
+
+#[test]
+fn a_fault_writes_nothing(rt: HostRuntime) {
+    for (name, script, line, kind, text) in [
+        (
+            "poke_absent",
+            "image 2\npoke 0 01",
+            2,
+            Kind::BadRange,
+            "out of range",
+        ),
+        (
+            "empty_script",
+            "",
+            1,
+            Kind::MissingImage,
+            "the script must begin with an image line",
+        ),
+        (
+            "a fault behind a show",
+            "image 1\nshow 0 1\nshow 0",
+            3,
+            Kind::WrongWords,
+            "wrong number or kind of words",
+        ),
+    ] {
+        let (outcome, written) = run(&rt, rt.alloc(), script.as_bytes());
+        assert_eq!(rt;
+            outcome,
+            Err(RunFault::Script(ScriptFault { line, kind })),
+            "at {name}"
+        );
+        assert!(rt; written.is_empty(), "at {name}");
+        assert_eq!(rt; fault_text(kind), text, "at {name}");
+    }
+}
+
+/// An input of exactly so many bytes: one image line, and comments.
+fn long_input(alloc: Global, len: usize) -> Result<Vec<u8>, AllocError> {
+    let mut input = Vec::with_capacity(alloc, len)?;
+    input.extend_from_slice(b"image 1\n")?;
+    for place in 8..len {
+        input.push(if place % 64 == 0 { b'\n' } else { b'#' })?;
+    }
+    Ok(input)
+}
+
+#[test]
+fn the_longest_input(rt: HostRuntime) -> Result<(), Fail> {
+    for (len, outcome) in [(4_194_304, Ok(())), (4_194_305, Err(RunFault::TooLong))] {
+        let input = long_input(rt.alloc(), len)?;
+        assert_eq!(rt; run(&rt, rt.alloc(), &input).0, outcome, "at {len}");
+    }
+    Ok(())
+}
+
+/// Gives bytes, at most so many a call, and fails at a call.
+#[derive(Drop)]
+struct Steps<'a> {
+    bytes: &'a [u8],
+    step: usize,
+    calls: usize,
+    fails_at: usize,
+}
+
+impl Read for Steps<'_> {
+    fn read(&mut self, buf: &mut [u8]) -> io::Result<usize> {
+        if self.calls == self.fails_at {
+            return Err(io::Error::from(ErrorKind::Interrupted));
+        }
+        self.calls = self.calls.saturating_add(1);
+        let count = self.step.min(buf.len()).min(self.bytes.len());
+        let (now, after) = self.bytes.split_at(count);
+        buf[..count].copy_from_slice(now);
+        self.bytes = after;
+        Ok(count)
+    }
+}
+
+#[test]
+fn one_byte_a_call(rt: HostRuntime) {
+    let mut reader = Watched::new(Steps {
+        bytes: FILL.as_bytes(),
+        step: 1,
+        calls: 0,
+        fails_at: usize::MAX,
+    });
+    let mut writer = Watched::new(Vec::new(rt.alloc()));
+    assert_eq!(rt;
+        run_script(rt.alloc(), &mut reader, &mut writer, DEFAULTS),
+        Ok(())
+    );
+    assert_eq!(rt; writer.into_inner().as_slice(), FILL_ANSWER.as_bytes());
+    assert_eq!(rt; reader.into_inner().calls, FILL.len() + 1);
+}
+
+#[test]
+fn a_reader_fails_at_each_call(rt: HostRuntime) {
+    for fails_at in 0..FILL.len() + 1 {
+        let mut reader = Watched::new(Steps {
+            bytes: FILL.as_bytes(),
+            step: 1,
+            calls: 0,
+            fails_at,
+        });
+        let mut writer = Watched::new(Vec::new(rt.alloc()));
+        assert_eq!(rt;
+            run_script(rt.alloc(), &mut reader, &mut writer, DEFAULTS),
+            Err(RunFault::Read),
+            "at {fails_at}"
+        );
+        assert!(rt; reader.failed());
+        assert!(rt; writer.into_inner().is_empty(), "at {fails_at}");
+    }
+}
+
+/// Gives one line feed a call, for ever.
+#[derive(Drop)]
+struct Endless {
+    calls: u64,
+}
+
+impl Read for Endless {
+    fn read(&mut self, buf: &mut [u8]) -> io::Result<usize> {
+        self.calls = self.calls.saturating_add(1);
+        if buf.is_empty() {
+            return Ok(0);
+        }
+        buf[0] = b'\n';
+        Ok(1)
+    }
+}
+
+#[test]
+fn a_reader_without_end(rt: HostRuntime) {
+    let mut reader = Watched::new(Endless { calls: 0 });
+    let mut writer = Watched::new(Vec::new(rt.alloc()));
+    assert_eq!(rt;
+        run_script(rt.alloc(), &mut reader, &mut writer, DEFAULTS),
+        Err(RunFault::TooLong)
+    );
+    assert!(rt; !reader.failed());
+    assert_eq!(rt; reader.into_inner().calls, 4_194_305);
+    assert!(rt; writer.into_inner().is_empty());
+}
+
+/// Room for so many bytes: then a call fails, or takes none. It takes at most seven bytes a call.
+#[derive(Drop)]
+struct Paper {
+    bytes: [u8; 256],
+    len: usize,
+    room: usize,
+    fails: bool,
+}
+
+impl Paper {
+    fn new(room: usize, fails: bool) -> Paper {
+        Paper {
+            bytes: [0; 256],
+            len: 0,
+            room,
+            fails,
+        }
+    }
+
+    /// Whether these bytes are written, and no other.
+    fn holds(&self, bytes: &[u8]) -> bool {
+        self.bytes.get(..self.len) == Some(bytes)
+    }
+}
+
+impl Write for Paper {
+    fn write(&mut self, buf: &[u8]) -> io::Result<usize> {
+        let most = self.room.min(256);
+        if self.len >= most {
+            return if self.fails {
+                Err(io::Error::from(ErrorKind::Other))
+            } else {
+                Ok(0)
+            };
+        }
+        let count = buf.len().min(7).min(most - self.len);
+        self.bytes[self.len..self.len + count].copy_from_slice(&buf[..count]);
+        self.len += count;
+        Ok(count)
+    }
+
+    fn flush(&mut self) -> io::Result<()> {
+        Ok(())
+    }
+}
+
+#[test]
+fn a_writer_fails_at_each_byte(rt: HostRuntime) {
+    let answer = FILL_ANSWER.as_bytes();
+    for fails in [true, false] {
+        for room in 0..answer.len() {
+            let mut reader = Watched::new(FILL.as_bytes());
+            let mut writer = Watched::new(Paper::new(room, fails));
+            assert_eq!(rt;
+                run_script(rt.alloc(), &mut reader, &mut writer, DEFAULTS),
+                Err(RunFault::Write),
+                "at {room}"
+            );
+            assert!(rt; writer.failed());
+            assert!(rt; writer.into_inner().holds(&answer[..room]), "at {room}");
+        }
+        let mut reader = Watched::new(FILL.as_bytes());
+        let mut writer = Watched::new(Paper::new(answer.len(), fails));
+        assert_eq!(rt;
+            run_script(rt.alloc(), &mut reader, &mut writer, DEFAULTS),
+            Ok(())
+        );
+        assert!(rt; !writer.failed());
+        assert!(rt; writer.into_inner().holds(answer));
+    }
+}
+
+/// Takes all bytes, and cannot be flushed.
+#[derive(Drop)]
+struct Stuck;
+
+impl Write for Stuck {
+    fn write(&mut self, buf: &[u8]) -> io::Result<usize> {
+        Ok(buf.len())
+    }
+
+    fn flush(&mut self) -> io::Result<()> {
+        Err(io::Error::from(ErrorKind::Other))
+    }
+}
+
+#[test]
+fn a_flush_that_fails(rt: HostRuntime) {
+    let mut reader = Watched::new(FILL.as_bytes());
+    let mut writer = Watched::new(Stuck);
+    assert_eq!(rt;
+        run_script(rt.alloc(), &mut reader, &mut writer, DEFAULTS),
+        Err(RunFault::Write)
+    );
+    assert!(rt; writer.failed());
+}
+
+#[test]
+fn lines_of_an_answer(rt: HostRuntime) -> Result<(), Fail> {
+    let record = Record {
+        status: Status::RangePast,
+        result: 2,
+        completed: 4_294_967_295,
+        fault: 18_446_744_073_709_551_615,
+        delta_size: 20,
+    };
+    let mut list = Vec::new(rt.alloc());
+    for byte in [Some(0x00), None, Some(0x9a), Some(0xff)] {
+        list.push(byte)?;
+    }
+    for (item, line) in [
+        (
+            Item::Job {
+                number: 1023,
+                answer: record,
+            },
+            "job 1023 status 7d result 2 completed 4294967295 fault 18446744073709551615 delta 20\n",
+        ),
+        (
+            Item::Batch {
+                answer: BatchRecord {
+                    status: Status::BatchFailed,
+                    completed: 3,
+                },
+            },
+            "batch status 05 completed 3\n",
+        ),
+        (
+            Item::Show {
+                addr: 4088,
+                bytes: Shown { list },
+            },
+            "show 4088 00--9aff\n",
+        ),
+    ] {
+        assert_eq!(rt; out_text(rt.alloc(), &item)?.as_str(), line);
+    }
+    Ok(())
+}
+
+#[test]
+fn fields_of_jobs(rt: HostRuntime) -> Result<(), Fail> {
+    let wide = Job {
+        opcode: 0xff,
+        flags: 0x1234_5678,
+        source: 1,
+        target: 18_446_744_073_709_551_615,
+        size: 4_294_967_295,
+        extra: 2,
+        delta_size: 3,
+        expected: 255,
+    };
+    for (name, job, line) in [
+        (
+            "move_descriptor",
+            Job::move_bytes(4096, 8192, 100).with_flags(0x0c),
+            "opcode 03 flags 00000c source 4096 target 8192 size 100 extra 0 delta 0 expected 0",
+        ),
+        (
+            "bad_opcode_descriptor",
+            Job {
+                opcode: 0x10,
+                ..Job::no_op()
+            },
+            "opcode 10 flags 000000 source 0 target 0 size 0 extra 0 delta 0 expected 0",
+        ),
+        (
+            "a job whose flags are wider than a descriptor's",
+            wide,
+            "opcode ff flags 12345678 source 1 target 18446744073709551615 size 4294967295 extra 2 delta 3 expected 255",
+        ),
+    ] {
+        assert_eq!(rt; job_text(rt.alloc(), &job)?.as_str(), line, "at {name}");
+    }
+    Ok(())
+}
+
+// The tests below hold whichever growth is refused: the answer is the right one, or want of memory with what that
+// leaves.
+
+#[test]
+fn refused_out_text(rt: HostRuntime) {
+    let mut list = Vec::new(rt.alloc());
+    for byte in [Some(0x5a), None, Some(0xc3)] {
+        if list.push(byte).is_err() {
+            return;
+        }
+    }
+    match out_text(
+        rt.alloc(),
+        &Item::Show {
+            addr: 7,
+            bytes: Shown { list },
+        },
+    ) {
+        Ok(text) => assert_eq!(rt; text.as_str(), "show 7 5a--c3\n"),
+        Err(error) => assert_eq!(rt; error, TextError::NoMemory),
+    }
+}
+
+#[test]
+fn refused_job_text(rt: HostRuntime) {
+    match job_text(rt.alloc(), &Job::fill(1, 2, 3)) {
+        Ok(text) => assert_eq!(rt;
+            text.as_str(),
+            "opcode 04 flags 000000 source 1 target 2 size 3 extra 0 delta 0 expected 0"
+        ),
+        Err(error) => assert_eq!(rt; error, TextError::NoMemory),
+    }
+}
+
+#[test]
+fn refused_read_script(rt: HostRuntime) {
+    match read_script(
+        rt.alloc(),
+        b"image 2\npage 0 0102\npoke 1 03\nnoop\nshow 0 2",
+    ) {
+        Ok(script) => assert_eq!(rt; script.list.len(), 5),
+        Err(error) => assert_eq!(rt; error, ScriptError::NoMemory),
+    }
+}
+
+#[test]
+fn refused_run_script(rt: HostRuntime) {
+    let mut reader = Watched::new(FILL.as_bytes());
+    let mut writer = Watched::new(Paper::new(256, true));
+    match run_script(rt.alloc(), &mut reader, &mut writer, DEFAULTS) {
+        Ok(()) => assert!(rt; writer.into_inner().holds(FILL_ANSWER.as_bytes())),
+        Err(fault) => {
+            assert_eq!(rt; fault, RunFault::NoMemory);
+            let paper = writer.into_inner();
+            let front = FILL_ANSWER.as_bytes().get(..paper.len).unwrap_or(b"none");
+            assert!(rt; paper.holds(front));
+        }
+    }
+}

@@ -1,0 +1,190 @@
+ghost use Rattle.std.specs.Prelude.{◌≡◌, ◌≢◌, ◌+◌, ◌^◌, ◌<◌, ◌≤◌, false, true, length, Ok, Err, OnOk, OnErr, IsErrOf, IsOk, IfSome, vec_len};
+ghost use Rattle.std.specs.Io.KnownBytes.{Appends, IsAtEnd};
+ghost use Rattle.dml_types.specs.Settings.{IsValid};
+ghost use Rattle.dml_script.specs.Grammar.{parse};
+ghost use Rattle.dml_script.specs.Run.{answer, answer_from, opening, text_if, AllFit, IsRunnable};
+ghost use Rattle.dml_script.specs.Watching.{inner_of, has_failed, AppendsFront};
+ghost use Rattle.dml_script.specs.declared.faults.ScriptFault.{ScriptFault as TheFault};
+ghost use Rattle.dml_script.specs.declared.running.RunFault.TheVariants as faults;
+
+use crate::faults::{ScriptError, ScriptFault, fault_text};
+use crate::input::{InputError, MAX_INPUT, read_all};
+use crate::items::Item;
+use crate::lines::Line;
+use crate::reader::read_script;
+use crate::sessions::Session;
+use crate::texts::out_text;
+use crate::watching::Watched;
+use crate::writing::write_all;
+use dml_image::Image;
+use dml_types::Settings;
+use std::alloc::Global;
+use std::io::{Read, Write};
+use thiserror::Error;
+
+/// Why a script was not run to its end.
+#[derive(Clone, Copy, PartialEq, Eq, Debug, Error)]
+pub enum RunFault {
+    /// A call of the reader failed. Nothing was written.
+    #[error("cannot read the script")]
+    Read,
+    /// The script has more than 4,194,304 bytes. Nothing was written.
+    #[error("the script is too long")]
+    TooLong,
+    /// The script's first fault. Nothing was written.
+    #[error("line {}: {}", .0.line, fault_text(.0.kind))]
+    Script(ScriptFault),
+    /// Want of memory; a front of the answer may have been written.
+    #[error("out of memory")]
+    NoMemory,
+    /// A call of the writer failed, or took no byte; a front of the answer may have been written.
+    #[error("cannot write the answer")]
+    Write,
+}
+
+/// Reads a whole script, and then writes its answer and flushes the writer.
+///
+/// Each line of the answer is one write, so a writer to the outside should be buffered.
+pub fn run_script<R: Read, W: Write>(
+    alloc: Global,
+    reader: &mut Watched<R>,
+    writer: &mut Watched<W>,
+    settings: Settings,
+) -> Result<(), RunFault>
+    requires settings { IsValid settings }
+    requires reader { has_failed reader.old ≡ false }
+    requires writer { has_failed writer.old ≡ false }
+
+    // The answer of the whole input is written, and nothing else.
+    ensures answered { OnOk result (IfSome (R.remaining (inner_of reader.old)) (λ bytes.
+        Appends (W.contents (inner_of writer.old)) (W.contents (inner_of writer.new)) (answer bytes settings.staging))) }
+    ensures is_script { OnOk result (IfSome (R.remaining (inner_of reader.old)) (λ bytes. IsOk (parse bytes))) }
+    ensures all_read { OnOk result (IsAtEnd (R.remaining (inner_of reader.new))) }
+
+    // Whatever the error, no more than a front of the answer is written; and nothing before the script is checked.
+    ensures front { OnErr result (IfSome (R.remaining (inner_of reader.old)) (λ bytes.
+        AppendsFront (W.contents (inner_of writer.old)) (W.contents (inner_of writer.new)) (answer bytes settings.staging))) }
+    ensures script { (fault : TheFault) → IsErrOf result (faults.Script fault) → (writer.new ≡ writer.old)
+        × IfSome (R.remaining (inner_of reader.old)) (λ bytes. parse bytes ≡ Err fault) }
+    ensures too_long { IsErrOf result faults.TooLong → (writer.new ≡ writer.old)
+        × IfSome (R.remaining (inner_of reader.old)) (λ bytes. 4194304 < length bytes) }
+    ensures read { IsErrOf result faults.Read → (writer.new ≡ writer.old) × (has_failed reader.new ≡ true) }
+    ensures write { IsErrOf result faults.Write → has_failed writer.new ≡ true }
+{
+    match read_all(alloc, reader) {
+        Ok(bytes) => answer_input(alloc, bytes, writer, settings.staging),
+        Err(InputError::Read) => Err(RunFault::Read),
+        Err(InputError::TooLong) => Err(RunFault::TooLong),
+        Err(InputError::NoMemory) => Err(RunFault::NoMemory),
+    }
+}
+
+/// Checks a whole script and writes its answer. The input is let go before anything runs.
+fn answer_input<W: Write>(
+    alloc: Global,
+    bytes: Vec<u8>,
+    writer: &mut Watched<W>,
+    staging: u32,
+) -> Result<(), RunFault>
+    requires within { vec_len bytes ≤ MAX_INPUT }
+    ensures answered { OnOk result (Appends (W.contents (inner_of writer.old)) (W.contents (inner_of writer.new)) (answer bytes.items staging)) }
+    ensures is_script { OnOk result (IsOk (parse bytes.items)) }
+    ensures front { OnErr result (AppendsFront (W.contents (inner_of writer.old)) (W.contents (inner_of writer.new)) (answer bytes.items staging)) }
+    ensures script { (fault : TheFault) → IsErrOf result (faults.Script fault)
+        → (writer.new ≡ writer.old) × (parse bytes.items ≡ Err fault) }
+    ensures write { IsErrOf result faults.Write → has_failed writer.new ≡ true }
+    ensures no_read { result ≢ Err faults.Read }
+    ensures no_length { result ≢ Err faults.TooLong }
+{
+    let script = match read_script(alloc, &bytes) {
+        Ok(script) => script,
+        Err(ScriptError::Fault(fault)) => return Err(RunFault::Script(fault)),
+        Err(ScriptError::NoMemory) => return Err(RunFault::NoMemory),
+    };
+    drop(bytes);
+    match answer_script(alloc, &script.list, writer, staging) {
+        Ok(()) => Ok(()),
+        Err(AnswerError::NoMemory) => Err(RunFault::NoMemory),
+        Err(AnswerError::Write) => Err(RunFault::Write),
+    }
+}
+
+/// Why an answer was not written to its end.
+#[derive(Clone, Copy, PartialEq, Eq, Debug)]
+enum AnswerError {
+    NoMemory,
+    Write,
+}
+
+/// Writes the answer of a script's lines, and flushes the writer.
+fn answer_script<W: Write>(
+    alloc: Global,
+    lines: &[Line],
+    writer: &mut Watched<W>,
+    staging: u32,
+) -> Result<(), AnswerError>
+    requires runnable { IsRunnable staging lines.now }
+    ensures ok { OnOk result (Appends (W.contents (inner_of writer.old)) (W.contents (inner_of writer.new))
+        (answer_from staging opening lines.now)) }
+    ensures front { OnErr result (AppendsFront (W.contents (inner_of writer.old)) (W.contents (inner_of writer.new))
+        (answer_from staging opening lines.now)) }
+    ensures failed { IsErrOf result AnswerError.Write → has_failed writer.new ≡ true }
+{
+    let [Line::Image { pages }, lines @ ..] = lines else {
+        unreachable!()
+    };
+    let Ok(image) = Image::new(alloc, *pages) else {
+        return Err(AnswerError::NoMemory);
+    };
+    answer_lines(alloc, Session::new(image), lines, writer, staging)
+}
+
+/// Writes what the lines after the first show, and flushes the writer.
+fn answer_lines<W: Write>(
+    alloc: Global,
+    mut session: Session,
+    lines: &[Line],
+    writer: &mut Watched<W>,
+    staging: u32,
+) -> Result<(), AnswerError>
+    requires fits { AllFit staging session lines.now }
+    requires counted { session.jobs + length lines.now < 2 ^ 32 }
+    ensures ok { OnOk result (Appends (W.contents (inner_of writer.old)) (W.contents (inner_of writer.new))
+        (answer_from staging session lines.now)) }
+    ensures front { OnErr result (AppendsFront (W.contents (inner_of writer.old)) (W.contents (inner_of writer.new))
+        (answer_from staging session lines.now)) }
+    ensures failed { IsErrOf result AnswerError.Write → has_failed writer.new ≡ true }
+{
+    for line in lines {
+        let Ok(item) = session.take(alloc, line, staging) else {
+            return Err(AnswerError::NoMemory);
+        };
+        write_item(alloc, item, writer)?;
+    }
+    if writer.flush().is_err() {
+        return Err(AnswerError::Write);
+    }
+    Ok(())
+}
+
+/// Writes the text of an item, if there is one.
+fn write_item<W: Write>(
+    alloc: Global,
+    item: Option<Item>,
+    writer: &mut Watched<W>,
+) -> Result<(), AnswerError>
+    ensures ok { OnOk result (Appends (W.contents (inner_of writer.old)) (W.contents (inner_of writer.new)) (text_if item)) }
+    ensures front { OnErr result (AppendsFront (W.contents (inner_of writer.old)) (W.contents (inner_of writer.new)) (text_if item)) }
+    ensures failed { IsErrOf result AnswerError.Write → has_failed writer.new ≡ true }
+{
+    let Some(item) = item else {
+        return Ok(());
+    };
+    let Ok(text) = out_text(alloc, &item) else {
+        return Err(AnswerError::NoMemory);
+    };
+    if write_all(writer, text.as_bytes()).is_err() {
+        return Err(AnswerError::Write);
+    }
+    Ok(())
+}

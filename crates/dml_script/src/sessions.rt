@@ -1,0 +1,164 @@
+ghost use Rattle.std.specs.Prelude.{◌≡◌, ◌+◌, ◌-◌, ◌%◌, ◌^◌, ◌<◌, ◌≤◌, ◌++◌, true, false, length, map, None, Some, IfOk, OnOk};
+ghost use Rattle.dml_types.specs.Memory.{has};
+ghost use Rattle.dml_image.specs.Brought.{brought};
+ghost use Rattle.dml_script.specs.Run.{Fits, after_line, item_of, page_of, shown_bytes};
+
+use crate::items::{Item, Shown};
+use crate::jobs::carry_out;
+use crate::lines::Line;
+use dml_image::Image;
+use std::alloc::{AllocError, Global};
+use std::marker::Model;
+
+const PAGE_SIZE: usize = 4096;
+
+/// The memory of a script's run, and the number of jobs so far.
+#[derive(Drop)]
+pub struct Session {
+    image: Image,
+    jobs: u32,
+}
+
+impl Model for Session {
+    ghost use Rattle.dml_script.specs.Run.{Session as State};
+
+    ghost Value = { State };
+
+    ghost view = { λ session. record { memory = session.image; jobs = session.jobs } };
+}
+
+impl Session {
+    pub fn new(image: Image) -> Session
+        ensures { result ≡ record { memory = image; jobs = 0 } }
+    {
+        Session { image, jobs: 0 }
+    }
+
+    /// Takes a line that is not the first. `NoMemory` comes from a show alone, and leaves all as it was.
+    pub fn take(
+        &mut self,
+        alloc: Global,
+        line: &Line,
+        staging: u32,
+    ) -> Result<Option<Item>, AllocError>
+        requires fits { Fits self.old line.now }
+        requires counted { self.old.jobs < 2 ^ 32 - 1 }
+        ensures item { IfOk result (λ item. item ≡ item_of staging self.old line.now) }
+        ensures after { IfOk result (λ _. self.new ≡ after_line staging self.old line.now) }
+    {
+        match line {
+            Line::Image { .. } => unreachable!(),
+            Line::Page { page, bytes } => self.bring(*page, &bytes.list)?,
+            Line::Poke { addr, bytes } => self.image.write(*addr, &bytes.list),
+            Line::Job(job) => {
+                let answer = carry_out(&mut self.image, job, staging);
+                let number = self.jobs;
+                self.jobs += 1;
+                return Ok(Some(Item::Job { number, answer }));
+            }
+            Line::Show { addr, len } => {
+                let bytes = shown(alloc, &self.image, *addr, *len as usize)?;
+                return Ok(Some(Item::Show { addr: *addr, bytes }));
+            }
+        }
+        Ok(None)
+    }
+
+    /// Brings a page: these bytes, and then zeros.
+    fn bring(&mut self, page: u32, bytes: &[u8]) -> Result<(), AllocError>
+        requires inside { page < length self.old.memory.present }
+        requires short { length bytes.now ≤ PAGE_SIZE }
+        ensures { OnOk result (self.new ≡ record self.old { memory = brought self.old.memory page (page_of bytes.now) }) }
+    {
+        self.image
+            .bring(page, &page_content(bytes))
+            .map_err(|_| AllocError)
+    }
+}
+
+/// A page of these bytes, and then zeros.
+fn page_content(bytes: &[u8]) -> [u8; PAGE_SIZE]
+    requires { length bytes.now ≤ PAGE_SIZE }
+    ensures { result ≡ page_of bytes.now }
+{
+    let mut content = [0; PAGE_SIZE];
+    content[..bytes.len()].copy_from_slice(bytes);
+    content
+}
+
+/// What a range shows, page by page.
+fn shown(alloc: Global, image: &Image, addr: u64, len: usize) -> Result<Shown, AllocError>
+    requires { addr + len ≤ 2 ^ 64 }
+    ensures { IfOk result (λ shown. shown ≡ shown_bytes image.now addr len) }
+{
+    let mut list = Vec::with_capacity(alloc, len)?;
+    let mut done = 0;
+    while done < len {
+        let at = addr + done as u64;
+        let part = (len - done).min(PAGE_SIZE - at as usize % PAGE_SIZE);
+        push_part(&mut list, image, at, part)?;
+        done += part;
+    }
+    Ok(Shown { list })
+}
+
+/// Adds what a range in one page shows.
+fn push_part(
+    list: &mut Vec<Option<u8>>,
+    image: &Image,
+    addr: u64,
+    len: usize,
+) -> Result<(), AllocError>
+    requires { addr % PAGE_SIZE + len ≤ PAGE_SIZE }
+    ensures { OnOk result (list.new.items ≡ list.old.items ++ shown_bytes image.now addr len) }
+{
+    if image.has(addr) {
+        push_present(list, image, addr, len)
+    } else {
+        push_absent(list, image, addr, len)
+    }
+}
+
+/// Adds the bytes of a range in one page, which is present.
+fn push_present(
+    list: &mut Vec<Option<u8>>,
+    image: &Image,
+    addr: u64,
+    len: usize,
+) -> Result<(), AllocError>
+    requires within { addr % PAGE_SIZE + len ≤ PAGE_SIZE }
+    requires present { has image.now addr ≡ true }
+    ensures { OnOk result (list.new.items ≡ list.old.items ++ shown_bytes image.now addr len) }
+{
+    let mut page = [0; PAGE_SIZE];
+    let (bytes, _) = page.split_at_mut(len);
+    image.read_into(addr, bytes);
+    push_bytes(list, bytes)
+}
+
+/// Adds bytes.
+fn push_bytes(list: &mut Vec<Option<u8>>, bytes: &[u8]) -> Result<(), AllocError>
+    ensures { OnOk result (list.new.items ≡ list.old.items ++ map (λ byte. Some byte) bytes.now) }
+{
+    for byte in bytes {
+        list.push(Some(*byte))?;
+    }
+    Ok(())
+}
+
+/// Adds None for each address of a range in one page, which is absent.
+fn push_absent(
+    list: &mut Vec<Option<u8>>,
+    image: &Image,
+    addr: u64,
+    len: usize,
+) -> Result<(), AllocError>
+    requires within { addr % PAGE_SIZE + len ≤ PAGE_SIZE }
+    requires absent { has image.now addr ≡ false }
+    ensures { OnOk result (list.new.items ≡ list.old.items ++ shown_bytes image.now addr len) }
+{
+    for _ in 0..len {
+        list.push(None)?;
+    }
+    Ok(())
+}

@@ -113,9 +113,10 @@ fn moved_over_a_long_gap(rt: HostRuntime) -> Result<(), ArenaError> {
 
 #[test]
 fn arena_of_an_owner(rt: HostRuntime) -> Result<(), ArenaError> {
-    let mut engine = Engine::new(Arena::new(rt.alloc(), 4)?);
+    let mut engine = Engine::new(Arena::new(rt.alloc(), 4)?, Vec::new(rt.alloc()));
     assert_eq!(rt; engine.round(&[1, 2, 3]), 3);
     assert_eq!(rt; engine.round(&[4, 5, 6, 7]), 4);
+    assert!(rt; engine.doubled());
     Ok(())
 }
 

@@ -1,5 +1,5 @@
 //! What callers rest on. Each function is proved from the contracts alone.
-ghost use Rattle.std.specs.Prelude.{◌≡◌, ◌+◌, ◌^◌, ◌<◌, ◌≤◌, length};
+ghost use Rattle.std.specs.Prelude.{◌≡◌, ◌+◌, ◌<◌, ◌≤◌, [], ◌∷◌, ◌++◌, length};
 
 use crate::{Arena, Region};
 use std::thread::{self, Threads};
@@ -18,23 +18,36 @@ fn opened_twice(arena: &mut Arena, bytes: &[u8]) -> u32
     front.room() + back.room()
 }
 
+// A region that is passed on by value.
+fn staged<'a>(mut region: Region<'a>, bytes: &[u8]) -> Region<'a>
+    requires empty { region.bytes ≡ [] }
+    requires fits { length bytes.now ≤ region.room }
+    ensures place { (result.opening ≡ region.entry.opening) × (result.start ≡ region.entry.start) × (result.room ≡ region.entry.room) }
+    ensures bytes { result.bytes ≡ bytes.now }
+{
+    region.push(bytes);
+    region
+}
+
 // An owner with an arena in a field, which it opens for each round.
 #[derive(Drop)]
 pub(crate) struct Engine {
     arena: Arena,
+    image: Vec<u8>,
 }
 
 impl Engine {
-    pub(crate) fn new(arena: Arena) -> Engine
-        ensures { result.arena ≡ arena }
+    pub(crate) fn new(arena: Arena, image: Vec<u8>) -> Engine
+        ensures { (result.arena ≡ arena) × (result.image.items ≡ image.items) }
     {
-        Engine { arena }
+        Engine { arena, image }
     }
 
     // Stages `bytes`, and returns how many are staged.
     pub(crate) fn round(&mut self, bytes: &[u8]) -> usize
         requires { length bytes.now ≤ self.old.arena.size }
         ensures arena { self.new.arena ≡ self.old.arena }
+        ensures image { self.new.image.items ≡ self.old.image.items }
         ensures staged { result ≡ length bytes.now }
     {
         let mut region = self.arena.open();
@@ -50,29 +63,25 @@ impl Engine {
         let _first = self.round(bytes);
         let _second = self.round(bytes);
     }
+
+    // Stages the image, which lies beside the arena, and puts what was staged behind it.
+    pub(crate) fn doubled(&mut self) -> bool
+        requires { length self.old.image.items ≤ self.old.arena.size }
+        ensures { self.new.arena ≡ self.old.arena }
+    {
+        doubled_beside(&mut self.arena, &mut self.image)
+    }
 }
 
-// Two holders fill neighbours at the same time.
-fn filled_apart<R: Threads>(rt: &R, arena: &mut Arena)
-    requires { 6 ≤ arena.old.size }
+// The arena is known to be the same where no other field of its owner is used while regions are out. So
+// each field is passed by itself.
+fn doubled_beside(arena: &mut Arena, image: &mut Vec<u8>) -> bool
+    requires { length image.old.items ≤ arena.old.size }
     ensures { arena.new ≡ arena.old }
 {
     let region = arena.open();
-    let (mut front, mut back) = region.cut(2);
-    let (front, back) = thread::join(
-        rt,
-        move || {
-            front.push(&[1, 2]);
-            front
-        },
-        move || {
-            back.push(&[3]);
-            back
-        },
-    );
-    let whole = front.join(back);
-    let bytes = whole.bytes();
-    prove!(bytes.len() == 3 && bytes[0] == 1 && bytes[2] == 3);
+    let region = staged(region, image.as_slice());
+    image.extend_from_slice(region.bytes()).is_ok()
 }
 
 // A piece of work that stages into a region of its own.
@@ -80,6 +89,39 @@ fn filled_apart<R: Threads>(rt: &R, arena: &mut Arena)
 pub(crate) struct Task<'a> {
     byte: u8,
     staged: Region<'a>,
+}
+
+impl<'a> Task<'a> {
+    fn run(mut self) -> Task<'a>
+        requires { length self.staged.bytes < self.staged.room }
+        ensures place { (result.staged.opening ≡ self.entry.staged.opening) × (result.staged.start ≡ self.entry.staged.start) × (result.staged.room ≡ self.entry.staged.room) }
+        ensures bytes { result.staged.bytes ≡ self.entry.staged.bytes ++ self.entry.byte ∷ [] }
+    {
+        let byte = self.byte;
+        self.staged.push(&[byte]);
+        self
+    }
+}
+
+// Two tasks stage into neighbours at the same time.
+fn staged_apart<R: Threads>(rt: &R, arena: &mut Arena)
+    requires { 6 ≤ arena.old.size }
+    ensures { arena.new ≡ arena.old }
+{
+    let region = arena.open();
+    let (front, back) = region.cut(2);
+    let first = Task {
+        byte: 1,
+        staged: front,
+    };
+    let second = Task {
+        byte: 2,
+        staged: back,
+    };
+    let (first, second) = thread::join(rt, move || first.run(), move || second.run());
+    let whole = first.staged.join(second.staged);
+    let bytes = whole.bytes();
+    prove!(bytes.len() == 2 && bytes[0] == 1 && bytes[1] == 2);
 }
 
 // Tasks in a list keep their regions.

@@ -1,5 +1,5 @@
 -- What is known of a job that passed the checks.
-use Rattle.std.specs.Prelude.{◌≡◌, ◌↔◌, ◌+◌, ◌%◌, ◌^◌, ◌≤◌, false, None, Some, ⊤}
+use Rattle.std.specs.Prelude.{◌≡◌, ◌↔◌, ◌+◌, ◌%◌, ◌^◌, ◌≤◌, false, None, Some, unwrap_or, ⊤}
 use Rattle.dml_types.specs.declared.jobs.Job.{Job}
 use Rattle.dml_types.specs.declared.operations.Op.{Op}
 use Rattle.dml_types.specs.declared.operations.Op.TheVariants.{NoOp, Move, Fill, Compare, ComparePattern, CreateDelta, ApplyDelta, Dualcast}
@@ -21,6 +21,10 @@ pub record KeepsRules (op : Op) (job : Job) : Type 0 where
   pub dualcast_bits : has_dualcast_bits op job ≡ false
   pub overlap : has_overlap op job ≡ false
   pub ranges : has_range_past op job ≡ false
+
+-- the operation that it has
+abbrev pub operation_of : Job → Op
+operation_of job = unwrap_or (op_of job) NoOp
 
 -- what that says of the sizes and addresses of each operation
 pub record SourceLimits (job : Job) : Type 0 where

@@ -1,5 +1,4 @@
 pub mod Checked
 pub mod Descriptor
 pub mod Laws
-pub mod Operation
 pub mod RefusalLaws

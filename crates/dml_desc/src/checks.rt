@@ -1,4 +1,4 @@
-ghost use Rattle.std.specs.Prelude.{◌≡◌, if◌then◌else◌, IfOk, IfErr, None, Some, nat_lt};
+ghost use Rattle.std.specs.Prelude.{◌≡◌, if◌then◌else◌, IfOk, IfErr, None, Some};
 ghost use Rattle.dml_types.specs.Refusal.{refusal, need_of};
 ghost use Rattle.dml_types.specs.Refusal as rule;
 ghost use Rattle.dml_desc.specs.Checked.{IsChecked, KeepsRules, Limits};
@@ -7,7 +7,7 @@ use crate::rules;
 use dml_types::{Job, Op, Status};
 use std::marker::Model;
 
-/// A job that breaks no rule. It is made by `check` alone.
+/// A job that breaks no rule, with its operation. It is made by `check` alone.
 #[derive(Clone, Copy, PartialEq, Eq, Debug)]
 pub struct Checked {
     job: Job,
@@ -16,8 +16,7 @@ pub struct Checked {
 
 impl Model for Checked {
     ghost use Rattle.dml_types.specs.declared.jobs.Job.{Job};
-    ghost use Rattle.dml_desc.specs.Checked.{KeepsRules};
-    ghost use Rattle.dml_desc.specs.Operation.{operation_of};
+    ghost use Rattle.dml_desc.specs.Checked.{KeepsRules, operation_of};
 
     ghost Value = { Job };
 
@@ -58,7 +57,7 @@ fn need_for(op: Op, job: &Job) -> u64
     }
 }
 
-/// The bytes of staging that a job takes; 0 where its opcode is unsupported.
+/// The bytes of staging that a job takes, by its descriptor alone; 0 where its opcode is unsupported.
 pub fn need(job: &Job) -> u64
     ensures { result ≡ rule.need job.now }
 {
@@ -72,13 +71,15 @@ fn refuse_if(broken: bool, status: Status) -> Result<(), Status>
     if broken { Err(status) } else { Ok(()) }
 }
 
-/// The job as a checked one where it breaks no rule, and else the status of the first rule that it breaks, at a
-/// staging size in bytes.
+/// The job as a checked one where it breaks no rule, with `staging` bytes of staging, and else the status of the
+/// first rule that it breaks: BadOpcode, BadFlags, BadSize, BadDeltaSize, Misaligned, DualcastBits, Overlap,
+/// RangePast or StagingRefused, in this order.
 pub fn check(job: &Job, staging: u32) -> Result<Checked, Status>
     ensures same { IfOk result (λ checked. checked ≡ job.now) }
     ensures accepted { IfOk result (λ _. refusal job.now staging ≡ None) }
     ensures refused { IfErr result (λ status. refusal job.now staging ≡ Some status) }
 {
+    let room = u64::from(staging);
     let op = job.op().ok_or(Status::BadOpcode)?;
     refuse_if(rules::has_bad_flags(job), Status::BadFlags)?;
     refuse_if(rules::has_bad_size(op, job), Status::BadSize)?;
@@ -87,7 +88,6 @@ pub fn check(job: &Job, staging: u32) -> Result<Checked, Status>
     refuse_if(rules::has_dualcast_bits(op, job), Status::DualcastBits)?;
     refuse_if(rules::has_overlap(op, job), Status::Overlap)?;
     refuse_if(rules::has_range_past(op, job), Status::RangePast)?;
-    let exceeds = need_for(op, job) > u64::from(staging);
-    refuse_if(exceeds, Status::StagingRefused)?;
+    refuse_if(need_for(op, job) > room, Status::StagingRefused)?;
     Ok(Checked { job: *job, op })
 }

@@ -36,7 +36,8 @@ fn common_fields(bytes: &[u8; 64]) -> Job
     }
 }
 
-/// The job of a descriptor. What its operation does not use is read past.
+/// The job of a descriptor's 64 bytes. Bytes that its operation does not use are read past, so that every
+/// descriptor has a job; `check` judges it.
 #[tactic(auto, unfolding(crate::specs::Descriptor::decoded))]
 pub fn decode(bytes: &[u8; 64]) -> Job
     ensures { result ≡ layout.decoded bytes.now }

@@ -13,13 +13,11 @@ const MOST_BYTES: u32 = 1_048_576;
 /// The largest transfer size of a create or an apply: as many blocks as an entry's offset can name.
 const MOST_DELTA_BYTES: u32 = 0x8_0000;
 
-/// The bytes of a delta record's entry, and the most of a record.
+/// The bytes of a delta record's entry.
 const ENTRY: u32 = 10;
 
+/// The most bytes of a delta record: an entry for each block of the largest transfer.
 const MOST_RECORD: u32 = 655_360;
-
-/// The bytes of a block.
-const BLOCK: u32 = 8;
 
 /// The flags that a job may have.
 fn accepted() -> JobFlags
@@ -32,8 +30,8 @@ fn accepted() -> JobFlags
         .union(JobFlags::CACHE_CONTROL)
 }
 
-#[tactic(auto, using(std::proofs::lemmas::Nat::and_comm))]
 /// Whether a flag that is not accepted is set.
+#[tactic(auto, using(std::proofs::lemmas::Nat::and_comm))]
 pub(crate) fn has_bad_flags(job: &Job) -> bool
     ensures { result ≡ rule.has_bad_flags job.now }
 {
@@ -50,7 +48,7 @@ pub(crate) fn has_bad_size(op: Op, job: &Job) -> bool
             job.size > MOST_BYTES
         }
         Op::CreateDelta | Op::ApplyDelta => {
-            job.size > MOST_DELTA_BYTES || !job.size.is_multiple_of(BLOCK)
+            job.size > MOST_DELTA_BYTES || !job.size.is_multiple_of(8)
         }
     }
 }
@@ -74,8 +72,8 @@ pub(crate) fn is_misaligned(op: Op, job: &Job) -> bool
     ensures { result ≡ rule.is_misaligned op job.now }
 {
     match op {
-        Op::CreateDelta => job.source % 8 != 0 || job.target % 8 != 0,
-        Op::ApplyDelta => job.target % 8 != 0,
+        Op::CreateDelta => !job.source.is_multiple_of(8) || !job.target.is_multiple_of(8),
+        Op::ApplyDelta => !job.target.is_multiple_of(8),
         _ => false,
     }
 }
@@ -87,7 +85,7 @@ pub(crate) fn has_dualcast_bits(op: Op, job: &Job) -> bool
     op == Op::Dualcast && job.target % 4096 != job.extra % 4096
 }
 
-/// Whether two ranges share a byte that must not.
+/// Whether two ranges share a byte that must share none.
 pub(crate) fn has_overlap(op: Op, job: &Job) -> bool
     ensures { result ≡ rule.has_overlap op job.now }
 {
@@ -130,6 +128,7 @@ pub(crate) fn has_range_past(op: Op, job: &Job) -> bool
     }
 }
 
+/// The range of `len` bytes from `start` on.
 fn span(start: u64, len: u32) -> Span
     ensures { result ≡ range.span start len }
 {

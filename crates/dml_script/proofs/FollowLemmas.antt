@@ -3,10 +3,7 @@ use Rattle.std.proofs.Common.{◌≡◌, ℕ, ◌+◌, ◌^◌, ◌<◌, ◌≤�
 use Rattle.std.specs.List.{list_all, list_any}
 use Rattle.dml_desc.specs.Descriptor.{decoded, u8_at}
 use Rattle.dml_desc.proofs.LayoutLemmas.{op_of-decoded}
-use Rattle.dml_types.specs.Job.{op_of, operations}
-use Rattle.dml_types.specs.declared.jobs.Job.{Job}
-use Rattle.dml_types.specs.declared.operations.Op.{Op}
-use Rattle.dml_types.specs.declared.operations.Op.TheVariants.{NoOp, Move, Fill, Compare, ComparePattern, CreateDelta, ApplyDelta, Dualcast}
+use Rattle.dml_types.specs.Job.{operations}
 use Rattle.std.specs.Option.{option_map}
 use Rattle.std.proofs.lemmas.Bool.{cases_Bool, leb-true, ltb-true, ltb-false, and_parts, not-false, or_parts}
 use Rattle.std.proofs.lemmas.List.{nil_from_length}

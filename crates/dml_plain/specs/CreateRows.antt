@@ -37,5 +37,5 @@ delta_stops_at_absent_source =
     let memory = put (put (put (image (true ∷ false ∷ [])) 4056 (hex 1 0x01)) 4072 (hex 1 0x02)) 4088 (hex 1 0x03) in
     let jobs = create_job 0 4056 64 128 80 ∷ create_job 0 4056 64 256 20 ∷ [] in
     Answers memory jobs (answer ReadFault 0 40 4096 30 ∷ answer Success 2 32 0 20 ∷ [])
-    × Shows (after memory jobs) 128 (hex 30 0x000001000000000000000200020000000000000004000300000000000000)
+    × Shows (after memory (create_job 0 4056 64 128 80 ∷ [])) 128 (hex 30 0x000001000000000000000200020000000000000004000300000000000000)
     × Shows (after memory jobs) 276 (hex 3 0x000000)

@@ -18,13 +18,24 @@ batch_with_bad_opcode =
     (fill_job 1 0 8 ∷ decoded (hex 8 0x0000000000000010 ++ replicate 56 0) ∷ fill_job 2 8 8 ∷ [])
     (answer Success 0 8 0 0 ∷ answer BadOpcode 0 0 0 0 ∷ answer Success 0 8 0 0 ∷ []) BatchFailed 3
 
--- staging of 64 bytes: each job alone is judged
+-- no job: no record, and the image as it was
+unfoldable pub bare_image : Type 0
+bare_image = let memory = image (false ∷ []) in Answers memory [] [] × (after memory [] ≡ memory)
+
+-- staging of 64 bytes: each job alone is judged. The two that are not refused are of one level; that they make two waves
+-- is for the waves' definition
 unfoldable pub staging_refusal_and_two_waves : Type 0
 staging_refusal_and_two_waves =
-    let jobs = move_job 0 256 64 ∷ move_job 0 512 65 ∷ move_job 0 1024 64 ∷ [] in
-    (records_of (image (true ∷ [])) jobs 64
+    let one = move_job 0 256 64 in
+    let other = move_job 0 1024 64 in
+    (records_of (image (true ∷ [])) (one ∷ move_job 0 512 65 ∷ other ∷ []) 64
     ≡ answer Success 0 64 0 0 ∷ answer StagingRefused 0 0 0 0 ∷ answer Success 0 64 0 0 ∷ [])
-    × (levels jobs ≡ 0 ∷ 0 ∷ 0 ∷ [])
+    × (levels (one ∷ other ∷ []) ≡ 0 ∷ 0 ∷ [])
+
+-- 1,025 no-ops
+unfoldable pub more_lines_than_one_list : Type 0
+more_lines_than_one_list =
+    Answers (image (false ∷ [])) (replicate 1025 no_op_job) (replicate 1025 (answer Success 0 0 0 0))
 
 -- the second job reads what the first wrote, and the third writes what the first read
 unfoldable pub conflict_chain : Type 0

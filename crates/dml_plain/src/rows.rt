@@ -61,6 +61,8 @@ pub fn rows_of_refusals()
 /// The worked rows of lists and batches.
 pub fn rows_of_lists()
     ensures batch_with_bad_opcode { lists.batch_with_bad_opcode }
+    ensures bare_image { lists.bare_image }
+    ensures more_lines_than_one_list { lists.more_lines_than_one_list }
     ensures staging_refusal_and_two_waves { lists.staging_refusal_and_two_waves }
     ensures conflict_chain { lists.conflict_chain }
     ensures levels_of_four_jobs { lists.levels_of_four_jobs }

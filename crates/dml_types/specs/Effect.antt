@@ -16,7 +16,7 @@ effect_of puts answer = record { puts = puts; answer = answer }
 abbrev pub ended : Status → ℕ → ℕ → ℕ → Record
 ended status outcome completed delta = record { status = status; result = outcome; completed = completed; fault = 0; delta_size = delta }
 
--- an address, and the status that answers where its byte is absent
+-- a cause that stops a job: its status, and the address of the absent byte, 0 where it is another cause
 pub record Fault : Type 0 where
   pub status : Status
   pub address : ℕ

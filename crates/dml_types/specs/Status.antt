@@ -1,5 +1,5 @@
 -- Statuses and their codes in a completion record.
-use Rattle.std.specs.Prelude.{ℕ, List, [], ◌∷◌, Option, nat_eq, find}
+use Rattle.std.specs.Prelude.{ℕ, [], ◌∷◌, Option, nat_eq, find}
 use Rattle.dml_types.specs.Types.{Status, Success, FalsePredicate, ReadFault, BatchFailed, NotRising, OffsetRange, BadOpcode, BadFlags, BadSize, BadDeltaSize, Overlap, DualcastBits, Misaligned, RangePast, StagingRefused, WriteFault}
 
 abbrev pub code_of : Status → ℕ
@@ -20,11 +20,9 @@ code_of RangePast = 0x7D
 code_of StagingRefused = 0x7E
 code_of WriteFault = 0x83
 
-abbrev pub statuses : List Status
-statuses =
-    Success ∷ FalsePredicate ∷ ReadFault ∷ BatchFailed ∷ NotRising ∷ OffsetRange ∷ BadOpcode ∷ BadFlags ∷ BadSize
-    ∷ BadDeltaSize ∷ Overlap ∷ DualcastBits ∷ Misaligned ∷ RangePast ∷ StagingRefused ∷ WriteFault ∷ []
-
 -- the status with a code, if there is one
 abbrev pub status_with : ℕ → Option Status
-status_with code = find (λ status. nat_eq code (code_of status)) statuses
+status_with code =
+    find (λ status. nat_eq code (code_of status))
+    (Success ∷ FalsePredicate ∷ ReadFault ∷ BatchFailed ∷ NotRising ∷ OffsetRange ∷ BadOpcode ∷ BadFlags ∷ BadSize
+    ∷ BadDeltaSize ∷ Overlap ∷ DualcastBits ∷ Misaligned ∷ RangePast ∷ StagingRefused ∷ WriteFault ∷ [])

@@ -1,7 +1,7 @@
 ghost use Rattle.std.specs.Prelude.{◌↔◌, IsTrue};
 ghost use Rattle.dml_types.specs.Settings.{IsValid};
 
-/// How an engine works. No answer depends on `chunk` and `workers`.
+/// How an engine works. `chunk` and `workers` are meant to change no answer.
 #[derive(Clone, Copy, PartialEq, Eq, Debug)]
 pub struct Settings {
     /// The bytes of the staging arena, 0 to 16,777,216.

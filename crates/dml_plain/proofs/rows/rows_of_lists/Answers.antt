@@ -12,6 +12,14 @@ pub returns-clause-batch_with_bad_opcode : goal.returns-clause-batch_with_bad_op
 unfolding row.batch_with_bad_opcode first overwrite pattern_bytes filled effect decoded
 returns-clause-batch_with_bad_opcode c = (refl, refl)
 
+pub returns-clause-bare_image : goal.returns-clause-bare_image
+unfolding row.bare_image
+returns-clause-bare_image c = (refl, refl)
+
+pub returns-clause-more_lines_than_one_list : goal.returns-clause-more_lines_than_one_list
+unfolding row.more_lines_than_one_list effect
+returns-clause-more_lines_than_one_list c = refl
+
 pub returns-clause-staging_refusal_and_two_waves : goal.returns-clause-staging_refusal_and_two_waves
 unfolding row.staging_refusal_and_two_waves first overwrite moved effect
 returns-clause-staging_refusal_and_two_waves c = (refl, refl)

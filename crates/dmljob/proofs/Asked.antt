@@ -93,7 +93,7 @@ module _ (s : Shape) (names : Names) (keeps : s.disable_help_subcommand ≡ fals
       let met = word_met s.rules names w.is_trailing w.waiting w.position word w.held in
       let free_turn : or_else (word_fault s names w.is_trailing w.waiting word w.held) _ ≡ [] = rw is at free in
       after_is_none s.rules word w met.0 is met.1
-          (λ help. word_is_none s names keeps w.waiting w.position word w.held w.is_trailing help (first_none _ _ free_turn)) bad
+      (λ help. word_is_none s names keeps w.waiting w.position word w.held w.is_trailing help (first_none _ _ free_turn)) bad
 
   walk_stays : (w : Walk) (words : List Text) → (IsHelp w.stopped → ⊥) → walk_fault s names w words ≡ []
       → IsHelp (fold (walked s.rules names) w words).stopped → ⊥
@@ -147,8 +147,7 @@ level_free s names h words is_met below free =
     let walks = walk_fault s names (walk_from h) words in
     let after_defaults = or_else defaults checks in
     let after_settles = or_else settles after_defaults in
-    let after_walk = or_else below after_settles in
-    (
+    let after_walk = or_else below after_settles in (
       first_none walks after_walk free,
       second_none defaults checks (second_none settles after_defaults (second_none below after_settles (second_none walks after_walk free))),
     )
@@ -160,4 +159,4 @@ asked words free =
     let stop = (walk app.top.rules (names_of app) nothing_held rest).stopped in
     let parts = level_free app.top (names_of app) nothing_held rest (is_some (entered app stop)) (entered_fault app stop) free in
     stop_asked stop (walk_stays app.top (names_of app) refl (walk_from nothing_held) rest (λ bad. bad) parts.0)
-        (command_met app.top (finished app.top.rules (walk app.top.rules (names_of app) nothing_held rest).held) (is_some (entered app stop)) refl parts.1)
+    (command_met app.top (finished app.top.rules (walk app.top.rules (names_of app) nothing_held rest).held) (is_some (entered app stop)) refl parts.1)

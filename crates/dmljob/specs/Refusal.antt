@@ -39,7 +39,7 @@ text_in refusal.Write = Some (codes "dmljob: cannot write the answer" ++ 10 ∷ 
 -- what clap's refusal of the words is to the program
 abbrev pub refusal_of : Error → Refusal
 refusal_of error = elim (kind_of error) [
-    kind.OutOfMemory ↦ refusal.NoMemory
+  | kind.OutOfMemory ↦ refusal.NoMemory
   | kind.DisplayHelp ↦ refusal.Help error
   | kind.DisplayVersion ↦ refusal.Help error
   | _ ↦ refusal.Words error

@@ -1,6 +1,7 @@
 //! The program `dmljob`: carries out scripts of memory jobs, and describes descriptors.
 #![tactic(auto)]
 
+mod help;
 mod refusals;
 mod requests;
 mod words;
@@ -9,7 +10,6 @@ use refusals::{Refusal, refusal_of_words, status_of};
 use requests::{Request, request_of};
 use std::env;
 use std::process::ExitCode;
-
 use words::command_of;
 
 fn request_in(rt: &HostRuntime) -> Result<Request, Refusal> {
@@ -48,3 +48,6 @@ fn main(rt: HostRuntime) -> ExitCode {
     }
     ExitCode::from(status_of(&refusal))
 }
+
+#[cfg(test)]
+mod tests;

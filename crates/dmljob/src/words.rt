@@ -6,14 +6,10 @@ ghost use Rattle.clap.specs.declared.builder.command.Command.TheViews.{out-Comma
 ghost use Rattle.dmljob.specs.Line.{IsAsked, IsLine, decode_app, dmljob, option_in};
 ghost use Rattle.dmljob.specs.Line.{option_rule, run_app, settings_in};
 
+use crate::help;
 use clap::{Arg, ArgMatches, Command, Error, value_parser};
 use dml_types::Settings;
 use std::alloc::{AllocError, Global};
-
-const ABOUT: &str = "Carries out memory jobs of a data mover in software: moves, fills, compares and delta \
-records over an image of 4 KiB pages";
-const RUN_ABOUT: &str = "Carry out the script on the standard input and print each job's record";
-const DECODE_ABOUT: &str = "Show the fields of a descriptor and whether its job is accepted";
 
 /// What the words of a command line ask for.
 #[derive(Clone, Copy, PartialEq, Debug)]
@@ -41,11 +37,12 @@ fn run_command<'a>(alloc: Global) -> Result<Command<'a>, AllocError>
     ensures app { IfOk result (λ command. app_of command ≡ run_app) }
     ensures local { IfOk result (λ command. (fields_of command).has_globals ≡ false) }
 {
-    let workers = number_option(alloc, "workers", "4", "How many threads work at once, 1 to 16");
-    let chunk = number_option(alloc, "chunk", "4096", "The bytes that one task covers");
-    let arena = number_option(alloc, "arena", "1048576", "The bytes of the staging arena");
+    let workers = number_option(alloc, "workers", "4", help::WORKERS);
+    let chunk = number_option(alloc, "chunk", "4096", help::CHUNK);
+    let arena = number_option(alloc, "arena", "1048576", help::ARENA);
     Command::new(alloc, "run")
-        .about(RUN_ABOUT)
+        .about(help::RUN)
+        .after_help(help::SCRIPT)
         .arg(workers)?
         .arg(chunk)?
         .arg(arena)
@@ -55,10 +52,8 @@ fn decode_command<'a>(alloc: Global) -> Result<Command<'a>, AllocError>
     ensures app { IfOk result (λ command. app_of command ≡ decode_app) }
     ensures local { IfOk result (λ command. (fields_of command).has_globals ≡ false) }
 {
-    let hex = Arg::new(alloc, "HEX")
-        .required(true)
-        .help("The 64 bytes of the descriptor, as 128 hexadecimal digits in either case");
-    Command::new(alloc, "decode").about(DECODE_ABOUT).arg(hex)
+    let hex = Arg::new(alloc, "HEX").required(true).help(help::HEX);
+    Command::new(alloc, "decode").about(help::DECODE).arg(hex)
 }
 
 fn dmljob_command<'a>(alloc: Global) -> Result<Command<'a>, AllocError>
@@ -67,7 +62,8 @@ fn dmljob_command<'a>(alloc: Global) -> Result<Command<'a>, AllocError>
     let run = run_command(alloc)?;
     let decode = decode_command(alloc)?;
     Command::new(alloc, "dmljob")
-        .about(ABOUT)
+        .about(help::ABOUT)
+        .after_help(help::EXAMPLE)
         .subcommand_required(true)
         .subcommand(run)?
         .subcommand(decode)

@@ -19,5 +19,5 @@ returns-in-Some-2 c =
       | inr decode ↦ decode
     ] in
     let hex : c.unwrap_or.result.now ≡ unwrap_or (first_of (codes "HEX") rows) [] = ap (λ (s : _). s.now) c.unwrap_or.ensures
-        ∙ text_or c.get_str.result _ _ (c.get_str.ensures ∙ first_value-rows (found_of c.in-Some.found.now) (codes "HEX")) in
+    ∙ text_or c.get_str.result _ _ (c.get_str.ensures ∙ first_value-rows (found_of c.in-Some.found.now) (codes "HEX")) in
     subst (λ found. IsLine found (Decode c.unwrap_or.result)) (sym is) (decode, hex)

@@ -1,7 +1,7 @@
 -- Words in which clap finds no fault name one of the program's two commands.
 use Rattle.std.proofs.Common.{◌≡◌, ◌∙◌, ◌&&◌, ◌||◌, ℕ, Bool, true, false, cond, not, refl, sym, ap, subst, inl, inr, List, [], ◌∷◌, ◌++◌, Option, Some, None, drop, codes, true≢false, is_some, fold}
 use Rattle.std.specs.List.{list_any}
-use Rattle.std.specs.Option.{option_map}
+use Rattle.std.specs.Option.{option_map, option_map_or}
 use Rattle.std.specs.Prelude.{find, option_and_then}
 use Rattle.std.specs.Str.{bytes_eq}
 use Rattle.std.proofs.lemmas.Slice.Eq.{bytes_eq-Decides}
@@ -15,17 +15,8 @@ use Rattle.clap.specs.Takes.{is_given}
 use Rattle.clap.specs.Walk.{Held, Names, Outcome, Step, Waiting, Walk, after_flag, after_step, answers_to, arg_by_index, done, finished, idle, long_or_other, next, nothing_held, option, plain, plain_word, positional, refused, settled, subcommand, subcommand_met, subcommand_or_other, to_positional, trailing, value, waits, walk, walk_from, walked, walked_from, word_met}
 use Rattle.clap.proofs.OnLiterals.{clap_on_literals}
 use Rattle.dmljob.specs.Line.{IsAsked, dmljob}
-
-cons≢nil : {X : Type 0} (x : X) (xs : List X) → x ∷ xs ≡ [] → ⊥
-cons≢nil x xs e = cc
-
-first_none : (a b : Kinds) → or_else a b ≡ [] → a ≡ []
-first_none [] b e = refl
-first_none (k ∷ ks) b e = e
-
-second_none : (a b : Kinds) → or_else a b ≡ [] → b ≡ []
-second_none [] b e = e
-second_none (k ∷ ks) b e = absurd (cons≢nil k ks e)
+use Rattle.dmljob.proofs.Given.{decode_given, decode_shape, run_given, run_shape}
+use Rattle.dmljob.proofs.Steps.{cons≢nil, first_none, second_none}
 
 -- ---- no word is taken for `help`
 
@@ -104,26 +95,12 @@ module _ (s : Shape) (names : Names) (keeps : s.disable_help_subcommand ≡ fals
 
 -- ---- a command is met
 
--- the first of three that passes is no third where the third does not pass
-one_of_two : (run decode help : Shape) (words : List Text) (is_run is_decode is_help : Bool) → run.name ≡ codes "run" → decode.name ≡ codes "decode"
-    → (is_help ≡ true → ⊥) → is_some (option_map (λ s. rows_at s words) (cond is_run (Some run) (cond is_decode (Some decode) (cond is_help (Some help) None)))) ≡ true
-    → IsAsked (option_map (λ s. rows_at s words) (cond is_run (Some run) (cond is_decode (Some decode) (cond is_help (Some help) None))))
-one_of_two run decode help words true is_decode is_help r d none met = inl r
-one_of_two run decode help words false true is_help r d none met = inr d
-one_of_two run decode help words false false true r d none met = absurd (none refl)
-one_of_two run decode help words false false false r d none met = absurd (true≢false (sym met))
-
 same_word : (xs ys : List ℕ) → bytes_eq xs ys ≡ true → bytes_eq ys xs ≡ true
 same_word xs ys e = (bytes_eq-Decides ys xs).1 (sym ((bytes_eq-Decides xs ys).0 e))
 
 left_of_or : (b : Bool) → (b || false) ≡ true → b ≡ true
 left_of_or true e = refl
 left_of_or false e = e
-
-stop_asked : (stop : Option (Text × List Text)) → (IsHelp stop → ⊥) → is_some (entered (built dmljob) stop) ≡ true → IsAsked (entered (built dmljob) stop)
-stop_asked None none met = absurd (true≢false (sym met))
-stop_asked (Some p) none met =
-    one_of_two _ _ _ p.1 _ _ _ refl refl (λ is_help. none (same_word (codes "help") p.0 (left_of_or _ is_help))) met
 
 refused_without : (help missing : Bool) → check_kinds help true missing ≡ [] → ⊥
 refused_without true missing free = cons≢nil _ _ free
@@ -139,6 +116,7 @@ command_met s rows false needs free =
 
 level_free : (s : Shape) (names : Names) (h : Held) (words : List Text) (is_met : Bool) (below : Kinds) → level_fault s names h words is_met below ≡ []
     → (walk_fault s names (walk_from h) words ≡ []) × (check_fault s (finished s.rules (walk s.rules names h words).held) is_met ≡ [])
+    × (below ≡ [])
 level_free s names h words is_met below free =
     let end = (walk s.rules names h words).held in
     let checks = check_fault s (finished s.rules end) is_met in
@@ -150,13 +128,32 @@ level_free s names h words is_met below free =
     let after_walk = or_else below after_settles in (
       first_none walks after_walk free,
       second_none defaults checks (second_none settles after_defaults (second_none below after_settles (second_none walks after_walk free))),
+      first_none below after_settles (second_none walks after_walk free),
     )
+
+-- the first of three that passes is no third where the third does not pass, and has what it needs
+one_of_two : (help : Shape) (words : List Text) (is_run is_decode is_help : Bool) → (is_help ≡ true → ⊥)
+    → option_map_or (λ s. level_fault s [] nothing_held words false []) (cond is_run (Some run_shape) (cond is_decode (Some decode_shape) (cond is_help (Some help) None))) [] ≡ []
+    → is_some (option_map (λ s. rows_at s words) (cond is_run (Some run_shape) (cond is_decode (Some decode_shape) (cond is_help (Some help) None)))) ≡ true
+    → IsAsked (option_map (λ s. rows_at s words) (cond is_run (Some run_shape) (cond is_decode (Some decode_shape) (cond is_help (Some help) None))))
+one_of_two help words true is_decode is_help none free met = inl (refl, run_given words free)
+one_of_two help words false true is_help none free met =
+    inr (refl, decode_given words free (level_free decode_shape [] nothing_held words false [] free).1)
+one_of_two help words false false true none free met = absurd (none refl)
+one_of_two help words false false false none free met = absurd (true≢false (sym met))
+
+stop_asked : (stop : Option (Text × List Text)) → (IsHelp stop → ⊥) → entered_fault (built dmljob) stop ≡ [] → is_some (entered (built dmljob) stop) ≡ true
+    → IsAsked (entered (built dmljob) stop)
+stop_asked None none free met = absurd (true≢false (sym met))
+stop_asked (Some p) none free met =
+    one_of_two _ p.1 _ _ _ (λ is_help. none (same_word (codes "help") p.0 (left_of_or _ is_help))) free met
 
 pub asked : (words : List Text) → fault_of dmljob words ≡ [] → IsAsked (subcommand_of dmljob words)
 asked words free =
     let app = built dmljob in
     let rest = drop 1 words in
-    let stop = (walk app.top.rules (names_of app) nothing_held rest).stopped in
-    let parts = level_free app.top (names_of app) nothing_held rest (is_some (entered app stop)) (entered_fault app stop) free in
-    stop_asked stop (walk_stays app.top (names_of app) refl (walk_from nothing_held) rest (λ bad. bad) parts.0)
-    (command_met app.top (finished app.top.rules (walk app.top.rules (names_of app) nothing_held rest).held) (is_some (entered app stop)) refl parts.1)
+    let end = walk app.top.rules (names_of app) nothing_held rest in
+    let is_met = is_some (entered app end.stopped) in
+    let parts = level_free app.top (names_of app) nothing_held rest is_met (entered_fault app end.stopped) free in
+    stop_asked end.stopped (walk_stays app.top (names_of app) refl (walk_from nothing_held) rest (λ bad. bad) parts.0) parts.2
+        (command_met app.top (finished app.top.rules end.held) is_met refl parts.1)

@@ -1,10 +1,10 @@
 //! The words of the command line.
-ghost use Rattle.std.specs.Prelude.{◌≡◌, false, IfOk, map};
+ghost use Rattle.std.specs.Prelude.{◌≡◌, false, true, is_some, IfOk, map};
 ghost use Rattle.clap.specs.Words.{FailsBy, app_of, fault_of, found_of};
 ghost use Rattle.clap.specs.Words.{rows_of, rule_of, subcommand_of, subcommand_rows_of};
 ghost use Rattle.clap.specs.declared.builder.command.Command.TheViews.{out-Command as fields_of};
-ghost use Rattle.dmljob.specs.Line.{IsAsked, IsLine, decode_app, dmljob, option_in};
-ghost use Rattle.dmljob.specs.Line.{option_rule, run_app, settings_in};
+ghost use Rattle.dmljob.specs.Line.{HasSettings, IsAsked, IsFound, IsLine, decode_app, dmljob, option_in};
+ghost use Rattle.dmljob.specs.Line.{option_rule, run_app};
 
 use crate::help;
 use clap::{Arg, ArgMatches, Command, Error, value_parser};
@@ -70,13 +70,15 @@ fn dmljob_command<'a>(alloc: Global) -> Result<Command<'a>, AllocError>
 }
 
 fn number(found: &ArgMatches<'_>, name: &str) -> u32
-    ensures { result ≡ option_in (rows_of (found_of found.now)) name.now }
+    requires { is_some (option_in (rows_of (found_of found.now)) name.now) ≡ true }
+    ensures { option_in (rows_of (found_of found.now)) name.now ≡ Some result }
 {
-    found.get_one::<u32>(name).unwrap_or(0)
+    found.get_one::<u32>(name).unwrap()
 }
 
 fn settings_of(found: &ArgMatches<'_>) -> Settings
-    ensures { result ≡ settings_in (rows_of (found_of found.now)) }
+    requires { HasSettings (rows_of (found_of found.now)) }
+    ensures { IsFound (rows_of (found_of found.now)) result }
 {
     Settings {
         staging: number(found, "arena"),
@@ -91,7 +93,7 @@ fn line_of<'a>(matches: &ArgMatches<'a>) -> Line<'a>
 {
     match matches.subcommand() {
         Some((name, found)) if name == "run" => Line::Run(settings_of(found)),
-        Some((_, found)) => Line::Decode(found.get_str("HEX").unwrap_or("")),
+        Some((_, found)) => Line::Decode(found.get_str("HEX").unwrap()),
         None => unreachable!(),
     }
 }

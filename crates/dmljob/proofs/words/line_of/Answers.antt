@@ -1,23 +1,29 @@
-use Rattle.std.proofs.Common.{◌∙◌, ◌≡◌, ap, sym, subst, inl, inr, codes, true≢false, [], Some}
-use Rattle.std.specs.Option.{unwrap_or}
-use Rattle.std.proofs.lemmas.Slice.Eq.{bytes_eq-Decides}
+use Rattle.std.proofs.Common.{◌≡◌, ◌∙◌, ℕ, ap, sym, subst, codes, false, true, List, Option, Some}
+use Rattle.std.specs.Borrow.{Bor}
+use Rattle.std.specs.Option.{option_map}
+use Rattle.std.specs.Str.{bytes_eq}
 use Rattle.clap.specs.Words.{first_of, found_of, rows_of, subcommand_rows_of}
 use Rattle.clap.proofs.WalkLemmas.{first_value-rows}
 use Rattle.dmljob.specs.Line.{IsAsked, IsLine}
 use Rattle.dmljob.specs.declared.words.Line.TheVariants.{Decode}
-use Rattle.dmljob.proofs.Found.{both_parts, text_or}
+use Rattle.dmljob.proofs.Found.{asked_decode, both_parts, text_found}
 use Rattle.dmljob.proofs.words.line_of.Goals as goal
+
+pub unwrap-requires : goal.unwrap-requires
+unwrap-requires c =
+    let name = c.in-Some.name.now in
+    let rows = rows_of (found_of c.in-Some.found.now) in
+    let is : subcommand_rows_of c.args.matches.now ≡ Some (name, rows) = both_parts _ _ _ _ c.in-Some.ensures.name c.in-Some.ensures.rows in
+    let decode = asked_decode name rows (subst IsAsked is c.requires) (sym c.eq.ensures ∙ c.if-eq.false) in
+    sym (text_found c.get_str.result (first_of (codes "HEX") rows) (c.get_str.ensures ∙ first_value-rows (found_of c.in-Some.found.now) (codes "HEX")))
+        ∙ decode.1
 
 pub returns-in-Some-2 : goal.returns-in-Some-2
 returns-in-Some-2 c =
     let name = c.in-Some.name.now in
     let rows = rows_of (found_of c.in-Some.found.now) in
     let is : subcommand_rows_of c.args.matches.now ≡ Some (name, rows) = both_parts _ _ _ _ c.in-Some.ensures.name c.in-Some.ensures.rows in
-    let asked : IsAsked (Some (name, rows)) = subst IsAsked is c.requires in
-    let decode : name ≡ codes "decode" = elim asked [
-      | inl run ↦ absurd (true≢false (sym ((bytes_eq-Decides name (codes "run")).1 run) ∙ sym c.eq.ensures ∙ c.if-eq.false))
-      | inr decode ↦ decode
-    ] in
-    let hex : c.unwrap_or.result.now ≡ unwrap_or (first_of (codes "HEX") rows) [] = ap (λ (s : _). s.now) c.unwrap_or.ensures
-    ∙ text_or c.get_str.result _ _ (c.get_str.ensures ∙ first_value-rows (found_of c.in-Some.found.now) (codes "HEX")) in
-    subst (λ found. IsLine found (Decode c.unwrap_or.result)) (sym is) (decode, hex)
+    let decode = asked_decode name rows (subst IsAsked is c.requires) (sym c.eq.ensures ∙ c.if-eq.false) in
+    let hex : first_of (codes "HEX") rows ≡ Some c.unwrap.result.now = sym (c.get_str.ensures ∙ first_value-rows (found_of c.in-Some.found.now) (codes "HEX"))
+        ∙ ap (option_map (λ (s : Bor (List ℕ)). s.now)) c.unwrap.ensures in
+    subst (λ found. IsLine found (Decode c.unwrap.result)) (sym is) (decode.0, hex)

@@ -47,7 +47,7 @@ program() {
     binary=crates/dmljob/out/dmljob
     input=$1
     shift
-    name="dmljob $*"
+    name="dmljob${*:+ $*}"
     if [ ! -x "$binary" ]; then
         complain "$binary is missing: run rt ci first"
         return

@@ -1,8 +1,7 @@
 -- Words in which clap finds no fault name one of the program's two commands.
-use Rattle.std.proofs.Common.{◌≡◌, ◌∙◌, ◌&&◌, ◌||◌, ℕ, Bool, true, false, cond, not, refl, sym, ap, subst, inl, inr, List, [], ◌∷◌, ◌++◌, Option, Some, None, drop, codes, true≢false, is_some, fold}
+use Rattle.std.proofs.Common.{◌≡◌, ◌&&◌, ◌||◌, ℕ, Bool, true, false, cond, not, refl, sym, subst, inl, inr, List, [], ◌∷◌, Option, Some, None, drop, codes, true≢false, is_some, fold}
 use Rattle.std.specs.List.{list_any}
 use Rattle.std.specs.Option.{option_map, option_map_or}
-use Rattle.std.specs.Prelude.{find, option_and_then}
 use Rattle.std.specs.Str.{bytes_eq}
 use Rattle.std.proofs.lemmas.Slice.Eq.{bytes_eq-Decides}
 use Rattle.clap.specs.Words.{Kinds, Row, Rule, Shape, Text, built, fault_of, subcommand_of}
@@ -10,10 +9,9 @@ use Rattle.clap.specs.Facts.{explicit_source}
 use Rattle.clap.specs.Faults.{check_fault, defaults_fault, entered_fault, level_fault, other_fault, settle_fault, turn_fault, walk_fault, word_fault}
 use Rattle.clap.specs.Kinds.{check_kinds, or_else}
 use Rattle.clap.specs.Lexer.{long_of, short_of}
-use Rattle.clap.specs.Simple.{entered, label_of, names_of, rows_at}
+use Rattle.clap.specs.Simple.{entered, names_of, rows_at}
 use Rattle.clap.specs.Takes.{is_given}
 use Rattle.clap.specs.Walk.{Held, Names, Outcome, Step, Waiting, Walk, after_flag, after_step, answers_to, arg_by_index, done, finished, idle, long_or_other, next, nothing_held, option, plain, plain_word, positional, refused, settled, subcommand, subcommand_met, subcommand_or_other, to_positional, trailing, value, waits, walk, walk_from, walked, walked_from, word_met}
-use Rattle.clap.proofs.OnLiterals.{clap_on_literals}
 use Rattle.dmljob.specs.Line.{IsAsked, dmljob}
 use Rattle.dmljob.proofs.Given.{decode_given, decode_shape, run_given, run_shape}
 use Rattle.dmljob.proofs.Steps.{cons≢nil, first_none, second_none}
@@ -156,4 +154,4 @@ asked words free =
     let is_met = is_some (entered app end.stopped) in
     let parts = level_free app.top (names_of app) nothing_held rest is_met (entered_fault app end.stopped) free in
     stop_asked end.stopped (walk_stays app.top (names_of app) refl (walk_from nothing_held) rest (λ bad. bad) parts.0) parts.2
-        (command_met app.top (finished app.top.rules end.held) is_met refl parts.1)
+    (command_met app.top (finished app.top.rules end.held) is_met refl parts.1)

@@ -1,5 +1,5 @@
 -- What was found for a subcommand, by the clauses of clap's getters.
-use Rattle.std.proofs.Common.{◌≡◌, ◌∙◌, ℕ, Bool, refl, sym, ap, ap₂, List, [], ◌∷◌, Option, Some, None, true, false, true≢false, is_some, inl, inr, codes}
+use Rattle.std.proofs.Common.{◌≡◌, ◌∙◌, ℕ, sym, ap, ap₂, List, Option, Some, None, true, false, true≢false, is_some, inl, inr, codes}
 use Rattle.std.specs.Option.{option_map, unwrap_or}
 use Rattle.std.specs.Borrow.{Bor}
 use Rattle.std.specs.Str.{bytes_eq}

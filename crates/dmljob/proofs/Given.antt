@@ -1,17 +1,16 @@
 -- Words without a fault give a command what it needs: numbers for the three options of `run`, a word to `decode`.
-use Rattle.std.proofs.Common.{◌≡◌, ◌∙◌, ◌⊎◌, ◌||◌, ◌&&◌, ℕ, Bool, true, false, cond, not, refl, sym, ap, subst, inl, inr, List, [], ◌∷◌, length, Option, Some, None, codes, true≢false, is_some}
+use Rattle.std.proofs.Common.{◌≡◌, ◌∙◌, ◌⊎◌, ◌||◌, Bool, true, false, cond, not, refl, sym, ap, subst, inl, inr, List, [], ◌∷◌, length, Some, codes, true≢false, is_some}
 use Rattle.std.specs.Prelude.{find, option_and_then, pos}
 use Rattle.std.specs.Option.{option_map_or}
 use Rattle.std.specs.Str.{bytes_eq}
-use Rattle.clap.specs.Words.{Kinds, Row, Rule, Shape, Text, built, first_of, new_rule}
+use Rattle.clap.specs.Words.{Row, Rule, Shape, Text, built, first_of, new_rule}
 use Rattle.clap.specs.Facts.{explicit_source}
 use Rattle.clap.specs.Faults.{check_fault, level_fault, use_fault}
 use Rattle.clap.specs.Kinds.{check_kinds, range_kinds}
-use Rattle.clap.specs.Lexer.{without_minus}
 use Rattle.clap.specs.Simple.{filled, help_rule, new_shape, with_index}
 use Rattle.clap.specs.Takes.{is_given}
 use Rattle.clap.specs.ValueTests.{accepts}
-use Rattle.clap.specs.Walk.{finished, has_row, nothing_held, rows_after, settled, used, walk, with_default, with_values}
+use Rattle.clap.specs.Walk.{has_row, nothing_held, rows_after, settled, used, walk, with_default, with_values}
 use Rattle.clap.specs.declared.builder.value_parser.Reading.TheVariants.{AsWritten, WithoutMinus}
 use Rattle.clap.specs.declared.builder.value_parser.ValueParser.{ValueParser}
 use Rattle.clap.specs.declared.builder.value_parser.ValueParser.TheVariants as parser
@@ -117,10 +116,9 @@ run_given words free =
     let fine3 = default_read arena (codes "1048576") refl rows2 fine2 in
     let fine : AllNumbers rows = help_leaves AllNumbers rows3 fine3 in
     let has_workers = default_stays arena (codes "1048576") workers rows2
-        (default_stays chunk (codes "4096") workers rows1 (default_given workers (codes "4") before refl)) in
+    (default_stays chunk (codes "4096") workers rows1 (default_given workers (codes "4") before refl)) in
     let has_chunk = default_stays arena (codes "1048576") chunk rows2 (default_given chunk (codes "4096") rows1 refl) in
-    let has_arena = default_given arena (codes "1048576") rows2 refl in
-    (
+    let has_arena = default_given arena (codes "1048576") rows2 refl in (
       has_option workers rows fine (help_leaves (λ r. has_row workers r ≡ true) rows3 has_workers),
       has_option chunk rows fine (help_leaves (λ r. has_row chunk r ≡ true) rows3 has_chunk),
       has_option arena rows fine (help_leaves (λ r. has_row arena r ≡ true) rows3 has_arena),

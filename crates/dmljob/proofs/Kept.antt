@@ -7,7 +7,7 @@ use Rattle.clap.specs.Words.{Kinds, Row, Rule, Shape, Text}
 use Rattle.clap.specs.Faults.{bundle_step_fault, check_fault, defaults_fault, level_fault, stray_fault, flag_word_fault, flags_fault, long_fault, option_fault, other_fault, positional_fault, react_fault, settle_fault, short_fault, step_fault, turn_fault, use_fault, walk_fault, word_fault}
 use Rattle.clap.specs.Kinds.{or_else}
 use Rattle.clap.specs.Lexer.{long_of, short_of}
-use Rattle.clap.specs.Walk.{Held, Names, Outcome, Step, Waiting, Walk, after_flag, after_step, arg_by_id, arg_by_index, arg_by_long, arg_by_short, attached_value, bundle_met, bundle_step, done, finished, flag_met, idle, is_pending, long_met, long_or_other, next, nothing_held, option, option_met, option_word, plain, plain_word, positional, positional_held, pushed, reacted, refused, settled, settled_rows, short_met, short_or_plain, subcommand, subcommand_met, subcommand_or_other, takes_several, takes_values, to_positional, trailing, used, used_by_id, value, waits, walk, walk_from, walked, walked_from, word_met}
+use Rattle.clap.specs.Walk.{Held, Names, Outcome, Step, Waiting, Walk, after_flag, after_step, arg_by_id, arg_by_index, arg_by_long, arg_by_short, attached_value, bundle_met, bundle_step, done, finished, flag_met, idle, is_pending, long_met, long_or_other, next, nothing_held, option, option_met, option_word, plain, plain_word, positional, pushed, reacted, refused, settled, settled_rows, short_met, short_or_plain, subcommand, subcommand_met, subcommand_or_other, takes_several, takes_values, to_positional, trailing, used, used_by_id, value, waits, walk, walk_from, walked, walked_from, word_met}
 use Rattle.clap.specs.declared.error.kind.ErrorKind.TheVariants.{TooManyValues}
 use Rattle.dmljob.proofs.Steps.{first_none, second_none}
 
@@ -182,7 +182,7 @@ module _ (s : Shape) (Known : Rule → Type 0) (Fine : List Row → Type 0) (kno
       let after = step_fault s w.position met.0 met.1 in
       let none : or_else faults after ≡ [] = rw is at free in
       step_keeps met.1 word w met.0 (second_none faults after none)
-          (word_keeps names w.is_trailing w.waiting w.position word w.held (first_none faults after none) fine)
+      (word_keeps names w.is_trailing w.waiting w.position word w.held (first_none faults after none) fine)
 
   walk_keeps : (names : Names) (w : Walk) (words : List Text) → walk_fault s names w words ≡ [] → Fine w.held.rows
       → Fine (fold (walked s.rules names) w words).held.rows
@@ -203,4 +203,4 @@ module _ (s : Shape) (Known : Rule → Type 0) (Fine : List Row → Type 0) (kno
       let after_settles = or_else (defaults_fault (settled s.rules end).rows s.rules) (check_fault s (finished s.rules end) is_met) in
       let after_walk = or_else below (or_else settles after_settles) in
       settled_keeps end (first_none settles after_settles (second_none below (or_else settles after_settles) (second_none walks after_walk free)))
-          (walk_keeps names (walk_from nothing_held) words (first_none walks after_walk free) fine)
+      (walk_keeps names (walk_from nothing_held) words (first_none walks after_walk free) fine)

@@ -77,5 +77,5 @@ parsed text = go (is_number (without_leading_plus text)) refl
 pub has_number : (t : Text) → accepts false (parser.Signed (pos 0) (pos 4294967295)) t ≡ true → is_some (number_in (without_minus t)) ≡ true
 has_number t pass =
     let read = signed_reads (Unit {0}) (λ u r. ParsesUnsigned 32 10 u r) 32 0 4294967295 t (number_in (without_minus t)) (parsed (without_minus t)) (λ u r h. h)
-        (lit< tt) (accepts-Accepts false (parser.Signed (pos 0) (pos 4294967295)) t pass) in
+    (lit< tt) (accepts-Accepts false (parser.Signed (pos 0) (pos 4294967295)) t pass) in
     ap is_some read.1

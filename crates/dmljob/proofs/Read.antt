@@ -1,11 +1,11 @@
 -- Rows whose values a parser took.
-use Rattle.std.proofs.Common.{◌≡◌, ◌∙◌, ◌||◌, ℕ, Bool, true, false, cond, refl, sym, ap, ap₂, List, [], ◌∷◌, ◌++◌, length, Option, Some, None, true≢false}
+use Rattle.std.proofs.Common.{◌≡◌, ◌∙◌, ◌||◌, Bool, true, false, cond, refl, sym, ap, ap₂, List, [], ◌∷◌, ◌++◌, Option, Some, true≢false}
 use Rattle.std.specs.Option.{option_map}
 use Rattle.std.specs.Prelude.{find, option_and_then, slice_get}
 use Rattle.std.specs.Str.{bytes_eq}
 use Rattle.clap.specs.Words.{Kinds, Row, Text, first_of, one_of}
 use Rattle.clap.specs.Faults.{repeat_fault}
-use Rattle.clap.specs.Kinds.{or_else, range_kinds, value_kinds, values_kinds}
+use Rattle.clap.specs.Kinds.{or_else, value_kinds, values_kinds}
 use Rattle.clap.specs.Values.{read_as, refused_kind}
 use Rattle.clap.specs.ValueTests.{accepts}
 use Rattle.clap.specs.Walk.{at_row, has_row, more_values, row_text, with_values, without}
@@ -131,4 +131,4 @@ used_read how ignore_case parser again id v vs rows ranges free fine =
     let of_values = second_none repeats values (second_none ranges (or_else repeats values) free) in
     let first = first_none (value_kinds ignore_case parser v) (values_kinds ignore_case parser vs) of_values in
     with_values_read how (accepts ignore_case parser) id CommandLine v vs (without id rows) (accepted (accepts ignore_case parser v) (refused_kind parser) first)
-        (without_read how (accepts ignore_case parser) id rows fine)
+    (without_read how (accepts ignore_case parser) id rows fine)

@@ -1,10 +1,12 @@
 //! How the program ends without an answer.
 ghost use Rattle.std.specs.Prelude.{◌≡◌};
-ghost use Rattle.dmljob.specs.Refusal.{refusal_of, status_in, text_in, unread_refusal};
+ghost use Rattle.dmljob.specs.Refusal.{refusal_of, refusal_of_run, status_in, text_in};
+ghost use Rattle.dmljob.specs.Refusal.{unread_refusal};
 ghost use Rattle.dmljob.specs.declared.refusals.Refusal.TheVariants.{NoMemory};
 ghost use Rattle.std.specs.IoError.{error_kind};
 
 use clap::error::ErrorKind;
+use dml_script::{RunFault, ScriptFault, fault_text};
 use std::alloc::{AllocError, AllocFailed};
 use std::{fmt, io};
 
@@ -23,7 +25,7 @@ pub enum Refusal {
     /// The word of `decode` is not 128 hexadecimal digits.
     NotHex,
     /// A line of the script has a fault.
-    Script { line: u32, text: &'static str },
+    Script(ScriptFault),
     /// The script has more bytes than its limit.
     TooLong,
     /// There was no memory left.
@@ -39,12 +41,14 @@ impl fmt::Display for Refusal {
 
     fn fmt<W: fmt::Write>(&self, f: &mut fmt::Formatter<W>) -> fmt::Result {
         match self {
-            Refusal::Help(error) => write!(f, "{error}"),
-            Refusal::Words(error) => write!(f, "{error}"),
+            Refusal::Help(error) | Refusal::Words(error) => write!(f, "{error}"),
             Refusal::NotText => f.write_str("dmljob: an argument is not UTF-8 text\n"),
             Refusal::Settings => f.write_str("dmljob: the settings are out of range\n"),
             Refusal::NotHex => f.write_str("dmljob: not 64 bytes of hex\n"),
-            Refusal::Script { line, text } => write!(f, "dmljob: line {line}: {text}\n"),
+            Refusal::Script(ScriptFault { line, kind }) => {
+                let text = fault_text(*kind);
+                write!(f, "dmljob: line {line}: {text}\n")
+            }
             Refusal::TooLong => f.write_str("dmljob: the script is too long\n"),
             Refusal::NoMemory => f.write_str("dmljob: out of memory\n"),
             Refusal::Read => f.write_str("dmljob: cannot read the script\n"),
@@ -60,7 +64,7 @@ pub fn status_of(refusal: &Refusal) -> u8
 {
     match refusal {
         Refusal::Help(_) => 0,
-        Refusal::Script { .. } | Refusal::TooLong => 2,
+        Refusal::Script(_) | Refusal::TooLong => 2,
         Refusal::Words(_) | Refusal::NotText | Refusal::Settings | Refusal::NotHex => 3,
         Refusal::NoMemory | Refusal::Read | Refusal::Write => 4,
     }
@@ -74,6 +78,20 @@ impl From<clap::Error> for Refusal {
             ErrorKind::OutOfMemory => Refusal::NoMemory,
             ErrorKind::DisplayHelp | ErrorKind::DisplayVersion => Refusal::Help(error),
             _ => Refusal::Words(error),
+        }
+    }
+}
+
+impl From<RunFault> for Refusal {
+    ghost from_gives = { λ fault refusal. refusal ≡ refusal_of_run fault };
+
+    fn from(fault: RunFault) -> Refusal {
+        match fault {
+            RunFault::Read => Refusal::Read,
+            RunFault::TooLong => Refusal::TooLong,
+            RunFault::Script(fault) => Refusal::Script(fault),
+            RunFault::NoMemory => Refusal::NoMemory,
+            RunFault::Write => Refusal::Write,
         }
     }
 }

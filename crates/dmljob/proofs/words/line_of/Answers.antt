@@ -1,7 +1,6 @@
-use Rattle.std.proofs.Common.{◌≡◌, ◌∙◌, ℕ, ap, sym, subst, codes, false, true, List, Option, Some}
+use Rattle.std.proofs.Common.{◌≡◌, ◌∙◌, ℕ, ap, sym, subst, codes, List, Some}
 use Rattle.std.specs.Borrow.{Bor}
 use Rattle.std.specs.Option.{option_map}
-use Rattle.std.specs.Str.{bytes_eq}
 use Rattle.clap.specs.Words.{first_of, found_of, rows_of, subcommand_rows_of}
 use Rattle.clap.proofs.WalkLemmas.{first_value-rows}
 use Rattle.dmljob.specs.Line.{IsAsked, IsLine}
@@ -16,7 +15,7 @@ unwrap-requires c =
     let is : subcommand_rows_of c.args.matches.now ≡ Some (name, rows) = both_parts _ _ _ _ c.in-Some.ensures.name c.in-Some.ensures.rows in
     let decode = asked_decode name rows (subst IsAsked is c.requires) (sym c.eq.ensures ∙ c.if-eq.false) in
     sym (text_found c.get_str.result (first_of (codes "HEX") rows) (c.get_str.ensures ∙ first_value-rows (found_of c.in-Some.found.now) (codes "HEX")))
-        ∙ decode.1
+    ∙ decode.1
 
 pub returns-in-Some-2 : goal.returns-in-Some-2
 returns-in-Some-2 c =
@@ -25,5 +24,5 @@ returns-in-Some-2 c =
     let is : subcommand_rows_of c.args.matches.now ≡ Some (name, rows) = both_parts _ _ _ _ c.in-Some.ensures.name c.in-Some.ensures.rows in
     let decode = asked_decode name rows (subst IsAsked is c.requires) (sym c.eq.ensures ∙ c.if-eq.false) in
     let hex : first_of (codes "HEX") rows ≡ Some c.unwrap.result.now = sym (c.get_str.ensures ∙ first_value-rows (found_of c.in-Some.found.now) (codes "HEX"))
-        ∙ ap (option_map (λ (s : Bor (List ℕ)). s.now)) c.unwrap.ensures in
+    ∙ ap (option_map (λ (s : Bor (List ℕ)). s.now)) c.unwrap.ensures in
     subst (λ found. IsLine found (Decode c.unwrap.result)) (sym is) (decode.0, hex)

@@ -1,0 +1,4 @@
+pub mod Line
+pub mod Refusal
+pub mod Request
+pub mod Description

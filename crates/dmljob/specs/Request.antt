@@ -1,0 +1,49 @@
+-- What a line of words asks for, judged before any input is read.
+use Rattle.std.specs.Prelude.{◌≡◌, ℕ, List, [], length, Option, Result, Ok, Err}
+use Rattle.std.specs.List.{AllPass}
+use Rattle.clap.specs.Words.{IsAmong, Kinds, Row, Text, kind_of}
+use Rattle.hex.specs.Hex.{decode_of, is_hex_digit}
+use Rattle.dml_types.specs.Settings.{IsValid}
+use Rattle.dmljob.specs.Line.{IsLine}
+use Rattle.dmljob.specs.declared.refusals.Refusal.{Refusal}
+use Rattle.dmljob.specs.declared.refusals.Refusal.TheVariants as refusal
+use Rattle.dmljob.specs.declared.requests.Request.{Request}
+use Rattle.dmljob.specs.declared.requests.Request.TheVariants as request
+use Rattle.dmljob.specs.declared.words.Line.{Line}
+use Rattle.dmljob.specs.declared.words.Line.TheVariants.{Run, Decode}
+
+-- 64 bytes as hexadecimal digits, in either case
+abbrev pub IsDescriptorText : List ℕ → Type 0
+IsDescriptorText text = (length text ≡ 128) × AllPass is_hex_digit text
+
+-- the line is taken with valid settings, or with the 64 bytes that its word names
+abbrev pub Judges : Line → Result Request Refusal → Type 0
+Judges (Run settings) (Ok (request.Run taken)) = IsValid settings × (taken ≡ settings)
+Judges (Run settings) (Ok (request.Decode bytes)) = ⊥
+Judges (Run settings) (Err refused) = (IsValid settings → ⊥) × (refused ≡ refusal.Settings)
+Judges (Decode hex) (Ok (request.Run taken)) = ⊥
+Judges (Decode hex) (Ok (request.Decode bytes)) =
+    IsDescriptorText hex.now × (decode_of hex.now ≡ Ok bytes)
+Judges (Decode hex) (Err refused) =
+    (IsDescriptorText hex.now → ⊥) × (refused ≡ refusal.NotHex)
+
+-- the line that the words say is judged so
+abbrev pub JudgesLine : Option (Text × List Row) → Result Request Refusal → Type 0
+JudgesLine command judged = (line : Line) × IsLine command line × Judges line judged
+
+-- What the words come to, by the faults that clap finds in them and the command that they name:
+-- their first fault, and only where they have none the judgement of the line that they say.
+abbrev pub Asks : Kinds → Option (Text × List Row) → Result Request Refusal → Type 0
+Asks faults command (Ok asked) = (faults ≡ []) × JudgesLine command (Ok asked)
+Asks faults command (Err refusal.Settings) =
+    (faults ≡ []) × JudgesLine command (Err refusal.Settings)
+Asks faults command (Err refusal.NotHex) = (faults ≡ []) × JudgesLine command (Err refusal.NotHex)
+Asks faults command (Err (refusal.Help error)) = IsAmong (kind_of error) faults
+Asks faults command (Err (refusal.Words error)) = IsAmong (kind_of error) faults
+Asks faults command (Err refusal.NoMemory) = Unit {0}
+Asks faults command (Err _) = ⊥
+
+-- what runs has settings in their range
+abbrev pub HasValidSettings : Request → Type 0
+HasValidSettings (request.Run settings) = IsValid settings
+HasValidSettings (request.Decode bytes) = Unit {0}

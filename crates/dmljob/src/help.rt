@@ -1,0 +1,47 @@
+//! The texts that help shows.
+
+pub const ABOUT: &str = "Carries out memory jobs of a data mover in software, over an image of \
+memory in pages of 4096 bytes";
+
+pub const EXAMPLE: &str = "To try it, put these lines into a file, as first.script:
+  image 2
+  page 0
+  fill 0x0807060504030201 4090 12
+  show 4088 10
+and type:
+  dmljob run < first.script
+
+Exit status: 0 done, 2 the script has a fault, 3 the command line is refused, 4 out of memory, or \
+the script cannot be read or the answer cannot be written.";
+
+pub const RUN: &str = "Carry out the script on the standard input, and print each job's record";
+
+pub const WORKERS: &str = "How many workers carry out jobs, 1 to 16";
+
+pub const CHUNK: &str = "How many bytes one task covers, a multiple of 8 from 8 to 1048576";
+
+pub const ARENA: &str = "How many bytes the staging arena has, 0 to 16777216";
+
+pub const SCRIPT: &str = "The lines of a script; numbers are decimal, or hexadecimal after 0x:
+  image P             an image of P pages, none of them present; the first line
+  page N [HEX]        make page N present, with the bytes of HEX and then zeros
+  poke ADDR HEX       write bytes, which must be present
+  noop                a job that does nothing
+  fill PATTERN DST N  a job that fills N bytes from DST on with an 8-byte pattern
+  raw HEX             the job of a descriptor of 64 bytes
+  show ADDR LEN       show LEN bytes from ADDR on, as -- where they are absent
+A line of noop or fill may end with: flags F. A line that begins with # is a comment.
+
+For example, with the script in the file first.script:
+  dmljob run --workers 2 < first.script";
+
+pub const DECODE: &str = "Show the fields of a descriptor, and whether its job is accepted";
+
+pub const HEX: &str = "The 64 bytes of the descriptor, as 128 hexadecimal digits in either case";
+
+pub const DESCRIPTOR: &str = "For example, a move of 100 bytes from 4096 to 8192:
+  dmljob decode 000000000c0000030000000000000000001000000000000000200000000000006400000000000000\
+000000000000000000000000000000000000000000000000
+prints
+  opcode 03 flags 00000c source 4096 target 8192 size 100 extra 0 delta 0 expected 0
+  check accepted need 100";

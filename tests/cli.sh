@@ -1,0 +1,204 @@
+#!/bin/sh
+# Runs of the program whose exit status is not 0, or that no stored run of the gate can show: each
+# with its status, its standard output and its standard error. Works on the binary that the gate
+# leaves in crates/dmljob/out; `check` calls it.
+cd "$(dirname "$0")/.." || exit 2
+dmljob=crates/dmljob/out/dmljob
+if [ ! -x "$dmljob" ]; then
+    echo "cli: $dmljob is missing: run rt ci first" >&2
+    exit 1
+fi
+work=$(mktemp -d) || exit 2
+trap 'rm -rf "$work"' EXIT
+runs=0
+failed=0
+
+complain() {
+    printf 'cli: %s\n' "$*" >&2
+    failed=1
+}
+
+# outcome STATUS OUT ERR [WORD..]: on the input in the file `in`; OUT and ERR are formats of printf
+outcome() {
+    status=$1
+    printf "$2" >"$work/wanted_out"
+    printf "$3" >"$work/wanted_err"
+    shift 3
+    "$dmljob" "$@" <"$work/in" >"$work/out" 2>"$work/err"
+    got=$?
+    runs=$((runs + 1))
+    [ "$got" = "$status" ] || complain "dmljob $*: status $got, not $status"
+    cmp "$work/out" "$work/wanted_out" >&2 || complain "dmljob $*: the standard output"
+    cmp "$work/err" "$work/wanted_err" >&2 || complain "dmljob $*: the standard error"
+}
+
+# script FORMAT STATUS OUT ERR: a script by `dmljob run`
+script() {
+    printf "$1" >"$work/in"
+    outcome "$2" "$3" "$4" run
+}
+
+# fault FORMAT LINE TEXT: a script with a fault, of which nothing is written
+fault() {
+    script "$1" 2 '' "dmljob: line $2: $3\n"
+}
+
+# filled BYTES: a comment of that many bytes
+filled() {
+    dd if=/dev/zero bs="$1" count=1 2>/dev/null | tr '\0' '#'
+}
+
+# ---- scripts that are carried out
+
+script 'image 2\npage 0\nfill 0x0807060504030201 4090 12\nshow 4088 10\n' 0 \
+    'job 0 status 83 result 0 completed 6 fault 4096 delta 0\nshow 4088 0000010203040506----\n' ''
+script 'image 1\n' 0 '' ''
+script 'image 1\npage 0\nfill 0 0 1048577\nnoop flags 0x10\nfill 0 0xfffffffffffffff8 9\nfill 0 0xfffffffffffffff8 8\n' 0 \
+    'job 0 status 13 result 0 completed 0 fault 0 delta 0
+job 1 status 11 result 0 completed 0 fault 0 delta 0
+job 2 status 7d result 0 completed 0 fault 0 delta 0
+job 3 status 83 result 0 completed 0 fault 18446744073709551608 delta 0\n' ''
+for example in examples/*.script; do
+    cp "$example" "$work/in"
+    cp "${example%.script}.answer" "$work/answer" || failed=1
+    outcome 0 "$(cat "$work/answer")\n" '' run
+done
+./dmljob run <examples/fill.script >"$work/out" 2>"$work/err" || complain "./dmljob run: status $?"
+cmp "$work/out" examples/fill.answer >&2 || complain "./dmljob run: the standard output"
+[ ! -s "$work/err" ] || complain "./dmljob run: says $(cat "$work/err")"
+
+# ---- the script's faults
+
+fault '' 1 'the script must begin with an image line'
+fault '# nothing\n\n' 3 'the script must begin with an image line'
+fault 'noop\n' 1 'the script must begin with an image line'
+fault 'image 2\npoke 0 01\n' 2 'out of range'
+fault 'image 0\n' 1 'out of range'
+fault 'image 4097\n' 1 'out of range'
+fault 'image 1\npage 1\n' 2 'out of range'
+fault 'image 1\nshow 0 0\n' 2 'out of range'
+fault 'image 1\nshow 0 65537\n' 2 'out of range'
+fault 'image 1\nimage 1\n' 2 'a second image line'
+fault 'image 1\n\nfrob\n' 3 'unknown word'
+fault 'image 1\nnoop 1\n' 2 'wrong number or kind of words'
+fault 'image 1\nfill 1 2\n' 2 'wrong number or kind of words'
+fault 'image 1\nfill 1 2 0x100000000\n' 2 'not a number of the right size'
+fault 'image 1\nfill 1 0X2 3\n' 2 'not a number of the right size'
+fault 'image 1\npage 0 0\n' 2 'not hexadecimal text of the right length'
+fault 'image 1\nraw 00\n' 2 'not hexadecimal text of the right length'
+fault 'image 1\nnoop \001\n' 2 'the line is not ASCII text'
+{ printf 'image 1\nnoop '; filled 16380 | tr '#' ' '; printf '\n'; } >"$work/in"
+outcome 2 '' 'dmljob: line 2: the line is too long\n' run
+
+# The longest script is read, and one byte more is not.
+filled 4194304 >"$work/in"
+outcome 2 '' 'dmljob: line 2: the script must begin with an image line\n' run
+filled 4194305 >"$work/in"
+outcome 2 '' 'dmljob: the script is too long\n' run
+
+# ---- descriptors
+
+: >"$work/in"
+zeros=00000000000000000000000000000000000000000000000000000000
+outcome 0 'opcode 03 flags 00000c source 4096 target 8192 size 100 extra 0 delta 0 expected 0\ncheck accepted need 100\n' '' \
+    decode "000000000c00000300000000000000000010000000000000002000000000000064000000$zeros"
+create=0000000080000007000000000000000000000000000000004000000000000000
+create=${create}2000000000000000800000000000000014000000000000000200000000000000
+outcome 0 'opcode 07 flags 000080 source 0 target 64 size 32 extra 128 delta 20 expected 2\ncheck accepted need 40\n' '' \
+    decode "$create"
+outcome 0 'opcode 10 flags 000000 source 0 target 0 size 0 extra 0 delta 0 expected 0\ncheck refused 10\n' '' \
+    decode "0000000000000010${zeros}${zeros}"
+outcome 0 'opcode 04 flags 000000 source 18364758544493064720 target 43690 size 255 extra 0 delta 0 expected 0\ncheck accepted need 0\n' '' \
+    decode "000000000000000400000000000000001032547698BADCFEaaAA000000000000Ff000000$zeros"
+outcome 3 '' 'dmljob: not 64 bytes of hex\n' decode ''
+outcome 3 '' 'dmljob: not 64 bytes of hex\n' decode 00
+outcome 3 '' 'dmljob: not 64 bytes of hex\n' decode "000000000000001${zeros}${zeros}"
+outcome 3 '' 'dmljob: not 64 bytes of hex\n' decode "0000000000000010${zeros}${zeros}00"
+outcome 3 '' 'dmljob: not 64 bytes of hex\n' decode "g000000000000010${zeros}${zeros}"
+outcome 3 '' 'dmljob: not 64 bytes of hex\n' decode -- -x
+
+# ---- settings and words are judged before the input is read; a folder as input cannot be read
+
+# read_none STATUS ERR [WORD..]
+read_none() {
+    status=$1
+    printf "$2" >"$work/wanted_err"
+    shift 2
+    "$dmljob" "$@" </ >"$work/out" 2>"$work/err"
+    got=$?
+    runs=$((runs + 1))
+    [ "$got" = "$status" ] || complain "dmljob $* </: status $got, not $status"
+    [ ! -s "$work/out" ] || complain "dmljob $* </: writes on the standard output"
+    cmp "$work/err" "$work/wanted_err" >&2 || complain "dmljob $* </: the standard error"
+}
+
+read_none 4 'dmljob: cannot read the script\n' run
+for words in '--chunk 12' '--chunk 0' '--chunk 1048584' '--workers 0' '--workers 17' '--workers=-0' '--arena 16777217'; do
+    read_none 3 'dmljob: the settings are out of range\n' run $words
+done
+read_none 3 'dmljob: an argument is not UTF-8 text\n' run "$(printf '\377')"
+for settings in '--chunk 8' '--chunk 1048576' '--workers 1' '--workers=16' '--workers +8' '--arena 0' '--arena 16777216'; do
+    read_none 4 'dmljob: cannot read the script\n' run $settings
+done
+
+# ---- words that clap refuses, with a text of its own
+
+# words WORD..: status 3, no output, some text
+words() {
+    "$dmljob" "$@" </ >"$work/out" 2>"$work/err"
+    got=$?
+    runs=$((runs + 1))
+    [ "$got" = 3 ] || complain "dmljob $*: status $got, not 3"
+    [ ! -s "$work/out" ] || complain "dmljob $*: writes on the standard output"
+    [ -s "$work/err" ] || complain "dmljob $*: says nothing"
+}
+
+words
+words nope
+words --version
+words run extra
+words run --workers x
+words run --chunk 12 --workers x
+words run --workers 3 --workers 3
+words run --chunk
+words decode
+words decode 00 11
+
+# help WORD..: status 0, its text on the standard output
+help() {
+    "$dmljob" "$@" </ >"$work/out" 2>"$work/err"
+    got=$?
+    runs=$((runs + 1))
+    [ "$got" = 0 ] || complain "dmljob $*: status $got, not 0"
+    grep -q '^Usage: dmljob' "$work/out" || complain "dmljob $*: no usage on the standard output"
+    [ ! -s "$work/err" ] || complain "dmljob $*: says $(cat "$work/err")"
+}
+
+help help
+help --help
+help -h
+help run --help
+help help decode
+
+# ---- a standard output that takes nothing
+
+# full STATUS WORD..: nothing can be written
+full() {
+    "$dmljob" "$@" <examples/fill.script >/dev/full 2>"$work/err"
+    got=$?
+    runs=$((runs + 1))
+    [ "$got" = 4 ] || complain "dmljob $* >/dev/full: status $got, not 4"
+    [ "$(cat "$work/err")" = 'dmljob: cannot write the answer' ] ||
+        complain "dmljob $* >/dev/full: says $(cat "$work/err")"
+}
+
+if [ -c /dev/full ]; then
+    full run
+    full help
+    full decode "0000000000000010${zeros}${zeros}"
+else
+    complain 'there is no /dev/full here'
+fi
+
+printf 'cli: %s runs of the program\n' "$runs"
+exit "$failed"

@@ -1,0 +1,118 @@
+#!/bin/sh
+# Refuses each growth of memory in turn, of the program and of each library's tests named refused_*,
+# and looks at what is answered. Works on the binaries that the gate leaves in crates/NAME/out;
+# `check` calls it. Needs the GNU C library and a C compiler (CC, or cc).
+#
+# The Nth growth is refused by tests/refuse.c, for N from 1 until a run meets no refusal. Then
+# - the program ends with status 4 and `dmljob: out of memory`, having written nothing but the
+#   beginning of its whole answer; or it does without, and answers as with ample memory;
+# - a test passes: it takes the call's right answer, or want of memory with nothing changed.
+cd "$(dirname "$0")/.." || exit 2
+work=$(mktemp -d) || exit 2
+trap 'rm -rf "$work"' EXIT
+failed=0
+
+complain() {
+    printf 'refusals: %s\n' "$*" >&2
+    failed=1
+}
+
+"${CC:-cc}" -O2 -Wall -Wextra -Werror -shared -fPIC -o "$work/refuse.so" tests/refuse.c || exit 1
+
+# refused N BINARY [WORD..]: runs it with its Nth growth refused; the file `log` is there if it came
+refused() {
+    number=$1
+    shift
+    rm -f "$work/log"
+    REFUSE=$number REFUSE_LOG=$work/log LD_PRELOAD=$work/refuse.so "$@"
+}
+
+# is_prefix A B: the file A is a beginning of the file B
+is_prefix() {
+    [ "$(wc -c <"$1")" -le "$(wc -c <"$2")" ] && [ -z "$(cmp "$1" "$2" 2>/dev/null)" ]
+}
+
+is_plain() { # STATUS: the last run is as the plain run was
+    [ "$1" = "$plain" ] && cmp -s "$work/out" "$work/answer" && cmp -s "$work/err" "$work/said"
+}
+
+# Each entry of a table says that it met at least one refusal, so that none is passed over.
+counted() { # NAME GROWTHS
+    [ "$2" -gt 0 ] || complain "$1: no growth was refused"
+    printf 'refusals: %s: %s growths refused in turn\n' "$1" "$2"
+}
+
+# program INPUT [WORD..]: the program on that input
+program() {
+    binary=crates/dmljob/out/dmljob
+    input=$1
+    shift
+    name="dmljob${*:+ $*}"
+    if [ ! -x "$binary" ]; then
+        complain "$binary is missing: run rt ci first"
+        return
+    fi
+    "$binary" "$@" <"$input" >"$work/answer" 2>"$work/said"
+    plain=$?
+    number=1
+    while :; do
+        refused "$number" "$binary" "$@" <"$input" >"$work/out" 2>"$work/err"
+        status=$?
+        [ -f "$work/log" ] || break
+        if ! is_plain "$status"; then
+            [ "$status" = 4 ] || complain "$name: growth $number: status $status"
+            [ "$(cat "$work/err")" = 'dmljob: out of memory' ] ||
+                complain "$name: growth $number: says $(cat "$work/err")"
+            is_prefix "$work/out" "$work/answer" ||
+                complain "$name: growth $number: writes what is no part of the answer"
+        fi
+        number=$((number + 1))
+    done
+    is_plain "$status" || complain "$name: differs where no growth is refused"
+    counted "$name" "$((number - 1))"
+}
+
+# library NAME: each of its tests named refused_*
+library() {
+    grep -rq '#\[test\]' "crates/$1/src" || return 0
+    binary=crates/$1/out/$1_tests
+    if [ ! -x "$binary" ]; then
+        complain "$binary is missing: run rt ci first"
+        return
+    fi
+    "$binary" --list >"$work/list" || complain "$binary --list fails"
+    for test in $(sed -n 's/^\([A-Za-z0-9_:]*refused_[A-Za-z0-9_]*\).*/\1/p' "$work/list"); do
+        number=1
+        while :; do
+            refused "$number" "$binary" "$test" >"$work/out" 2>&1 </dev/null
+            status=$?
+            if [ "$status" != 0 ]; then
+                complain "$1 $test: growth $number: status $status: $(cat "$work/out")"
+            fi
+            [ -f "$work/log" ] || break
+            number=$((number + 1))
+        done
+        counted "$1 $test" "$((number - 1))"
+    done
+}
+
+printf 'image 2\npage 0 0102\npoke 4 ff\nnoop\nfill 7 8 16\nshow 0 32\n' >"$work/small.script"
+printf 'image 2\npage 0\nfill 1 2\n' >"$work/faulty.script"
+descriptor=000000000c000003000000000000000000100000000000000020000000000000
+descriptor=${descriptor}6400000000000000000000000000000000000000000000000000000000000000
+
+program examples/fill.script run
+program "$work/small.script" run --workers 1 --chunk=64 --arena 4096
+program "$work/faulty.script" run
+program /dev/null run
+program /dev/null run --workers x
+program /dev/null run --chunk 12
+program /dev/null help
+program /dev/null run --help
+program /dev/null decode "$descriptor"
+program /dev/null decode 00
+program /dev/null
+for name in $(sed -n 's/^\([a-z0-9_]*\)[^:#]*:.*/\1/p' crates.txt); do
+    library "$name"
+done
+exit "$failed"

@@ -14,7 +14,8 @@ use Rattle.dml_script.specs.declared.faults.ScriptFault.{ScriptFault}
 use Rattle.dml_script.specs.declared.lines.Line.{Line}
 use Rattle.dml_script.specs.declared.lines.Line.TheVariants as line
 use Rattle.dml_script.specs.Grammar.{Skipped, Faulty, Fine, brings, is_present, pages_of, parse, parse_from, verdict, fault_at}
-use Rattle.dml_script.specs.Run.{Session, AllFit, Fits, IsRunnable, after_line, opening}
+use Rattle.dml_script.specs.Run.{Session, after_line, opening}
+use Rattle.dml_script.specs.Runnable.{AllFit, Fits, IsRunnable}
 use Rattle.dml_script.proofs.FollowLemmas.{MayFollow, follows}
 use Rattle.dml_script.proofs.PresenceLemmas.{byte_present}
 

@@ -16,7 +16,7 @@ use Rattle.dml_script.specs.declared.table.Word.TheVariants as word
 use Rattle.dml_script.specs.declared.table.Slot.{Slot}
 use Rattle.dml_script.specs.Grammar as grammar
 use Rattle.dml_script.specs.Grammar.{Verdict, Skipped, Faulty, Fine, verdict, verdict_of, judged, longest_line, first_of, place_faults, entry_faults, faults_of, word_faults}
-use Rattle.dml_script.specs.Run.{IsCarried, IsCarriedBy}
+use Rattle.dml_script.specs.Runnable.{IsCarried, IsCarriedBy}
 use Rattle.dml_script.specs.Table.{word_with, parts_in}
 use Rattle.dml_script.specs.Text.{is_text, words}
 use Rattle.dml_script.proofs.LineLemmas.{Entries, fitted_slots, bytes_of_slots, all_bytes_fit}

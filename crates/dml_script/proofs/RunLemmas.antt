@@ -3,7 +3,8 @@ use Rattle.std.proofs.Common.{◌≡◌, ℕ, suc, ◌+◌, ◌^◌, ◌<◌, �
 use Rattle.dml_script.specs.declared.lines.Line.{Line}
 use Rattle.dml_script.specs.declared.lines.Line.TheVariants as line
 use Rattle.dml_script.specs.Grammar.{parse}
-use Rattle.dml_script.specs.Run.{Session, AllFit, after_line, answer, answer_from, answer_if, item_of, opening, text_if}
+use Rattle.dml_script.specs.Run.{Session, after_line, answer, answer_from, answer_if, item_of, opening, text_if}
+use Rattle.dml_script.specs.Runnable.{AllFit}
 use Rattle.dml_script.proofs.BytesLemmas.{IsWritten}
 
 pub on_error : {T E : Type 0} (r : Result T E) (P : Type 0) → P → OnErr r P

@@ -5,6 +5,7 @@ pub mod Number
 pub mod Output
 pub mod Reads
 pub mod Run
+pub mod Runnable
 pub mod Table
 pub mod Text
 pub mod Tracks

@@ -1,11 +1,7 @@
 -- What a script's run writes: its lines change a memory, one after another, and jobs and shows add text.
-use Rattle.std.specs.Prelude.{ℕ, ◌+◌, ◌-◌, ◌^◌, ◌<◌, ◌≤◌, IsTrue, if◌then◌else◌, List, [], ◌∷◌, ◌++◌, length, map, replicate, Option, None, Some, Result, Ok, Err}
+use Rattle.std.specs.Prelude.{ℕ, ◌+◌, ◌-◌, if◌then◌else◌, List, [], ◌∷◌, ◌++◌, length, map, replicate, Option, None, Some, Result, Ok, Err}
 use Rattle.std.specs.List.{range_with_len}
-use Rattle.dml_types.specs.declared.jobs.Job.{Job}
-use Rattle.dml_types.specs.declared.operations.Op.{Op}
-use Rattle.dml_types.specs.declared.operations.Op.TheVariants.{NoOp, Move, Fill, Compare, ComparePattern, CreateDelta, ApplyDelta, Dualcast}
-use Rattle.dml_types.specs.Job.{op_of}
-use Rattle.dml_types.specs.Memory.{Memory, page_size, has, has_all, byte_at, put}
+use Rattle.dml_types.specs.Memory.{Memory, page_size, has, byte_at, put}
 use Rattle.dml_types.specs.Step.{step}
 use Rattle.dml_image.specs.Brought.{all_absent, brought}
 use Rattle.dml_script.specs.declared.faults.ScriptFault.{ScriptFault}
@@ -69,38 +65,3 @@ answer_if (Err fault) staging = []
 -- the answer of a script's bytes, at a staging size
 unfoldable pub answer : List ℕ → ℕ → List ℕ
 answer bytes staging = answer_if (parse bytes) staging
-
--- the operations that a script's jobs can have for now
-abbrev pub IsCarriedBy : Option Op → Type 0
-IsCarriedBy None = Unit {0}
-IsCarriedBy (Some NoOp) = Unit {0}
-IsCarriedBy (Some Move) = ⊥
-IsCarriedBy (Some Fill) = Unit {0}
-IsCarriedBy (Some Compare) = ⊥
-IsCarriedBy (Some ComparePattern) = ⊥
-IsCarriedBy (Some CreateDelta) = ⊥
-IsCarriedBy (Some ApplyDelta) = ⊥
-IsCarriedBy (Some Dualcast) = ⊥
-
-abbrev pub IsCarried : Job → Type 0
-IsCarried job = IsCarriedBy (op_of job)
-
--- what the grammar gives of a line after the first: its page is in the image, its bytes are present, and its range
--- ends at or below 2^64
-abbrev pub Fits : Session → Line → Type 0
-Fits session (line.Image pages) = ⊥
-Fits session (line.Page page bytes) = (page < length session.memory.present) × (length bytes ≤ page_size)
-Fits session (line.Poke address bytes) = IsTrue (has_all session.memory address (length bytes))
-Fits session (line.Job job) = IsCarried job
-Fits session (line.Show address len) = address + len ≤ 2 ^ 64
-
-abbrev pub AllFit : ℕ → Session → List Line → Type 0
-AllFit staging session [] = Unit {0}
-AllFit staging session (l ∷ lines) = Fits session l × AllFit staging (after_line staging session l) lines
-
--- the lines of a script: an image line first, and lines after it, too few to count jobs past 32 bits
-abbrev pub IsRunnable : ℕ → List Line → Type 0
-IsRunnable staging [] = ⊥
-IsRunnable staging (line.Image pages ∷ lines) =
-    (1 ≤ pages) × (pages ≤ 4096) × (length lines < 2 ^ 32) × AllFit staging (after_line staging opening (line.Image pages)) lines
-IsRunnable staging (other ∷ lines) = ⊥

@@ -3,7 +3,7 @@ ghost use Rattle.dml_types.specs.Memory.{puts_made};
 ghost use Rattle.dml_types.specs.Effect as effects;
 ghost use Rattle.dml_types.specs.Copy as copies;
 ghost use Rattle.dml_types.specs.Step.{step};
-ghost use Rattle.dml_script.specs.Run.{IsCarried};
+ghost use Rattle.dml_script.specs.Runnable.{IsCarried};
 
 use dml_desc::check;
 use dml_image::Image;

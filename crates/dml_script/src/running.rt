@@ -2,7 +2,8 @@ ghost use Rattle.std.specs.Prelude.{◌≡◌, ◌≢◌, ◌+◌, ◌^◌, ◌<
 ghost use Rattle.std.specs.Io.KnownBytes.{Appends, IsAtEnd};
 ghost use Rattle.dml_types.specs.Settings.{IsValid};
 ghost use Rattle.dml_script.specs.Grammar.{parse};
-ghost use Rattle.dml_script.specs.Run.{answer, answer_from, opening, text_if, AllFit, IsRunnable};
+ghost use Rattle.dml_script.specs.Run.{answer, answer_from, opening, text_if};
+ghost use Rattle.dml_script.specs.Runnable.{AllFit, IsRunnable};
 ghost use Rattle.dml_script.specs.Watching.{inner_of, has_failed, AppendsFront};
 ghost use Rattle.dml_script.specs.declared.faults.ScriptFault.{ScriptFault as TheFault};
 ghost use Rattle.dml_script.specs.declared.running.RunFault.TheVariants as faults;

@@ -1,7 +1,8 @@
 ghost use Rattle.std.specs.Prelude.{◌≡◌, ◌+◌, ◌-◌, ◌%◌, ◌^◌, ◌<◌, ◌≤◌, ◌++◌, true, false, length, map, None, Some, IfOk, OnOk};
 ghost use Rattle.dml_types.specs.Memory.{has};
 ghost use Rattle.dml_image.specs.Brought.{brought};
-ghost use Rattle.dml_script.specs.Run.{Fits, after_line, item_of, page_of, shown_bytes};
+ghost use Rattle.dml_script.specs.Run.{after_line, item_of, page_of, shown_bytes};
+ghost use Rattle.dml_script.specs.Runnable.{Fits};
 
 use crate::items::{Item, Shown};
 use crate::jobs::carry_out;

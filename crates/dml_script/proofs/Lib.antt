@@ -1,3 +1,4 @@
+pub mod AnswerLawLemmas
 pub mod BytesLemmas
 pub mod EntryLemmas
 pub mod FirstFaultLemmas

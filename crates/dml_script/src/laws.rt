@@ -1,5 +1,6 @@
-//! What the definition of `parse` means.
+//! What the definitions of `parse` and of an answer mean.
 
+ghost use Rattle.dml_script.specs.AnswerLaws.{AnswersInParts, AnswersJobs};
 ghost use Rattle.dml_script.specs.FirstFault.{NamesFirstFault, ReadsFaultless};
 
 /// Of every text: it is a script exactly where no line of it is faulty, its lines are then those of its lines of
@@ -7,4 +8,11 @@ ghost use Rattle.dml_script.specs.FirstFault.{NamesFirstFault, ReadsFaultless};
 pub fn law_of_first_fault()
     ensures lines { ReadsFaultless }
     ensures fault { NamesFirstFault }
+{}
+
+/// Of every list of lines: what follows a line is answered on what that line leaves, and job lines one after another
+/// show the records of the list of their jobs.
+pub fn law_of_answers()
+    ensures parts { AnswersInParts }
+    ensures jobs { AnswersJobs }
 {}

@@ -23,7 +23,7 @@ mod writing;
 
 pub use faults::{Kind, ScriptError, ScriptFault, fault_text};
 pub use items::{Item, Shown};
-pub use laws::law_of_first_fault;
+pub use laws::{law_of_answers, law_of_first_fault};
 pub use lines::{Bytes, Line, Script};
 pub use reader::read_script;
 pub use running::{RunFault, run_script};

@@ -51,6 +51,12 @@ fn scripts_and_their_answers(rt: HostRuntime) {
              show 0 ff8090a0b0c0d0e0f0809000\n",
         ),
         (
+            "bad_opcode_descriptor, and a descriptor of zeros",
+            "image 1\nraw 00000000000000100000000000000000000000000000000000000000000000000000000000000000000000000000000000000000000000000000000000000000\nraw 00000000000000000000000000000000000000000000000000000000000000000000000000000000000000000000000000000000000000000000000000000000",
+            "job 0 status 10 result 0 completed 0 fault 0 delta 0\n\
+             job 1 status 01 result 0 completed 0 fault 0 delta 0\n",
+        ),
+        (
             "bytes over a page's edge, a page brought again, and addresses past the last page",
             "image 3\npage 0\npage 1 0a0b\npoke 4094 01020304\nshow 4093 6\npage 0\nshow 4093 6\nshow 8190 4\nshow 18446744073709551615 1",
             "show 4093 000102030400\nshow 4093 000000030400\nshow 8190 0000----\nshow 18446744073709551615 --\n",

@@ -110,6 +110,29 @@ outcome 0 'opcode 10 flags 000000 source 0 target 0 size 0 extra 0 delta 0 expec
     decode "0000000000000010${zeros}${zeros}"
 outcome 0 'opcode 04 flags 000000 source 18364758544493064720 target 43690 size 255 extra 0 delta 0 expected 0\ncheck accepted need 0\n' '' \
     decode "000000000000000400000000000000001032547698BADCFEaaAA000000000000Ff000000$zeros"
+# one WANTED SEGMENT..: the two lines on a descriptor that is given in segments
+one() {
+    wanted=$1
+    shift
+    outcome 0 "$wanted" '' decode "$(printf '%s' "$@")"
+}
+
+# A job of each other operation. Bytes 4 to 7 are flags and opcode, source is at 16, target at 24, size at 32.
+one 'opcode 00 flags 000000 source 0 target 0 size 7 extra 0 delta 0 expected 0\ncheck accepted need 0\n' \
+    00000000 00000000 0000000000000000 0000000000000000 0000000000000000 07000000 00000000 \
+    000000000000000000000000000000000000000000000000
+one 'opcode 05 flags 000080 source 4096 target 8192 size 64 extra 0 delta 0 expected 1\ncheck accepted need 0\n' \
+    00000000 80000005 0000000000000000 0010000000000000 0020000000000000 40000000 00000000 \
+    010000000000000000000000000000000000000000000000
+one 'opcode 06 flags 000000 source 4096 target 72623859790382856 size 8 extra 0 delta 0 expected 2\ncheck accepted need 0\n' \
+    00000000 00000006 0000000000000000 0010000000000000 0807060504030201 08000000 00000000 \
+    020000000000000000000000000000000000000000000000
+one 'opcode 08 flags 000000 source 4096 target 8192 size 32 extra 0 delta 20 expected 0\ncheck accepted need 20\n' \
+    00000000 00000008 0000000000000000 0010000000000000 0020000000000000 20000000 00000000 \
+    140000000000000000000000000000000000000000000000
+one 'opcode 09 flags 000000 source 4096 target 8192 size 16 extra 12288 delta 0 expected 0\ncheck accepted need 16\n' \
+    00000000 00000009 0000000000000000 0010000000000000 0020000000000000 10000000 00000000 \
+    003000000000000000000000000000000000000000000000
 outcome 3 '' 'dmljob: not 64 bytes of hex\n' decode ''
 outcome 3 '' 'dmljob: not 64 bytes of hex\n' decode 00
 outcome 3 '' 'dmljob: not 64 bytes of hex\n' decode "000000000000001${zeros}${zeros}"

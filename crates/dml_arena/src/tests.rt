@@ -138,3 +138,15 @@ fn text_of_no_memory(rt: HostRuntime) {
     let text = format!(in rt.alloc(); "{}", ArenaError::NoMemory);
     assert!(rt; text.is_ok_and(|text| text.as_str() == "out of memory"));
 }
+
+// A script counts how often this block is taken and given back.
+#[test]
+fn released_once(rt: HostRuntime) -> Result<(), ArenaError> {
+    let mut arena = Arena::new(rt.alloc(), 12_345)?;
+    let region = arena.open();
+    let (mut front, back) = region.cut(100);
+    front.push(&[1, 2, 3]);
+    let whole = front.join(back);
+    assert_eq!(rt; whole.bytes(), [1, 2, 3].as_slice());
+    Ok(())
+}

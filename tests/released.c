@@ -1,10 +1,11 @@
-/* Loaded before a program by LD_PRELOAD, counts the blocks of BLOCK_SIZE bytes that it takes from malloc and gives
-   back by free, and writes at its end `taken N given M` to the new file BLOCK_LOG. Needs the GNU C library. */
+/* Loaded before a program by LD_PRELOAD, writes a line `taken` to the file BLOCK_LOG for each block of BLOCK_SIZE
+   bytes that the program takes by malloc, and a line `given` for each of them that it gives back by free. Needs the
+   GNU C library. */
 #define _GNU_SOURCE
 #include <fcntl.h>
 #include <stdint.h>
-#include <stdio.h>
 #include <stdlib.h>
+#include <string.h>
 #include <unistd.h>
 
 extern void *__libc_malloc(size_t size);
@@ -15,7 +16,6 @@ extern void __libc_free(void *block);
 static size_t wanted;
 static void *standing[MOST];
 static unsigned long taken;
-static unsigned long given;
 
 __attribute__((constructor)) static void begin(void)
 {
@@ -23,11 +23,22 @@ __attribute__((constructor)) static void begin(void)
     wanted = size ? strtoul(size, NULL, 10) : SIZE_MAX;
 }
 
+static void note(const char *line)
+{
+    const char *path = getenv("BLOCK_LOG");
+    int file = path ? open(path, O_WRONLY | O_CREAT | O_APPEND, 0600) : -1;
+    if (file < 0 || write(file, line, strlen(line)) < 0)
+        _exit(99); /* unseen, nothing would be counted */
+    close(file);
+}
+
 void *malloc(size_t size)
 {
     void *block = __libc_malloc(size);
-    if (block && size == wanted && taken < MOST)
+    if (block && size == wanted && taken < MOST) {
         standing[taken++] = block;
+        note("taken\n");
+    }
     return block;
 }
 
@@ -36,18 +47,7 @@ void free(void *block)
     for (unsigned long i = 0; block && i < taken; i++)
         if (standing[i] == block) {
             standing[i] = NULL;
-            given++;
+            note("given\n");
         }
     __libc_free(block);
-}
-
-__attribute__((destructor)) static void end(void)
-{
-    char line[64];
-    const char *path = getenv("BLOCK_LOG");
-    int length = snprintf(line, sizeof line, "taken %lu given %lu\n", taken, given);
-    int file = path ? open(path, O_WRONLY | O_CREAT | O_EXCL, 0600) : -1;
-    if (file < 0 || write(file, line, length) != length)
-        _exit(99); /* unseen, nothing would be counted */
-    close(file);
 }

@@ -11,6 +11,6 @@ binary=crates/dml_arena/out/dml_arena_tests
 # The test makes one arena of 12,345 bytes, cuts and fills it, and lets it go.
 BLOCK_SIZE=12345 BLOCK_LOG=$work/log LD_PRELOAD=$work/released.so "$binary" tests::released_once >"$work/out" 2>&1
 status=$?
-counts=$(cat "$work/log" 2>/dev/null)
-echo "released: status $status, $counts"
-[ "$status" -eq 0 ] && [ "$counts" = "taken 1 given 1" ]
+events=$(tr '\n' ' ' <"$work/log" 2>/dev/null)
+echo "released: status $status, $events"
+[ "$status" -eq 0 ] && [ "$events" = "taken given " ]

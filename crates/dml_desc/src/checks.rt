@@ -7,7 +7,7 @@ use crate::rules;
 use dml_types::{Job, Op, Status};
 use std::marker::Model;
 
-/// A job that breaks no rule, with its operation. It is made by `check` alone.
+/// A job that breaks no rule where there is as much staging as it needs, with its operation. It is made by `check` alone.
 #[derive(Clone, Copy, PartialEq, Eq, Debug)]
 pub struct Checked {
     job: Job,

@@ -53,6 +53,7 @@ filled() {
 script 'image 2\npage 0\nfill 0x0807060504030201 4090 12\nshow 4088 10\n' 0 \
     'job 0 status 83 result 0 completed 6 fault 4096 delta 0\nshow 4088 0000010203040506----\n' ''
 script 'image 1\n' 0 '' ''
+script "image 1\nraw $(printf '%0128d' 0)\n" 0 'job 0 status 01 result 0 completed 0 fault 0 delta 0\n' ''
 script 'image 1\npage 0\nfill 0 0 1048577\nnoop flags 0x10\nfill 0 0xfffffffffffffff8 9\nfill 0 0xfffffffffffffff8 8\n' 0 \
     'job 0 status 13 result 0 completed 0 fault 0 delta 0
 job 1 status 11 result 0 completed 0 fault 0 delta 0

@@ -81,6 +81,7 @@ library() {
         return
     fi
     "$binary" --list >"$work/list" || complain "$binary --list fails"
+    grep -q 'refused_' "$work/list" || printf 'refusals: %s: no test is named refused_*\n' "$1"
     for test in $(sed -n 's/^\([A-Za-z0-9_:]*refused_[A-Za-z0-9_]*\).*/\1/p' "$work/list"); do
         number=1
         while :; do
@@ -96,7 +97,7 @@ library() {
     done
 }
 
-printf 'image 2\npage 0 0102\npoke 4 ff\nnoop\nfill 7 8 16\nshow 0 32\n' >"$work/small.script"
+printf 'image 2\npage 0 0102\npoke 4 ff\nnoop\nfill 7 8 16\nraw %0128d\nshow 0 32\n' 0 >"$work/small.script"
 printf 'image 2\npage 0\nfill 1 2\n' >"$work/faulty.script"
 descriptor=000000000c000003000000000000000000100000000000000020000000000000
 descriptor=${descriptor}6400000000000000000000000000000000000000000000000000000000000000

@@ -1,10 +1,10 @@
 -- Writes to the bytes of an image, as its fields hold them: `now` is what contracts see of them.
-use Rattle.std.proofs.Common.{◌≡◌, ℕ, ◌+◌, ◌*◌, ◌/◌, ◌<◌, ◌≤◌, List, [], Vec, Bool, length, get_or, set, true, false, rules, refl, sym, ◌∙◌, ap, subst, arith, ⊎_elim}
+use Rattle.std.proofs.Common.{◌≡◌, ℕ, ◌+◌, ◌-◌, ◌*◌, ◌/◌, ◌%◌, ◌<◌, ◌≤◌, List, [], Vec, Bool, length, get_or, set, true, false, rules, refl, sym, ◌∙◌, ap, subst, arith, ⊎_elim}
 use Rattle.std.specs.Vec.{with_item, with_items}
 use Rattle.std.proofs.lemmas.List.{places, with_items_is, nil_from_length, length-set, get_or-set_other, get_or-set_same}
 use Rattle.std.proofs.lemmas.Bool.{cases_lt, cases_eq, false≢true}
 use Rattle.dml_types.specs.Memory.{Memory, IsMemory, has, has_all, bytes_at, overwrite, put}
-use Rattle.dml_types.proofs.MemoryLemmas.{length_overwrite, overwrite_nil, overwrite_below, overwrite_past, has_all_within, put_keeps}
+use Rattle.dml_types.proofs.MemoryLemmas.{length_overwrite, overwrite_nil, overwrite_below, overwrite_past, has_all_within, has_within, put_keeps}
 use Rattle.dml_image.specs.Brought.{brought}
 
 abbrev of_fields : {Y Z : Type 0} → Vec Bool Y → Vec ℕ Z → Memory
@@ -78,3 +78,10 @@ bring_keeps present content page bytes slice written good inside long same done 
     let within : 4096 * page + length bytes ≤ length content.items = omega (arith, good.whole.each_page) in
     rw (with_overwrite content (4096 * page) bytes slice written within same done)
     (brought_keeps (of_fields present content) page bytes good below long)
+
+-- the page of a present byte lies within the image
+pub page_within : {Y Z : Type 0} (present : Vec Bool Y) (content : Vec ℕ Z) (now : Memory) (address : ℕ) → of_fields present content ≡ now → IsMemory (of_fields present content) → has now address ≡ true → address + (4096 - address % 4096) ≤ content.len
+page_within present content now address is good here =
+    let inside : has (of_fields present content) address ≡ true = subst (λ (memory : Memory). has memory address ≡ true) (sym is) here in
+    let below = has_within (of_fields present content) address good.whole inside in
+    omega (arith, below, good.whole.each_page, content.ok.0)

@@ -1,4 +1,4 @@
-ghost use Rattle.std.specs.Prelude.{◌≡◌, ◌≢◌, ◌+◌, ◌^◌, ◌<◌, ◌≤◌, ◌↔◌, ◌⊎◌, length, IfOk, OnErr, OnOk, IsOk, IsTrue, MatchOption, if◌then◌else◌};
+ghost use Rattle.std.specs.Prelude.{◌≡◌, ◌≢◌, ◌+◌, ◌-◌, ◌%◌, ◌^◌, ◌<◌, ◌≤◌, min, ◌↔◌, ◌⊎◌, length, IfOk, OnErr, OnOk, IsOk, IsTrue, MatchOption, if◌then◌else◌};
 ghost use Rattle.dml_types.specs.Memory.{IsMemory, has, has_all, byte_at, bytes_at, present_toward, put};
 ghost use Rattle.dml_types.specs.Pattern.{pattern_bytes};
 ghost use Rattle.dml_image.specs.Brought.{all_absent, brought, has_page};
@@ -102,6 +102,19 @@ impl Image {
         } else {
             None
         }
+    }
+
+    /// The bytes from this address on, `len` of them or as many as there are up to the end of the page.
+    #[tactic(auto, using(crate::proofs::WriteLemmas::page_within))]
+    pub fn part(&self, addr: u64, len: u32) -> &[u8]
+        requires { IsTrue (has self.now addr) }
+        ensures bytes { result.now ≡ bytes_at self.now addr (length result.now) }
+        ensures length { length result.now ≡ min len (4096 - addr % 4096) }
+        ensures memory { IsMemory self.now }
+    {
+        let place = addr as usize;
+        let of_page = PAGE_SIZE - place % PAGE_SIZE;
+        &self.content[place..place + of_page.min(len as usize)]
     }
 
     /// Reads bytes from this address on into the whole buffer.

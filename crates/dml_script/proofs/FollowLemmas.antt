@@ -56,22 +56,28 @@ page_bytes : (ws : List (List ℕ)) (entries : Entries) → grammar.fitted (part
 page_bytes ws entries is =
     subst (λ (slots : List Slot). length (grammar.values_of entries).bytes ≤ bytes_of_slots slots) (fitted_slots (parts_in word.Page) ws entries is) (all_bytes_fit entries)
 
--- the later opcodes left out, an opcode is that of a no-op, of a fill or of no operation
+-- the later opcodes left out, an opcode is that of a no-op, a move, a fill or a dualcast, or of no operation
 carried_opcode : (n : ℕ) → list_any (λ opcode. nat_eq n opcode) grammar.later_opcodes ≡ false
     → IsCarriedBy (option_map (λ row. row.1) (find (λ row. nat_eq n row.0) operations))
 carried_opcode n none =
-    let move = or_parts (nat_eq n 0x03) _ none in
-    let compare = or_parts (nat_eq n 0x05) _ move.1 in
+    let compare = or_parts (nat_eq n 0x05) _ none in
     let pattern = or_parts (nat_eq n 0x06) _ compare.1 in
     let create = or_parts (nat_eq n 0x07) _ pattern.1 in
     let apply = or_parts (nat_eq n 0x08) _ create.1 in
-    let dualcast = or_parts (nat_eq n 0x09) _ apply.1 in
     elim (cases_Bool (nat_eq n 0x00)) [
       | inl no_op ↦ rw no_op tt
       | inr other ↦
-          elim (cases_Bool (nat_eq n 0x04)) [
-            | inl fill ↦ rw (other, move.0, fill) tt
-            | inr none ↦ rw (other, move.0, none, compare.0, pattern.0, create.0, apply.0, dualcast.0) tt
+          elim (cases_Bool (nat_eq n 0x03)) [
+            | inl move ↦ rw (other, move) tt
+            | inr still ↦
+                elim (cases_Bool (nat_eq n 0x04)) [
+                  | inl fill ↦ rw (other, still, fill) tt
+                  | inr none ↦
+                      elim (cases_Bool (nat_eq n 0x09)) [
+                        | inl dualcast ↦ rw (other, still, none, compare.0, pattern.0, create.0, apply.0, dualcast) tt
+                        | inr last ↦ rw (other, still, none, compare.0, pattern.0, create.0, apply.0, last) tt
+                      ]
+                ]
           ]
     ]
 
@@ -88,7 +94,9 @@ follows_by word.Image ws entries before is missing second now range =
 follows_by word.Page ws entries before is missing second now range = (some_before before missing, ltb-true _ _ (not-false _ range), page_bytes ws entries is)
 follows_by word.Poke ws entries before is missing second now range = (some_before before missing, not-false _ range)
 follows_by word.NoOp ws entries before is missing second now range = (some_before before missing, tt)
+follows_by word.Move ws entries before is missing second now range = (some_before before missing, tt)
 follows_by word.Fill ws entries before is missing second now range = (some_before before missing, tt)
+follows_by word.Dualcast ws entries before is missing second now range = (some_before before missing, tt)
 follows_by word.Raw ws entries before is missing second now range = (some_before before missing, carried_later _ now)
 follows_by word.Show ws entries before is missing second now range = (some_before before missing, ltb-false _ _ (or_parts _ _ range).1)
 

@@ -4,7 +4,6 @@ pub mod EntryLemmas
 pub mod FirstFaultLemmas
 pub mod FitLemmas
 pub mod FollowLemmas
-pub mod JobLemmas
 pub mod LineLemmas
 pub mod NumberLemmas
 pub mod PresenceLemmas

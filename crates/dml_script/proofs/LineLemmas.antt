@@ -175,10 +175,20 @@ sizes_of_fitted word.Poke ws entries is fine =
 sizes_of_fitted word.NoOp ws entries is fine =
     let slots = fitted_slots (parts_in word.NoOp) ws entries is in
     subst (λ (slots : List Slot). grammar.number_at (grammar.values_of entries) 0 ≤ limit_of (get_or slots 0 (Number 0))) slots (number_at_fits entries 0)
+sizes_of_fitted word.Move ws entries is fine =
+    let slots = fitted_slots (parts_in word.Move) ws entries is in (
+      subst (λ (slots : List Slot). grammar.number_at (grammar.values_of entries) 2 ≤ limit_of (get_or slots 2 (Number 0))) slots (number_at_fits entries 2),
+      subst (λ (slots : List Slot). grammar.number_at (grammar.values_of entries) 3 ≤ limit_of (get_or slots 3 (Number 0))) slots (number_at_fits entries 3),
+    )
 sizes_of_fitted word.Fill ws entries is fine =
     let slots = fitted_slots (parts_in word.Fill) ws entries is in (
       subst (λ (slots : List Slot). grammar.number_at (grammar.values_of entries) 2 ≤ limit_of (get_or slots 2 (Number 0))) slots (number_at_fits entries 2),
       subst (λ (slots : List Slot). grammar.number_at (grammar.values_of entries) 3 ≤ limit_of (get_or slots 3 (Number 0))) slots (number_at_fits entries 3),
+    )
+sizes_of_fitted word.Dualcast ws entries is fine =
+    let slots = fitted_slots (parts_in word.Dualcast) ws entries is in (
+      subst (λ (slots : List Slot). grammar.number_at (grammar.values_of entries) 3 ≤ limit_of (get_or slots 3 (Number 0))) slots (number_at_fits entries 3),
+      subst (λ (slots : List Slot). grammar.number_at (grammar.values_of entries) 4 ≤ limit_of (get_or slots 4 (Number 0))) slots (number_at_fits entries 4),
     )
 sizes_of_fitted word.Raw ws entries is fine = raw_size ws entries is fine
 sizes_of_fitted word.Show ws entries is fine = tt
@@ -191,7 +201,9 @@ next_in_range word.Image v before start within = (start refl, leb-true _ _ (and_
 next_in_range word.Page v before start within = ltb-true _ _ (not-false _ within)
 next_in_range word.Poke v before start within = tt
 next_in_range word.NoOp v before start within = tt
+next_in_range word.Move v before start within = tt
 next_in_range word.Fill v before start within = tt
+next_in_range word.Dualcast v before start within = tt
 next_in_range word.Raw v before start within = tt
 next_in_range word.Show v before start within = tt
 

@@ -4,7 +4,7 @@ use Rattle.std.specs.List.{flat_map, list_all, list_any, range_with_len}
 use Rattle.std.specs.Option.{option_map, option_and_then}
 use Rattle.std.specs.Str.Lines.{lines}
 use Rattle.dml_desc.specs.Descriptor.{decoded, u8_at}
-use Rattle.dml_types.specs.Job.{no_op_job, fill_job}
+use Rattle.dml_types.specs.Job.{no_op_job, move_job, fill_job, dualcast_job}
 use Rattle.dml_types.specs.Memory.{page_size}
 use Rattle.dml_script.specs.declared.faults.Kind.{Kind}
 use Rattle.dml_script.specs.declared.faults.Kind.TheVariants.{LongLine, NotAscii, UnknownWord, MissingImage, SecondImage, WrongWords, BadNumber, BadHex, BadRange}
@@ -106,7 +106,10 @@ line_of word.Image v = line.Image (number_at v 0)
 line_of word.Page v = line.Page (number_at v 0) v.bytes
 line_of word.Poke v = line.Poke (number_at v 0) v.bytes
 line_of word.NoOp v = line.Job (record no_op_job { flags = number_at v 0 })
+line_of word.Move v = line.Job (record (move_job (number_at v 0) (number_at v 1) (number_at v 2)) { flags = number_at v 3 })
 line_of word.Fill v = line.Job (record (fill_job (number_at v 0) (number_at v 1) (number_at v 2)) { flags = number_at v 3 })
+line_of word.Dualcast v =
+    line.Job (record (dualcast_job (number_at v 0) (number_at v 1) (number_at v 2) (number_at v 3)) { flags = number_at v 4 })
 line_of word.Raw v = line.Job (decoded v.bytes)
 line_of word.Show v = line.Show (number_at v 0) (number_at v 1)
 
@@ -116,14 +119,16 @@ is_out_of_range word.Image v before = not (nat_le 1 (number_at v 0) && nat_le (n
 is_out_of_range word.Page v before = not (nat_lt (number_at v 0) (pages_of before))
 is_out_of_range word.Poke v before = not (has_bytes before (number_at v 0) (length v.bytes))
 is_out_of_range word.NoOp v before = false
+is_out_of_range word.Move v before = false
 is_out_of_range word.Fill v before = false
+is_out_of_range word.Dualcast v before = false
 is_out_of_range word.Raw v before = false
 is_out_of_range word.Show v before =
     not (nat_le 1 (number_at v 1) && nat_le (number_at v 1) 65536) || nat_lt (2 ^ 64) (number_at v 0 + number_at v 1)
 
--- the opcodes whose lines are not read yet: move, both compares, create, apply and dualcast
+-- the opcodes whose lines are not read yet: both compares, create and apply
 abbrev pub later_opcodes : List ℕ
-later_opcodes = 0x03 ∷ 0x05 ∷ 0x06 ∷ 0x07 ∷ 0x08 ∷ 0x09 ∷ []
+later_opcodes = 0x05 ∷ 0x06 ∷ 0x07 ∷ 0x08 ∷ []
 
 -- whether a descriptor has one of these; its opcode is byte 7
 abbrev pub has_later_opcode : Word → Values → Bool
@@ -131,7 +136,9 @@ has_later_opcode word.Image v = false
 has_later_opcode word.Page v = false
 has_later_opcode word.Poke v = false
 has_later_opcode word.NoOp v = false
+has_later_opcode word.Move v = false
 has_later_opcode word.Fill v = false
+has_later_opcode word.Dualcast v = false
 has_later_opcode word.Raw v = list_any (λ opcode. nat_eq (u8_at v.bytes 7) opcode) later_opcodes
 has_later_opcode word.Show v = false
 
@@ -156,7 +163,9 @@ is_image word.Image = true
 is_image word.Page = false
 is_image word.Poke = false
 is_image word.NoOp = false
+is_image word.Move = false
 is_image word.Fill = false
+is_image word.Dualcast = false
 is_image word.Raw = false
 is_image word.Show = false
 

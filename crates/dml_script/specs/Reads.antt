@@ -54,7 +54,9 @@ HasSizes word.Image v = Unit {0}
 HasSizes word.Page v = Unit {0}
 HasSizes word.Poke v = length v.bytes ≤ 4096
 HasSizes word.NoOp v = grammar.number_at v 0 ≤ 0xffffff
+HasSizes word.Move v = (grammar.number_at v 2 ≤ 0xffff_ffff) × (grammar.number_at v 3 ≤ 0xffffff)
 HasSizes word.Fill v = (grammar.number_at v 2 ≤ 0xffff_ffff) × (grammar.number_at v 3 ≤ 0xffffff)
+HasSizes word.Dualcast v = (grammar.number_at v 3 ≤ 0xffff_ffff) × (grammar.number_at v 4 ≤ 0xffffff)
 HasSizes word.Raw v = length v.bytes ≡ 64
 HasSizes word.Show v = Unit {0}
 
@@ -64,7 +66,9 @@ FitsFields word.Image v = grammar.number_at v 0 < 2 ^ 32
 FitsFields word.Page v = grammar.number_at v 0 < 2 ^ 32
 FitsFields word.Poke v = Unit {0}
 FitsFields word.NoOp v = grammar.number_at v 0 < 2 ^ 32
+FitsFields word.Move v = (grammar.number_at v 2 < 2 ^ 32) × (grammar.number_at v 3 < 2 ^ 32)
 FitsFields word.Fill v = (grammar.number_at v 2 < 2 ^ 32) × (grammar.number_at v 3 < 2 ^ 32)
+FitsFields word.Dualcast v = (grammar.number_at v 3 < 2 ^ 32) × (grammar.number_at v 4 < 2 ^ 32)
 FitsFields word.Raw v = length v.bytes ≡ 64
 FitsFields word.Show v = grammar.number_at v 1 < 2 ^ 32
 

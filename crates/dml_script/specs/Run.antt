@@ -17,6 +17,11 @@ pub record Session : Type 0 where
   pub memory : Memory
   pub jobs : ℕ
 
+-- a session, and the staging size that all of its jobs have
+pub record Running : Type 0 where
+  pub session : Session
+  pub staging : ℕ
+
 -- before the first line there is no page
 abbrev pub opening : Session
 opening = record { memory = all_absent 0; jobs = 0 }

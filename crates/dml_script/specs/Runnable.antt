@@ -14,13 +14,13 @@ use Rattle.dml_script.specs.Run.{Session, after_line, opening}
 abbrev pub IsCarriedBy : Option Op → Type 0
 IsCarriedBy None = Unit {0}
 IsCarriedBy (Some NoOp) = Unit {0}
-IsCarriedBy (Some Move) = ⊥
+IsCarriedBy (Some Move) = Unit {0}
 IsCarriedBy (Some Fill) = Unit {0}
 IsCarriedBy (Some Compare) = ⊥
 IsCarriedBy (Some ComparePattern) = ⊥
 IsCarriedBy (Some CreateDelta) = ⊥
 IsCarriedBy (Some ApplyDelta) = ⊥
-IsCarriedBy (Some Dualcast) = ⊥
+IsCarriedBy (Some Dualcast) = Unit {0}
 
 abbrev pub IsCarried : Job → Type 0
 IsCarried job = IsCarriedBy (op_of job)

@@ -15,7 +15,8 @@ use Rattle.dml_script.specs.declared.table.Part.TheVariants.{One, Maybe, Named}
 abbrev pub first_words : List (List ℕ × Word)
 first_words =
     (codes "image", word.Image) ∷ (codes "page", word.Page) ∷ (codes "poke", word.Poke) ∷ (codes "noop", word.NoOp)
-    ∷ (codes "fill", word.Fill) ∷ (codes "raw", word.Raw) ∷ (codes "show", word.Show) ∷ []
+    ∷ (codes "move", word.Move) ∷ (codes "fill", word.Fill) ∷ (codes "dualcast", word.Dualcast) ∷ (codes "raw", word.Raw)
+    ∷ (codes "show", word.Show) ∷ []
 
 abbrev pub word_in : List (List ℕ × Word) → List ℕ → Option Word
 word_in rows text = option_map (λ row. row.1) (find (λ row. bytes_eq text row.0) rows)
@@ -52,7 +53,9 @@ parts_in word.Image = long ∷ []
 parts_in word.Page = long ∷ Maybe page_digits ∷ []
 parts_in word.Poke = long ∷ One page_digits ∷ []
 parts_in word.NoOp = flags ∷ []
+parts_in word.Move = long ∷ long ∷ short ∷ flags ∷ []
 parts_in word.Fill = long ∷ long ∷ short ∷ flags ∷ []
+parts_in word.Dualcast = long ∷ long ∷ long ∷ short ∷ flags ∷ []
 parts_in word.Raw = One descriptor_digits ∷ []
 parts_in word.Show = long ∷ long ∷ []
 

@@ -59,7 +59,7 @@ fn number_at(values: &Values, place: usize) -> u64
 fn has_later_opcode(word: Word, values: &Values) -> bool
     ensures { result ≡ grammar.has_later_opcode word (values_seen values.now) }
 {
-    word == Word::Raw && matches!(values.bytes.get(7), Some(0x03 | 0x05..=0x09))
+    word == Word::Raw && matches!(values.bytes.get(7), Some(0x05..=0x08))
 }
 
 /// Whether a line's numbers are out of range.
@@ -73,12 +73,23 @@ fn is_out_of_range(word: Word, values: &Values, reading: &Reading) -> bool
         Word::Image => !(1..=4096).contains(&first),
         Word::Page => !reading.has_page(first),
         Word::Poke => !reading.has_bytes(first, values.bytes.len()),
-        Word::NoOp | Word::Fill | Word::Raw => false,
+        Word::NoOp | Word::Move | Word::Fill | Word::Dualcast | Word::Raw => false,
         Word::Show => {
             let len = number_at(values, 1);
             !(1..=65_536).contains(&len) || u128::from(first) + u128::from(len) > 1 << 64
         }
     }
+}
+
+/// The job of a `dualcast` line.
+fn dualcast_of(values: &Values) -> Job
+    requires { FitsFields Word.Dualcast (values_seen values.now) }
+    ensures { Line.Job result ≡ grammar.line_of Word.Dualcast (values_seen values.now) }
+{
+    let second = number_at(values, 2);
+    let size = number_at(values, 3) as u32;
+    let job = Job::dualcast(number_at(values, 0), number_at(values, 1), second, size);
+    job.with_flags(number_at(values, 4) as u32)
 }
 
 /// The line of values that fit its fields.
@@ -100,10 +111,15 @@ fn line_of(word: Word, values: Values) -> Line
             bytes: Bytes { list: values.bytes },
         },
         Word::NoOp => Line::Job(Job::no_op().with_flags(first as u32)),
+        Word::Move => {
+            let job = Job::move_bytes(first, number_at(&values, 1), number_at(&values, 2) as u32);
+            Line::Job(job.with_flags(number_at(&values, 3) as u32))
+        }
         Word::Fill => {
             let job = Job::fill(first, number_at(&values, 1), number_at(&values, 2) as u32);
             Line::Job(job.with_flags(number_at(&values, 3) as u32))
         }
+        Word::Dualcast => Line::Job(dualcast_of(&values)),
         Word::Raw => {
             let mut descriptor = [0; 64];
             descriptor.copy_from_slice(&values.bytes);

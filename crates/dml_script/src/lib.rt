@@ -6,7 +6,6 @@ mod entries;
 mod faults;
 mod input;
 mod items;
-mod jobs;
 mod judge;
 mod laws;
 mod lines;

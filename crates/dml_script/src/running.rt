@@ -17,6 +17,7 @@ use crate::sessions::Session;
 use crate::texts::out_text;
 use crate::watching::Watched;
 use crate::writing::write_all;
+use dml_engine::{Engine, EngineError};
 use dml_image::Image;
 use dml_types::Settings;
 use std::alloc::Global;
@@ -73,7 +74,7 @@ pub fn run_script<R: Read, W: Write>(
     ensures write { IsErrOf result faults.Write → has_failed writer.new ≡ true }
 {
     match read_all(alloc, reader) {
-        Ok(bytes) => answer_input(alloc, bytes, writer, settings.staging),
+        Ok(bytes) => answer_input(alloc, bytes, writer, settings),
         Err(InputError::Read) => Err(RunFault::Read),
         Err(InputError::TooLong) => Err(RunFault::TooLong),
         Err(InputError::NoMemory) => Err(RunFault::NoMemory),
@@ -85,12 +86,13 @@ fn answer_input<W: Write>(
     alloc: Global,
     bytes: Vec<u8>,
     writer: &mut Watched<W>,
-    staging: u32,
+    settings: Settings,
 ) -> Result<(), RunFault>
+    requires valid { IsValid settings }
     requires within { vec_len bytes ≤ MAX_INPUT }
-    ensures answered { OnOk result (Appends (W.contents (inner_of writer.old)) (W.contents (inner_of writer.new)) (answer bytes.items staging)) }
+    ensures answered { OnOk result (Appends (W.contents (inner_of writer.old)) (W.contents (inner_of writer.new)) (answer bytes.items settings.staging)) }
     ensures is_script { OnOk result (IsOk (parse bytes.items)) }
-    ensures front { OnErr result (AppendsFront (W.contents (inner_of writer.old)) (W.contents (inner_of writer.new)) (answer bytes.items staging)) }
+    ensures front { OnErr result (AppendsFront (W.contents (inner_of writer.old)) (W.contents (inner_of writer.new)) (answer bytes.items settings.staging)) }
     ensures script { (fault : TheFault) → IsErrOf result (faults.Script fault)
         → (writer.new ≡ writer.old) × (parse bytes.items ≡ Err fault) }
     ensures write { IsErrOf result faults.Write → has_failed writer.new ≡ true }
@@ -103,7 +105,7 @@ fn answer_input<W: Write>(
         Err(ScriptError::NoMemory) => return Err(RunFault::NoMemory),
     };
     drop(bytes);
-    match answer_script(alloc, &script.list, writer, staging) {
+    match answer_script(alloc, &script.list, writer, settings) {
         Ok(()) => Ok(()),
         Err(AnswerError::NoMemory) => Err(RunFault::NoMemory),
         Err(AnswerError::Write) => Err(RunFault::Write),
@@ -122,13 +124,14 @@ fn answer_script<W: Write>(
     alloc: Global,
     lines: &[Line],
     writer: &mut Watched<W>,
-    staging: u32,
+    settings: Settings,
 ) -> Result<(), AnswerError>
-    requires runnable { IsRunnable staging lines.now }
+    requires valid { IsValid settings }
+    requires runnable { IsRunnable settings.staging lines.now }
     ensures ok { OnOk result (Appends (W.contents (inner_of writer.old)) (W.contents (inner_of writer.new))
-        (answer_from staging opening lines.now)) }
+        (answer_from settings.staging opening lines.now)) }
     ensures front { OnErr result (AppendsFront (W.contents (inner_of writer.old)) (W.contents (inner_of writer.new))
-        (answer_from staging opening lines.now)) }
+        (answer_from settings.staging opening lines.now)) }
     ensures failed { IsErrOf result AnswerError.Write → has_failed writer.new ≡ true }
 {
     let [Line::Image { pages }, lines @ ..] = lines else {
@@ -137,7 +140,12 @@ fn answer_script<W: Write>(
     let Ok(image) = Image::new(alloc, *pages) else {
         return Err(AnswerError::NoMemory);
     };
-    answer_lines(alloc, Session::new(image), lines, writer, staging)
+    let engine = match Engine::new(alloc, image, settings) {
+        Ok(engine) => engine,
+        Err((_, EngineError::NoMemory)) => return Err(AnswerError::NoMemory),
+        Err((_, EngineError::BadSettings)) => unreachable!(),
+    };
+    answer_lines(alloc, Session::new(engine), lines, writer)
 }
 
 /// Writes what the lines after the first show, and flushes the writer.
@@ -146,18 +154,17 @@ fn answer_lines<W: Write>(
     mut session: Session,
     lines: &[Line],
     writer: &mut Watched<W>,
-    staging: u32,
 ) -> Result<(), AnswerError>
-    requires fits { AllFit staging session lines.now }
-    requires counted { session.jobs + length lines.now < 2 ^ 32 }
+    requires fits { AllFit session.staging session.session lines.now }
+    requires counted { session.session.jobs + length lines.now < 2 ^ 32 }
     ensures ok { OnOk result (Appends (W.contents (inner_of writer.old)) (W.contents (inner_of writer.new))
-        (answer_from staging session lines.now)) }
+        (answer_from session.staging session.session lines.now)) }
     ensures front { OnErr result (AppendsFront (W.contents (inner_of writer.old)) (W.contents (inner_of writer.new))
-        (answer_from staging session lines.now)) }
+        (answer_from session.staging session.session lines.now)) }
     ensures failed { IsErrOf result AnswerError.Write → has_failed writer.new ≡ true }
 {
     for line in lines {
-        let Ok(item) = session.take(alloc, line, staging) else {
+        let Ok(item) = session.take(alloc, line) else {
             return Err(AnswerError::NoMemory);
         };
         write_item(alloc, item, writer)?;

@@ -5,60 +5,57 @@ ghost use Rattle.dml_script.specs.Run.{after_line, item_of, page_of, shown_bytes
 ghost use Rattle.dml_script.specs.Runnable.{Fits};
 
 use crate::items::{Item, Shown};
-use crate::jobs::carry_out;
 use crate::lines::Line;
+use dml_engine::Engine;
 use dml_image::Image;
 use std::alloc::{AllocError, Global};
 use std::marker::Model;
 
 const PAGE_SIZE: usize = 4096;
 
-/// The memory of a script's run, and the number of jobs so far.
+/// The engine of a script's run, and the number of jobs so far.
 #[derive(Drop)]
 pub struct Session {
-    image: Image,
+    engine: Engine,
     jobs: u32,
 }
 
 impl Model for Session {
-    ghost use Rattle.dml_script.specs.Run.{Session as State};
+    ghost use Rattle.dml_script.specs.Run.{Running};
 
-    ghost Value = { State };
+    ghost Value = { Running };
 
-    ghost view = { λ session. record { memory = session.image; jobs = session.jobs } };
+    ghost view = { λ s. record { session = record { memory = s.engine.image; jobs = s.jobs }; staging = s.engine.settings.staging } };
 }
 
 impl Session {
-    pub fn new(image: Image) -> Session
-        ensures { result ≡ record { memory = image; jobs = 0 } }
+    pub fn new(engine: Engine) -> Session
+        ensures session { result.session ≡ record { memory = engine.image; jobs = 0 } }
+        ensures staging { result.staging ≡ engine.settings.staging }
     {
-        Session { image, jobs: 0 }
+        Session { engine, jobs: 0 }
     }
 
     /// Takes a line that is not the first. `NoMemory` comes from a show alone, and leaves all as it was.
-    pub fn take(
-        &mut self,
-        alloc: Global,
-        line: &Line,
-        staging: u32,
-    ) -> Result<Option<Item>, AllocError>
-        requires fits { Fits self.old line.now }
-        requires counted { self.old.jobs < 2 ^ 32 - 1 }
-        ensures item { IfOk result (λ item. item ≡ item_of staging self.old line.now) }
-        ensures after { IfOk result (λ _. self.new ≡ after_line staging self.old line.now) }
+    pub fn take(&mut self, alloc: Global, line: &Line) -> Result<Option<Item>, AllocError>
+        requires fits { Fits self.old.session line.now }
+        requires counted { self.old.session.jobs < 2 ^ 32 - 1 }
+        ensures item { IfOk result (λ item. item ≡ item_of self.old.staging self.old.session line.now) }
+        ensures after { IfOk result (λ _. self.new.session ≡ after_line self.old.staging self.old.session line.now) }
+        ensures staging { self.new.staging ≡ self.old.staging }
     {
         match line {
             Line::Image { .. } => unreachable!(),
             Line::Page { page, bytes } => self.bring(*page, &bytes.list)?,
-            Line::Poke { addr, bytes } => self.image.write(*addr, &bytes.list),
+            Line::Poke { addr, bytes } => self.engine.write(*addr, &bytes.list),
             Line::Job(job) => {
-                let answer = carry_out(&mut self.image, job, staging);
+                let answer = self.engine.submit(*job);
                 let number = self.jobs;
                 self.jobs += 1;
                 return Ok(Some(Item::Job { number, answer }));
             }
             Line::Show { addr, len } => {
-                let bytes = shown(alloc, &self.image, *addr, *len as usize)?;
+                let bytes = shown(alloc, self.engine.image(), *addr, *len as usize)?;
                 return Ok(Some(Item::Show { addr: *addr, bytes }));
             }
         }
@@ -67,11 +64,12 @@ impl Session {
 
     /// Brings a page: these bytes, and then zeros.
     fn bring(&mut self, page: u32, bytes: &[u8]) -> Result<(), AllocError>
-        requires inside { page < length self.old.memory.present }
+        requires inside { page < length self.old.session.memory.present }
         requires short { length bytes.now ≤ PAGE_SIZE }
-        ensures { OnOk result (self.new ≡ record self.old { memory = brought self.old.memory page (page_of bytes.now) }) }
+        ensures memory { OnOk result (self.new.session ≡ record self.old.session { memory = brought self.old.session.memory page (page_of bytes.now) }) }
+        ensures staging { self.new.staging ≡ self.old.staging }
     {
-        self.image
+        self.engine
             .bring(page, &page_content(bytes))
             .map_err(|_| AllocError)
     }

@@ -10,7 +10,9 @@ pub enum Word {
     Page,
     Poke,
     NoOp,
+    Move,
     Fill,
+    Dualcast,
     Raw,
     Show,
 }
@@ -48,7 +50,7 @@ pub enum Part {
 }
 
 /// The most parts of a line.
-pub const MOST_PARTS: usize = 4;
+pub const MOST_PARTS: usize = 5;
 
 const LONG: Part = Part::One(Slot::Number(0xffff_ffff_ffff_ffff));
 
@@ -57,12 +59,14 @@ const SHORT: Part = Part::One(Slot::Number(0xffff_ffff));
 const FLAGS: Part = Part::Named(Suffix::Flags, Slot::Number(0xff_ffff));
 
 /// The first words of lines.
-const FIRST_WORDS: [(&[u8], Word); 7] = [
+const FIRST_WORDS: [(&[u8], Word); 9] = [
     (b"image", Word::Image),
     (b"page", Word::Page),
     (b"poke", Word::Poke),
     (b"noop", Word::NoOp),
+    (b"move", Word::Move),
     (b"fill", Word::Fill),
+    (b"dualcast", Word::Dualcast),
     (b"raw", Word::Raw),
     (b"show", Word::Show),
 ];
@@ -96,7 +100,8 @@ pub fn parts_of(word: Word) -> &'static [Part]
         Word::Page => &[LONG, Part::Maybe(Slot::Digits(2, 8192))],
         Word::Poke => &[LONG, Part::One(Slot::Digits(2, 8192))],
         Word::NoOp => &[FLAGS],
-        Word::Fill => &[LONG, LONG, SHORT, FLAGS],
+        Word::Move | Word::Fill => &[LONG, LONG, SHORT, FLAGS],
+        Word::Dualcast => &[LONG, LONG, LONG, SHORT, FLAGS],
         Word::Raw => &[Part::One(Slot::Digits(128, 128))],
         Word::Show => &[LONG, LONG],
     }

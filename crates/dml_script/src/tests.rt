@@ -37,7 +37,7 @@ fn each_kind_of_fault(rt: HostRuntime) {
     for (text, line, kind) in [
         ("image 1\nnoop\u{e9}", 2, Kind::NotAscii),
         ("image 1\nnoop\u{7f}", 2, Kind::NotAscii),
-        ("image 1\nmove 0 0 0", 2, Kind::UnknownWord),
+        ("image 1\ncompare 0 0 0", 2, Kind::UnknownWord),
         ("image 1\nNOOP", 2, Kind::UnknownWord),
         ("image 1\nfil 0 0 0", 2, Kind::UnknownWord),
         ("image 1\nfills 0 0 0", 2, Kind::UnknownWord),
@@ -54,6 +54,17 @@ fn each_kind_of_fault(rt: HostRuntime) {
         ("image 1\nnoop flags 1 flags 2", 2, Kind::WrongWords),
         ("image 1\nfill 0 0 0 0", 2, Kind::WrongWords),
         ("image 1\nfill 0 0 0 check 1", 2, Kind::WrongWords),
+        ("image 1\nmove 0 0", 2, Kind::WrongWords),
+        ("image 1\nmove 0 0 0 0", 2, Kind::WrongWords),
+        ("image 1\ndualcast 0 0 0", 2, Kind::WrongWords),
+        ("image 1\ndualcast 0 0 0 0 0", 2, Kind::WrongWords),
+        ("image 1\nmove 0 0 4294967296", 2, Kind::BadNumber),
+        ("image 1\ndualcast 0 0 0 4294967296", 2, Kind::BadNumber),
+        (
+            "image 1\ndualcast 0 0 0 0 flags 0x1000000",
+            2,
+            Kind::BadNumber,
+        ),
         ("image 1\nfill 1 0 flags", 2, Kind::BadNumber),
         ("image 1\nfill 1 flags 2", 2, Kind::BadNumber),
         ("image 1\nfill 0 0 4294967296", 2, Kind::BadNumber),
@@ -100,7 +111,8 @@ fn the_first_of_two_faults_on_a_line(rt: HostRuntime) {
     for (text, line, kind) in [
         ("im\u{e9}ge 1", 1, Kind::NotAscii),
         ("noop\u{e9}", 1, Kind::NotAscii),
-        ("move 0 0 0", 1, Kind::UnknownWord),
+        ("compare 0 0 0", 1, Kind::UnknownWord),
+        ("move 0 0", 1, Kind::MissingImage),
         ("noop 1", 1, Kind::MissingImage),
         ("image 1\nimage", 2, Kind::SecondImage),
         ("image 1\nimage 0", 2, Kind::SecondImage),
@@ -111,7 +123,7 @@ fn the_first_of_two_faults_on_a_line(rt: HostRuntime) {
         ("image 1\npage 7 0", 2, Kind::BadHex),
         ("image 1\npoke 0 0", 2, Kind::BadHex),
         ("image 1\npage 1\nmove", 2, Kind::BadRange),
-        ("image 1\nmove\npage 1", 2, Kind::UnknownWord),
+        ("image 1\ncompare\npage 1", 2, Kind::UnknownWord),
     ] {
         assert_eq!(rt;
             fault_of(&rt, rt.alloc(), text.as_bytes()),
@@ -259,7 +271,7 @@ fn longest_lines_and_words(rt: HostRuntime) -> Result<(), Fail> {
 #[test]
 fn each_line_is_read(rt: HostRuntime) -> Result<(), Fail> {
     let text =
-        b"image 4096\npage 4095 00fF\npage 0\npoke 4094 0102\nnoop flags 0x10\nfill 0x0807 4090 12\nshow 4088 65536\nraw 000000000C0000040000000000000000001000000000000000200000000000006400000000000000000000000000000000000000000000000000000000000000\n";
+        b"image 4096\npage 4095 00fF\npage 0\npoke 4094 0102\nnoop flags 0x10\nfill 0x0807 4090 12\nshow 4088 65536\nraw 000000000C0000040000000000000000001000000000000000200000000000006400000000000000000000000000000000000000000000000000000000000000\nmove 1 2 3 flags 4\ndualcast 1 2 0xffffffffffffffff 0xffffffff flags 0xffffff\ndualcast 4 3 2 1\n";
     let lines = [
         "Image { pages: 4096 }",
         "Page { page: 4095, bytes: Bytes { list: [0, 255] } }",
@@ -269,6 +281,9 @@ fn each_line_is_read(rt: HostRuntime) -> Result<(), Fail> {
         "Job(Job { opcode: 4, flags: 0, source: 2055, target: 4090, size: 12, extra: 0, delta_size: 0, expected: 0 })",
         "Show { addr: 4088, len: 65536 }",
         "Job(Job { opcode: 4, flags: 12, source: 4096, target: 8192, size: 100, extra: 0, delta_size: 0, expected: 0 })",
+        "Job(Job { opcode: 3, flags: 4, source: 1, target: 2, size: 3, extra: 0, delta_size: 0, expected: 0 })",
+        "Job(Job { opcode: 9, flags: 16777215, source: 1, target: 2, size: 4294967295, extra: 18446744073709551615, delta_size: 0, expected: 0 })",
+        "Job(Job { opcode: 9, flags: 0, source: 4, target: 3, size: 1, extra: 2, delta_size: 0, expected: 0 })",
     ];
     let Ok(script) = read_script(rt.alloc(), text) else {
         panic!(rt; "not read");
@@ -299,12 +314,12 @@ fn raw_lines(rt: HostRuntime) -> Result<(), Fail> {
         ("0a", 128, None),
         ("10", 128, None),
         ("fF", 128, None),
-        ("03", 128, Some((2, Kind::UnknownWord))),
+        ("03", 128, None),
         ("05", 128, Some((2, Kind::UnknownWord))),
         ("06", 128, Some((2, Kind::UnknownWord))),
         ("07", 128, Some((2, Kind::UnknownWord))),
         ("08", 128, Some((2, Kind::UnknownWord))),
-        ("09", 128, Some((2, Kind::UnknownWord))),
+        ("09", 128, None),
         // short_raw_line
         ("00", 126, Some((2, Kind::BadHex))),
         ("03", 127, Some((2, Kind::BadHex))),

@@ -23,14 +23,17 @@ pub const CHUNK: &str = "How many bytes one task covers, a multiple of 8 from 8 
 pub const ARENA: &str = "How many bytes the staging arena has, 0 to 16777216";
 
 pub const SCRIPT: &str = "The lines of a script; numbers are decimal, or hexadecimal after 0x:
-  image P             an image of P pages, none of them present; the first line
-  page N [HEX]        make page N present, with the bytes of HEX and then zeros
-  poke ADDR HEX       write bytes, which must be present
-  noop                a job that does nothing
-  fill PATTERN DST N  a job that fills N bytes from DST on with an 8-byte pattern
-  raw HEX             the job of a descriptor of 64 bytes
-  show ADDR LEN       show LEN bytes from ADDR on, as -- where they are absent
-A line of noop or fill may end with: flags F. A line that begins with # is a comment.
+  image P                  an image of P pages, none of them present; the first line
+  page N [HEX]             make page N present, with the bytes of HEX and then zeros
+  poke ADDR HEX            write bytes, which must be present
+  noop                     a job that does nothing
+  move SRC DST N           a job that moves N bytes; the ranges may overlap
+  fill PATTERN DST N       a job that fills N bytes from DST on with an 8-byte pattern
+  dualcast SRC DST DST2 N  a job that copies N bytes to two places
+  raw HEX                  the job of a descriptor of 64 bytes
+  show ADDR LEN            show LEN bytes from ADDR on, as -- where they are absent
+A line of noop, move, fill or dualcast may end with: flags F. A line that begins with # is a
+comment.
 
 For example, with the script in the file first.script:
   dmljob run --workers 2 < first.script";

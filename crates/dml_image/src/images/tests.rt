@@ -64,6 +64,18 @@ fn last_page(rt: HostRuntime) -> Result<(), Fail> {
 }
 
 #[test]
+fn part_ends_with_its_page(rt: HostRuntime) -> Result<(), Fail> {
+    let mut image = image_with(rt.alloc(), 2, &[0, 1])?;
+    assert!(rt; image.first_absent(4093, 4, Direction::Forward).is_none());
+    image.write(4093, &[1, 2, 3, 4]);
+    assert!(rt; image.has(4093));
+    assert_eq!(rt; image.part(4093, 4), [1, 2, 3].as_slice());
+    assert_eq!(rt; image.part(4093, 2), [1, 2].as_slice());
+    assert!(rt; image.part(4093, 0).is_empty());
+    Ok(())
+}
+
+#[test]
 fn write_over_page_edge(rt: HostRuntime) -> Result<(), Fail> {
     let mut image = image_with(rt.alloc(), 2, &[0, 1])?;
     assert!(rt; image.first_absent(4094, 4, Direction::Forward).is_none());

@@ -1,0 +1,133 @@
+//! Times `Engine::submit` with one worker: moves, fills and dualcasts, disjoint and overlapping.
+//!
+//! Each row of the standard error is a name, a size in bytes, and the nanoseconds of one job. Without
+//! arguments each job is timed once, which shows only that it is carried out. One argument, a number of
+//! mebibytes, measures: a row is then the mean of as many jobs as cover that much, at most 200,000.
+#![tactic(auto)]
+
+ghost use Rattle.std.specs.Prelude.{◌≡◌, ◌≢◌, ◌<◌, ◌≤◌, Some};
+ghost use Rattle.dml_types.specs.declared.operations.Op.TheVariants.{ApplyDelta, Compare, ComparePattern, CreateDelta};
+ghost use Rattle.dml_types.specs.Job.{op_of};
+ghost use Rattle.dml_types.specs.Step.{step};
+
+use dml_engine::Engine;
+use dml_image::Image;
+use dml_types::{Job, Settings, Status};
+use std::alloc::Global;
+use std::time::Instant;
+use std::{env, io};
+
+const PAGES: u32 = 1024;
+
+const MEBIBYTE: u32 = 1_048_576;
+
+const SIZES: [u32; 4] = [64, 4096, 65_536, MEBIBYTE];
+
+const SETTINGS: Settings = Settings {
+    staging: MEBIBYTE,
+    chunk: 4096,
+    workers: 1,
+};
+
+const MOST_JOBS: u64 = 200_000;
+
+/// The number of mebibytes that the first argument asks for, 0 without one.
+fn mebibytes_in(rt: &HostRuntime) -> io::Result<u32> {
+    match env::args(rt)?.nth(1) {
+        None => Ok(0),
+        Some(word) => word.parse().map_err(|_| io::ErrorKind::InvalidInput.into()),
+    }
+}
+
+/// How many jobs of a size cover so many mebibytes, at least one.
+fn jobs_of(mebibytes: u32, size: u32) -> u64
+    requires { 0 < size }
+    ensures some { 0 < result }
+    ensures most { result ≤ 200000 }
+{
+    let jobs = u64::from(mebibytes) * u64::from(MEBIBYTE) / u64::from(size);
+    jobs.clamp(1, MOST_JOBS)
+}
+
+/// An image of 4 MiB, all present.
+fn full_image(alloc: Global) -> io::Result<Image> {
+    let Ok(mut image) = Image::new(alloc, PAGES) else {
+        return Err(io::ErrorKind::OutOfMemory.into());
+    };
+    for page in 0..PAGES {
+        if image.bring(page, &[0x5a; 4096]).is_err() {
+            return Err(io::ErrorKind::OutOfMemory.into());
+        }
+    }
+    Ok(image)
+}
+
+/// Submits a job, by a call that the compiler keeps, so that nothing of it is done once for many.
+#[inline(never)]
+fn submitted(engine: &mut Engine, job: Job) -> Status
+    requires operation { (op_of job ≢ Some Compare) × (op_of job ≢ Some ComparePattern) × (op_of job ≢ Some CreateDelta) × (op_of job ≢ Some ApplyDelta) }
+    ensures { result ≡ (step engine.old.image job engine.old.settings.staging).1.status }
+{
+    engine.submit(job).status
+}
+
+/// Carries out a job once, and then times so many more of it.
+fn time(rt: &HostRuntime, engine: &mut Engine, name: &str, job: Job, jobs: u64) -> io::Result<()>
+    requires operation { (op_of job ≢ Some Compare) × (op_of job ≢ Some ComparePattern) × (op_of job ≢ Some CreateDelta) × (op_of job ≢ Some ApplyDelta) }
+    requires some { 0 < jobs }
+{
+    submitted(engine, job);
+    let start = Instant::now(rt)?;
+    for _ in 0..jobs {
+        if submitted(engine, job) != Status::Success {
+            return Err(io::ErrorKind::InvalidData.into());
+        }
+    }
+    let nanoseconds = start.elapsed(rt)?.as_nanos() / u128::from(jobs);
+    eprintln!(rt; "{name} {} {nanoseconds}", job.size)
+}
+
+/// Times each kind of job at one size.
+fn time_at(rt: &HostRuntime, engine: &mut Engine, size: u32, jobs: u64) -> io::Result<()>
+    requires size { size ≤ 1048576 }
+    requires some { 0 < jobs }
+{
+    let mebibyte = u64::from(MEBIBYTE);
+    let (middle, half) = (2 * mebibyte, u64::from(size / 2));
+    let pattern = 0x0807_0605_0403_0201;
+    time(rt, engine, "move", Job::move_bytes(0, mebibyte, size), jobs)?;
+    time(
+        rt,
+        engine,
+        "move_down",
+        Job::move_bytes(middle, middle - half, size),
+        jobs,
+    )?;
+    time(
+        rt,
+        engine,
+        "move_up",
+        Job::move_bytes(middle, middle + half, size),
+        jobs,
+    )?;
+    time(rt, engine, "fill", Job::fill(pattern, mebibyte, size), jobs)?;
+    time(
+        rt,
+        engine,
+        "dualcast",
+        Job::dualcast(0, mebibyte, middle, size),
+        jobs,
+    )
+}
+
+fn main(rt: HostRuntime) -> io::Result<()> {
+    let mebibytes = mebibytes_in(&rt)?;
+    let image = full_image(rt.alloc())?;
+    let Ok(mut engine) = Engine::new(rt.alloc(), image, SETTINGS) else {
+        return Err(io::ErrorKind::OutOfMemory.into());
+    };
+    for size in SIZES {
+        time_at(&rt, &mut engine, size, jobs_of(mebibytes, size))?;
+    }
+    println!(rt; "{} sizes", SIZES.len())
+}

@@ -1,0 +1,22 @@
+-- What a contract sees of an effect: the record that answers, and the puts that its code keeps.
+use Rattle.std.specs.Prelude.{Bool, List, [], ◌∷◌, length, None, Some}
+use Rattle.std.specs.List.{list_all}
+use Rattle.dml_types.specs.Memory.{Memory, Put, put_of, has_all}
+use Rattle.dml_types.specs.Effect.{Effect, effect_of}
+use Rattle.dml_types.specs.Pattern.{pattern_bytes}
+use Rattle.dml_effect.specs.declared.effects.Puts.{Puts}
+use Rattle.dml_effect.specs.declared.effects.Puts.TheVariants.{Nothing, Staged, Pattern}
+use Rattle.dml_effect.specs.declared.effects.Effect.TheInside.{Inside}
+
+abbrev pub puts_of : Puts → List Put
+puts_of Nothing = []
+puts_of (Staged first None bytes) = put_of first bytes.bytes ∷ []
+puts_of (Staged first (Some second) bytes) = put_of first bytes.bytes ∷ put_of second bytes.bytes ∷ []
+puts_of (Pattern address len pattern) = put_of address (pattern_bytes pattern len) ∷ []
+
+abbrev pub effect_view : Inside → Effect
+effect_view e = effect_of (puts_of e.puts) e.answer
+
+-- each byte that is put is present
+abbrev pub are_present : Memory → List Put → Bool
+are_present memory puts = list_all (λ p. has_all memory p.address (length p.bytes)) puts

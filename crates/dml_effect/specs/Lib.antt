@@ -1,0 +1,3 @@
+pub mod Chunks
+pub mod Effects
+pub mod Joined

@@ -1,0 +1,195 @@
+use crate::commit;
+use crate::uses::{moved_in_two, submitted};
+use dml_arena::Arena;
+use dml_desc::check;
+use dml_image::{Image, ImageError};
+use dml_types::{Direction, Job, Op, Record, Status};
+use std::alloc::Global;
+use std::process::Abort;
+use std::test::Fail;
+
+/// The staging size of a run without options.
+const STAGING: u32 = 1_048_576;
+
+/// An image of `pages` pages, those of `brought` present and full of 0.
+fn image_with(alloc: Global, pages: u32, brought: &[u32]) -> Result<Image, ImageError> {
+    let mut image = Image::new(alloc, pages)?;
+    for page in brought {
+        image.bring(*page, &[0; 4096])?;
+    }
+    Ok(image)
+}
+
+/// Writes bytes, which must be present.
+fn poke(rt: &impl Abort, image: &mut Image, addr: u64, bytes: &[u8]) {
+    for (place, byte) in (addr..u64::MAX).zip(bytes) {
+        assert!(rt; image.first_absent(place, 1, Direction::Forward).is_none());
+        image.write(place, &[*byte]);
+    }
+}
+
+/// Whether the bytes from `addr` on are present and these.
+fn shows(image: &Image, addr: u64, bytes: &[u8]) -> bool {
+    (addr..u64::MAX)
+        .zip(bytes)
+        .all(|(place, byte)| image.byte(place) == Some(*byte))
+}
+
+/// A record without a delta size.
+fn record(status: Status, outcome: u8, completed: u32, fault: u64) -> Record {
+    Record {
+        status,
+        result: outcome,
+        completed,
+        fault,
+        delta_size: 0,
+    }
+}
+
+#[test]
+fn no_op(rt: HostRuntime) -> Result<(), Fail> {
+    let mut image = image_with(rt.alloc(), 1, &[])?;
+    let mut arena = Arena::new(rt.alloc(), 0)?;
+    let answer = submitted(&mut image, &mut arena, &Job::no_op());
+    assert_eq!(rt; answer, record(Status::Success, 0, 0, 0));
+    Ok(())
+}
+
+#[test]
+fn forward_move_over_itself(rt: HostRuntime) -> Result<(), Fail> {
+    let mut image = image_with(rt.alloc(), 1, &[0])?;
+    let mut arena = Arena::new(rt.alloc(), 100)?;
+    let low = [
+        0xa0, 0xa1, 0xa2, 0xa3, 0xa4, 0xa5, 0xa6, 0xa7, 0xa8, 0xa9, 0xaa, 0xab,
+    ];
+    poke(&rt, &mut image, 0, &low);
+    poke(&rt, &mut image, 100, &[0xd0, 0xd1, 0xd2, 0xd3, 0xd4, 0xd5]);
+    let answer = submitted(&mut image, &mut arena, &Job::move_bytes(4, 0, 100));
+    assert_eq!(rt; answer, record(Status::Success, 0, 100, 0));
+    assert!(rt;
+        shows(
+            &image,
+            0,
+            &[0xa4, 0xa5, 0xa6, 0xa7, 0xa8, 0xa9, 0xaa, 0xab, 0, 0]
+        )
+    );
+    assert!(rt;
+        shows(
+            &image,
+            94,
+            &[
+                0, 0, 0xd0, 0xd1, 0xd2, 0xd3, 0xd0, 0xd1, 0xd2, 0xd3, 0xd4, 0xd5
+            ]
+        )
+    );
+    Ok(())
+}
+
+#[test]
+fn backward_move_into_absent_page(rt: HostRuntime) -> Result<(), Fail> {
+    let mut image = image_with(rt.alloc(), 2, &[0])?;
+    let mut arena = Arena::new(rt.alloc(), 4096)?;
+    poke(&rt, &mut image, 0, &[1, 2, 3, 4, 5]);
+    let answer = submitted(&mut image, &mut arena, &Job::move_bytes(0, 4, 4096));
+    assert_eq!(rt; answer, record(Status::WriteFault, 1, 0, 4099));
+    assert!(rt; shows(&image, 0, &[1, 2, 3, 4, 5, 0, 0, 0]));
+    Ok(())
+}
+
+#[test]
+fn backward_move_stops_at_page_edge(rt: HostRuntime) -> Result<(), Fail> {
+    let mut image = image_with(rt.alloc(), 3, &[0, 2])?;
+    let mut arena = Arena::new(rt.alloc(), 12_272)?;
+    poke(&rt, &mut image, 8192, &[1, 2]);
+    let answer = submitted(&mut image, &mut arena, &Job::move_bytes(0, 8, 12_272));
+    assert_eq!(rt; answer, record(Status::ReadFault, 1, 4080, 8191));
+    assert!(rt; shows(&image, 8192, &[1, 2, 0, 0, 0, 0, 0, 0, 1, 2, 0, 0]));
+    Ok(())
+}
+
+#[test]
+fn dualcast_write_fault(rt: HostRuntime) -> Result<(), Fail> {
+    let mut image = image_with(rt.alloc(), 4, &[0, 1, 3])?;
+    let mut arena = Arena::new(rt.alloc(), 5)?;
+    poke(&rt, &mut image, 0, &[1, 2, 3, 4, 5]);
+    let answer = submitted(&mut image, &mut arena, &Job::dualcast(0, 8190, 16_382, 5));
+    assert_eq!(rt; answer, record(Status::WriteFault, 0, 2, 8192));
+    assert!(rt; shows(&image, 8190, &[1, 2]));
+    assert!(rt; shows(&image, 16_382, &[1, 2]));
+    Ok(())
+}
+
+#[test]
+fn dualcast_refusals(rt: HostRuntime) -> Result<(), Fail> {
+    let mut image = image_with(rt.alloc(), 4, &[0])?;
+    let mut arena = Arena::new(rt.alloc(), STAGING)?;
+    let bits = submitted(&mut image, &mut arena, &Job::dualcast(0, 8, 16, 100));
+    assert_eq!(rt; bits, record(Status::DualcastBits, 0, 0, 0));
+    let overlap = submitted(&mut image, &mut arena, &Job::dualcast(0, 4096, 8192, 4097));
+    assert_eq!(rt; overlap, record(Status::Overlap, 0, 0, 0));
+    let absent = submitted(&mut image, &mut arena, &Job::dualcast(0, 4096, 8192, 4));
+    assert_eq!(rt; absent, record(Status::WriteFault, 0, 0, 4096));
+    Ok(())
+}
+
+#[test]
+fn end_of_address_space(rt: HostRuntime) -> Result<(), Fail> {
+    let mut image = image_with(rt.alloc(), 1, &[0])?;
+    let mut arena = Arena::new(rt.alloc(), STAGING)?;
+    let past = Job::move_bytes(0xffff_ffff_ffff_fff0, 0, 17);
+    let answer = submitted(&mut image, &mut arena, &past);
+    assert_eq!(rt; answer, record(Status::RangePast, 0, 0, 0));
+    let last = Job::move_bytes(0xffff_ffff_ffff_fff0, 0, 16);
+    let answer = submitted(&mut image, &mut arena, &last);
+    assert_eq!(rt;
+        answer,
+        record(Status::ReadFault, 0, 0, 18_446_744_073_709_551_600)
+    );
+    Ok(())
+}
+
+#[test]
+fn fill_into_absent_page(rt: HostRuntime) -> Result<(), Fail> {
+    let mut image = image_with(rt.alloc(), 2, &[0])?;
+    let mut arena = Arena::new(rt.alloc(), 0)?;
+    let job = Job::fill(0x0807_0605_0403_0201, 4090, 12);
+    let answer = submitted(&mut image, &mut arena, &job);
+    assert_eq!(rt; answer, record(Status::WriteFault, 0, 6, 4096));
+    assert!(rt; shows(&image, 4088, &[0, 0, 1, 2, 3, 4, 5, 6]));
+    assert_eq!(rt; image.byte(4096), None);
+    Ok(())
+}
+
+/// Carries out a move that is scanned in two chunks, cut at `edge`.
+#[tactic(auto, using(dml_desc::proofs::CheckedLemmas::need_within))]
+fn carried_in_two(
+    rt: &impl Abort,
+    image: &mut Image,
+    arena: &mut Arena,
+    job: &Job,
+    edge: u32,
+) -> Record {
+    let Ok(checked) = check(job, arena.size()) else {
+        panic!(rt; "{job:?} is refused");
+    };
+    assert!(rt; checked.op() == Op::Move && edge <= job.size);
+    let room = arena.open();
+    let effect = moved_in_two(image, &checked, edge, room);
+    let answer = *effect.answer();
+    assert_eq!(rt; commit(image, effect), answer);
+    answer
+}
+
+#[test]
+fn moves_in_two_chunks(rt: HostRuntime) -> Result<(), Fail> {
+    for edge in [0, 8, 4080, 4096, 8184, 8192, 12_272] {
+        let mut image = image_with(rt.alloc(), 3, &[0, 2])?;
+        let mut arena = Arena::new(rt.alloc(), 12_272)?;
+        poke(&rt, &mut image, 8192, &[1, 2]);
+        let job = Job::move_bytes(0, 8, 12_272);
+        let answer = carried_in_two(&rt, &mut image, &mut arena, &job, edge);
+        assert_eq!(rt; answer, record(Status::ReadFault, 1, 4080, 8191));
+        assert!(rt; shows(&image, 8192, &[1, 2, 0, 0, 0, 0, 0, 0, 1, 2, 0, 0]));
+    }
+    Ok(())
+}

@@ -1,0 +1,120 @@
+use crate::{Engine, EngineError};
+use dml_image::Image;
+use dml_types::{Job, Record, Settings, Status};
+use std::alloc::Global;
+use std::test::Fail;
+
+const USUAL: Settings = Settings {
+    staging: 1_048_576,
+    chunk: 4096,
+    workers: 4,
+};
+
+/// An engine over an image of two pages, of which the first is present.
+fn engine(alloc: Global) -> Result<Engine, Fail> {
+    let mut image = Image::new(alloc, 2)?;
+    image.bring(0, &[0; 4096])?;
+    let engine = Engine::new(alloc, image, USUAL).map_err(|refused| refused.1)?;
+    Ok(engine)
+}
+
+/// A record by its five values.
+fn answer(status: Status, result: u8, completed: u32, fault: u64) -> Record {
+    Record {
+        status,
+        result,
+        completed,
+        fault,
+        delta_size: 0,
+    }
+}
+
+#[test]
+fn settings_out_of_range(rt: HostRuntime) -> Result<(), Fail> {
+    let image = Image::new(rt.alloc(), 1)?;
+    let settings = Settings { chunk: 12, ..USUAL };
+    match Engine::new(rt.alloc(), image, settings) {
+        Ok(_) => Err("the settings were taken".into()),
+        Err((image, error)) => {
+            assert_eq!(rt; error, EngineError::BadSettings);
+            assert_eq!(rt; image.pages(), 1);
+            Ok(())
+        }
+    }
+}
+
+#[test]
+fn resume_a_fill(rt: HostRuntime) -> Result<(), Fail> {
+    let mut engine = engine(rt.alloc())?;
+    let stopped = engine.submit(Job::fill(0x0807_0605_0403_0201, 4091, 9));
+    assert_eq!(rt; stopped, answer(Status::WriteFault, 0, 5, 4096));
+    engine.bring(1, &[0; 4096])?;
+    let rest = engine.submit(Job::fill(0x0504_0302_0108_0706, 4096, 4));
+    assert_eq!(rt; rest, answer(Status::Success, 0, 4, 0));
+    let image = engine.image();
+    for (addr, byte) in [
+        (4091, 1),
+        (4095, 5),
+        (4096, 6),
+        (4097, 7),
+        (4098, 8),
+        (4099, 1),
+    ] {
+        assert_eq!(rt; image.byte(addr), Some(byte));
+    }
+    Ok(())
+}
+
+#[test]
+fn each_call(rt: HostRuntime) -> Result<(), Fail> {
+    let mut engine = engine(rt.alloc())?;
+    assert!(rt;
+        engine
+            .image()
+            .first_absent(8, 3, dml_types::Direction::Forward)
+            .is_none()
+    );
+    engine.write(8, &[1, 2, 3]);
+    assert_eq!(rt;
+        engine.submit(Job::no_op()),
+        answer(Status::Success, 0, 0, 0)
+    );
+    assert_eq!(rt;
+        engine.submit(Job::no_op().with_flags(0x10)),
+        answer(Status::BadFlags, 0, 0, 0)
+    );
+    assert_eq!(rt;
+        engine.submit(Job::move_bytes(8, 10, 3)),
+        answer(Status::Success, 1, 3, 0)
+    );
+    assert_eq!(rt;
+        engine.submit(Job::dualcast(10, 4096, 8192, 3)),
+        answer(Status::WriteFault, 0, 0, 4096)
+    );
+    let image = engine.into_image();
+    assert_eq!(rt; image.byte(10), Some(1));
+    assert_eq!(rt; image.byte(12), Some(3));
+    assert_eq!(rt; image.byte(13), Some(0));
+    Ok(())
+}
+
+/// To be run with each growth of memory refused in turn: the engine, or the image as it was.
+#[test]
+fn refused_new(rt: HostRuntime) -> Result<(), Fail> {
+    let Ok(mut image) = Image::new(rt.alloc(), 1) else {
+        return Ok(());
+    };
+    if image.bring(0, &[7; 4096]).is_err() {
+        return Ok(());
+    }
+    let image = match Engine::new(rt.alloc(), image, USUAL) {
+        Ok(engine) => engine.into_image(),
+        Err((image, error)) => {
+            assert_eq!(rt; error, EngineError::NoMemory);
+            image
+        }
+    };
+    assert_eq!(rt; image.pages(), 1);
+    assert_eq!(rt; image.byte(4095), Some(7));
+    Ok(())
+}

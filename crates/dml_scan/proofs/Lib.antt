@@ -1,0 +1,3 @@
+pub mod LimitLemmas
+pub mod ReachLemmas
+pub mod StageLemmas

@@ -1,0 +1,10 @@
+-- How much of a chunk a scan did.
+use Rattle.std.specs.Prelude.{ℕ}
+use Rattle.dml_types.specs.declared.findings.Found.{Found}
+use Rattle.dml_types.specs.declared.findings.Found.TheVariants.{All, Differs, Fault}
+
+-- of n bytes
+abbrev pub done_of : ℕ → Found → ℕ
+done_of n All = n
+done_of n (Differs done) = done
+done_of n (Fault done place write) = done

@@ -1,0 +1,159 @@
+//! How far a scan goes in a range, and what stops it.
+
+ghost use Rattle.std.specs.Prelude.{◌≡◌, ◌+◌, ◌-◌, ◌^◌, ◌<◌, ◌≤◌, Some, true, false};
+ghost use Rattle.dml_types.specs.declared.operations.Op.TheVariants.{Fill, Move, Dualcast};
+ghost use Rattle.dml_types.specs.Job.{op_of};
+ghost use Rattle.dml_types.specs.Copy.{direction_of};
+ghost use Rattle.dml_types.specs.Memory.{offset_in, present_toward};
+ghost use Rattle.dml_types.specs.Chunk.{scan_found};
+ghost use Rattle.dml_scan.specs.Found.{done_of};
+
+use dml_desc::Checked;
+use dml_image::Image;
+use dml_types::{Direction, Found, Job};
+
+/// The bytes of a range before its first absent one, in the order of a direction.
+fn present_bytes(image: &Image, addr: u64, len: u32, direction: Direction) -> u32
+    requires { addr + len ≤ 2 ^ 64 }
+    ensures count { result ≡ present_toward direction image.now addr len }
+    ensures within { result ≤ len }
+{
+    image.first_absent(addr, len, direction).unwrap_or(len)
+}
+
+/// How many of the `len` bytes of a chunk were done, where its scan ended so.
+pub fn done_in(found: Found, len: u32) -> u32
+    ensures { result ≡ done_of len found }
+{
+    match found {
+        Found::All => len,
+        Found::Differs { done } | Found::Fault { done, .. } => done,
+    }
+}
+
+/// The end at an absent byte that was to be read.
+fn read_fault(done: u32, place: u64) -> Found
+    ensures { result ≡ Found.Fault done place false }
+{
+    Found::Fault {
+        done,
+        place,
+        write: false,
+    }
+}
+
+/// The end at an absent byte that was to be written.
+fn write_fault(done: u32, place: u64) -> Found
+    ensures { result ≡ Found.Fault done place true }
+{
+    Found::Fault {
+        done,
+        place,
+        write: true,
+    }
+}
+
+/// How the scan of a chunk of a fill ends.
+#[tactic(auto, using(crate::proofs::LimitLemmas::fill_limits, crate::proofs::ReachLemmas::found_none, crate::proofs::ReachLemmas::fill_all, crate::proofs::ReachLemmas::fill_stops))]
+pub fn fill_found(image: &Image, job: &Checked, from: u32, to: u32) -> Found
+    requires operation { op_of job.now ≡ Some Fill }
+    requires order { from ≤ to }
+    requires within { to ≤ job.now.size }
+    ensures { result ≡ scan_found Fill image.now job.now from to }
+{
+    if from == to {
+        return Found::All; // its place may be 2^64
+    }
+    let job = job.job();
+    let len = to - from;
+    let addr = job.target + u64::from(from);
+    let done = present_bytes(image, addr, len, Direction::Forward);
+    if done == len {
+        return Found::All;
+    }
+    write_fault(done, addr + u64::from(done))
+}
+
+/// The direction of a move: backward where its destination begins inside its source, behind the first byte.
+pub fn move_direction(job: &Job) -> Direction
+    ensures { result ≡ direction_of job.now }
+{
+    if job.source < job.target && job.target - job.source < u64::from(job.size) {
+        Direction::Backward
+    } else {
+        Direction::Forward
+    }
+}
+
+/// The offset in a range of `len` bytes that is next in a direction, once `done` bytes are done.
+fn next_offset(direction: Direction, len: u32, done: u32) -> u64
+    requires { done < len }
+    ensures value { result ≡ offset_in direction len done }
+    ensures within { result < len }
+{
+    u64::from(match direction {
+        Direction::Forward => done,
+        Direction::Backward => len - 1 - done,
+    })
+}
+
+/// How the scan of a chunk of a move ends: at one offset the read comes before the write.
+#[tactic(auto, using(crate::proofs::LimitLemmas::move_limits, crate::proofs::ReachLemmas::found_none, crate::proofs::ReachLemmas::move_all, crate::proofs::ReachLemmas::move_reads, crate::proofs::ReachLemmas::move_writes))]
+pub fn move_found(image: &Image, job: &Checked, from: u32, to: u32) -> Found
+    requires operation { op_of job.now ≡ Some Move }
+    requires order { from ≤ to }
+    requires within { to ≤ job.now.size }
+    ensures { result ≡ scan_found Move image.now job.now from to }
+{
+    if from == to {
+        return Found::All; // its places may be 2^64
+    }
+    let job = job.job();
+    let len = to - from;
+    let direction = move_direction(job);
+    let source = job.source + u64::from(from);
+    let target = job.target + u64::from(from);
+    let readable = present_bytes(image, source, len, direction);
+    let writable = present_bytes(image, target, len, direction);
+    let done = readable.min(writable);
+    if done == len {
+        return Found::All;
+    }
+    let offset = next_offset(direction, len, done);
+    if !image.has(source + offset) {
+        return read_fault(done, source + offset);
+    }
+    write_fault(done, target + offset)
+}
+
+/// How the scan of a chunk of a dualcast ends: at one offset the read comes first, and then the writes in their order.
+#[tactic(auto, using(crate::proofs::LimitLemmas::dualcast_limits, crate::proofs::ReachLemmas::found_none, crate::proofs::ReachLemmas::dualcast_all, crate::proofs::ReachLemmas::dualcast_reads, crate::proofs::ReachLemmas::dualcast_writes, crate::proofs::ReachLemmas::dualcast_writes_second))]
+pub fn dualcast_found(image: &Image, job: &Checked, from: u32, to: u32) -> Found
+    requires operation { op_of job.now ≡ Some Dualcast }
+    requires order { from ≤ to }
+    requires within { to ≤ job.now.size }
+    ensures { result ≡ scan_found Dualcast image.now job.now from to }
+{
+    if from == to {
+        return Found::All; // its places may be 2^64
+    }
+    let job = job.job();
+    let len = to - from;
+    let source = job.source + u64::from(from);
+    let target = job.target + u64::from(from);
+    let extra = job.extra + u64::from(from);
+    let done = present_bytes(image, source, len, Direction::Forward)
+        .min(present_bytes(image, target, len, Direction::Forward))
+        .min(present_bytes(image, extra, len, Direction::Forward));
+    if done == len {
+        return Found::All;
+    }
+    let offset = u64::from(done);
+    if !image.has(source + offset) {
+        return read_fault(done, source + offset);
+    }
+    if !image.has(target + offset) {
+        return write_fault(done, target + offset);
+    }
+    write_fault(done, extra + offset)
+}

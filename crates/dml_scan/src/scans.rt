@@ -1,0 +1,148 @@
+ghost use Rattle.std.specs.Prelude.{◌≡◌, ◌+◌, ◌-◌, ◌^◌, ◌≤◌, ◌++◌, [], length, IsTrue};
+ghost use Rattle.dml_types.specs.declared.operations.Op.TheVariants.{Dualcast, Fill, Move};
+ghost use Rattle.dml_types.specs.Job.{op_of};
+ghost use Rattle.dml_types.specs.Copy.{done_from};
+ghost use Rattle.dml_types.specs.Memory.{bytes_at, has_all};
+ghost use Rattle.dml_types.specs.Chunk.{scan_found, scan_staged};
+
+use crate::reach::{done_in, dualcast_found, fill_found, move_direction, move_found};
+use crate::staging::stage;
+use dml_arena::Region;
+use dml_desc::Checked;
+use dml_image::Image;
+use dml_types::{Direction, Found, Job};
+
+/// What the scan of one chunk of a job gives.
+#[derive(Drop)]
+pub struct ScanPiece<'a> {
+    /// The job's offset, in bytes, at which the chunk begins.
+    pub from: u32,
+    /// The offset behind its last byte.
+    pub to: u32,
+    /// How far the scan went in the order of work, and why it stopped.
+    pub found: Found,
+    /// The source bytes of the offsets that were done, in address order; none for a fill.
+    pub staged: Region<'a>,
+}
+
+/// Scans the offsets from `from` up to `to` of a move, and stages the source bytes of those that were done.
+///
+/// A backward move is scanned from the chunk's end downwards, so its staged bytes are the chunk's last ones.
+/// The region is empty, with room for the whole chunk, and keeps its place and its room.
+pub fn scan_move<'a>(
+    image: &Image,
+    job: &Checked,
+    from: u32,
+    to: u32,
+    room: Region<'a>,
+) -> ScanPiece<'a>
+    requires operation { op_of job.now ≡ Some Move }
+    requires order { from ≤ to }
+    requires within { to ≤ job.now.size }
+    requires empty { room.bytes ≡ [] }
+    requires fits { to - from ≤ room.room }
+    ensures chunk { (result.from ≡ from) × (result.to ≡ to) }
+    ensures found { result.found ≡ scan_found Move image.now job.now from to }
+    ensures staged { result.staged.bytes ≡ scan_staged Move image.now job.now from to }
+    ensures place { (result.staged.opening ≡ room.entry.opening) × (result.staged.start ≡ room.entry.start) × (result.staged.room ≡ room.entry.room) }
+{
+    let mut staged = room;
+    let found = move_found(image, job, from, to);
+    let done = done_in(found, to - from);
+    let first = first_done(move_direction(job.job()), from, to, done);
+    stage_source(image, job.job(), first, done, &mut staged);
+    ScanPiece {
+        from,
+        to,
+        found,
+        staged,
+    }
+}
+
+/// Scans the offsets from `from` up to `to` of a fill, and stages nothing.
+///
+/// The region is empty, needs no room, and comes back as it was.
+pub fn scan_fill<'a>(
+    image: &Image,
+    job: &Checked,
+    from: u32,
+    to: u32,
+    room: Region<'a>,
+) -> ScanPiece<'a>
+    requires operation { op_of job.now ≡ Some Fill }
+    requires order { from ≤ to }
+    requires within { to ≤ job.now.size }
+    requires empty { room.bytes ≡ [] }
+    ensures chunk { (result.from ≡ from) × (result.to ≡ to) }
+    ensures found { result.found ≡ scan_found Fill image.now job.now from to }
+    ensures staged { result.staged.bytes ≡ scan_staged Fill image.now job.now from to }
+    ensures place { (result.staged.opening ≡ room.entry.opening) × (result.staged.start ≡ room.entry.start) × (result.staged.room ≡ room.entry.room) }
+{
+    ScanPiece {
+        from,
+        to,
+        found: fill_found(image, job, from, to),
+        staged: room,
+    }
+}
+
+/// Scans the offsets from `from` up to `to` of a dualcast, and stages the source bytes of those that were done.
+///
+/// They are staged once, for both destinations. The region is empty, with room for the whole chunk, and keeps
+/// its place and its room.
+pub fn scan_dualcast<'a>(
+    image: &Image,
+    job: &Checked,
+    from: u32,
+    to: u32,
+    room: Region<'a>,
+) -> ScanPiece<'a>
+    requires operation { op_of job.now ≡ Some Dualcast }
+    requires order { from ≤ to }
+    requires within { to ≤ job.now.size }
+    requires empty { room.bytes ≡ [] }
+    requires fits { to - from ≤ room.room }
+    ensures chunk { (result.from ≡ from) × (result.to ≡ to) }
+    ensures found { result.found ≡ scan_found Dualcast image.now job.now from to }
+    ensures staged { result.staged.bytes ≡ scan_staged Dualcast image.now job.now from to }
+    ensures place { (result.staged.opening ≡ room.entry.opening) × (result.staged.start ≡ room.entry.start) × (result.staged.room ≡ room.entry.room) }
+{
+    let mut staged = room;
+    let found = dualcast_found(image, job, from, to);
+    let done = done_in(found, to - from);
+    stage_source(image, job.job(), from, done, &mut staged);
+    ScanPiece {
+        from,
+        to,
+        found,
+        staged,
+    }
+}
+
+/// The offset of the first byte, in address order, of those that were done in a chunk.
+fn first_done(direction: Direction, from: u32, to: u32, done: u32) -> u32
+    requires order { from ≤ to }
+    requires within { done ≤ to - from }
+    ensures value { result ≡ from + done_from direction (to - from) done }
+    ensures within { result + done ≤ to }
+{
+    match direction {
+        Direction::Forward => from,
+        Direction::Backward => to - done,
+    }
+}
+
+/// Stages `done` bytes of a job's source from the offset `first` on.
+fn stage_source(image: &Image, job: &Job, first: u32, done: u32, room: &mut Region<'_>)
+    requires source { job.now.source + job.now.size ≤ 2 ^ 64 }
+    requires within { first + done ≤ job.now.size }
+    requires present { IsTrue (has_all image.now (job.now.source + first) done) }
+    requires fits { length room.old.bytes + done ≤ room.old.room }
+    ensures place { (room.new.opening ≡ room.old.opening) × (room.new.start ≡ room.old.start) × (room.new.room ≡ room.old.room) }
+    ensures bytes { room.new.bytes ≡ room.old.bytes ++ bytes_at image.now (job.now.source + first) done }
+{
+    if done == 0 {
+        return; // the source may end at 2^64
+    }
+    stage(image, job.source + u64::from(first), done, room);
+}

@@ -10,19 +10,18 @@ const USUAL: Settings = Settings {
     workers: 4,
 };
 
-/// An engine over an image of two pages, of which the first is present.
-fn engine(alloc: Global) -> Result<Engine, Fail> {
-    let mut image = Image::new(alloc, 2)?;
-    image.bring(0, &[0; 4096])?;
-    let engine = Engine::new(alloc, image, USUAL).map_err(|refused| refused.1)?;
-    Ok(engine)
+/// An engine over an image of two pages, of which the first is present; none where memory is wanting.
+fn engine(alloc: Global) -> Option<Engine> {
+    let mut image = Image::new(alloc, 2).ok()?;
+    image.bring(0, &[0; 4096]).ok()?;
+    Engine::new(alloc, image, USUAL).ok()
 }
 
 /// A record by its five values.
-fn answer(status: Status, result: u8, completed: u32, fault: u64) -> Record {
+fn answer(status: Status, outcome: u8, completed: u32, fault: u64) -> Record {
     Record {
         status,
-        result,
+        result: outcome,
         completed,
         fault,
         delta_size: 0,
@@ -45,7 +44,7 @@ fn settings_out_of_range(rt: HostRuntime) -> Result<(), Fail> {
 
 #[test]
 fn resume_a_fill(rt: HostRuntime) -> Result<(), Fail> {
-    let mut engine = engine(rt.alloc())?;
+    let mut engine = engine(rt.alloc()).ok_or("no memory")?;
     let stopped = engine.submit(Job::fill(0x0807_0605_0403_0201, 4091, 9));
     assert_eq!(rt; stopped, answer(Status::WriteFault, 0, 5, 4096));
     engine.bring(1, &[0; 4096])?;
@@ -67,7 +66,7 @@ fn resume_a_fill(rt: HostRuntime) -> Result<(), Fail> {
 
 #[test]
 fn each_call(rt: HostRuntime) -> Result<(), Fail> {
-    let mut engine = engine(rt.alloc())?;
+    let mut engine = engine(rt.alloc()).ok_or("no memory")?;
     assert!(rt;
         engine
             .image()
@@ -116,5 +115,21 @@ fn refused_new(rt: HostRuntime) -> Result<(), Fail> {
     };
     assert_eq!(rt; image.pages(), 1);
     assert_eq!(rt; image.byte(4095), Some(7));
+    Ok(())
+}
+
+/// To be run with each growth of memory refused in turn: whatever was refused, a job that is submitted is carried out.
+#[test]
+fn refused_submit(rt: HostRuntime) -> Result<(), Fail> {
+    let Some(mut engine) = engine(rt.alloc()) else {
+        return Ok(());
+    };
+    let moved = engine.submit(Job::move_bytes(0, 4090, 12));
+    assert_eq!(rt; moved, answer(Status::WriteFault, 0, 6, 4096));
+    assert_eq!(rt;
+        engine.submit(Job::fill(1, 8, 8)),
+        answer(Status::Success, 0, 8, 0)
+    );
+    assert_eq!(rt; engine.image().byte(8), Some(1));
     Ok(())
 }

@@ -175,6 +175,7 @@ words() {
     [ "$got" = 3 ] || complain "dmljob $*: status $got, not 3"
     [ ! -s "$work/out" ] || complain "dmljob $*: writes on the standard output"
     [ -s "$work/err" ] || complain "dmljob $*: says nothing"
+    ! grep -q '^dmljob: ' "$work/err" || complain "dmljob $*: is refused for more than its words"
 }
 
 words

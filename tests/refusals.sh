@@ -97,7 +97,7 @@ library() {
     done
 }
 
-printf 'image 2\npage 0 0102\npoke 4 ff\nnoop\nfill 7 8 16\nraw %0128d\nshow 0 32\n' 0 >"$work/small.script"
+printf 'image 2\npage 0 0102\npoke 4 ff\nnoop\nfill 7 8 16\nmove 0 4 16\ndualcast 0 64 4160 8\nraw %0128d\nshow 0 32\n' 0 >"$work/small.script"
 printf 'image 2\npage 0\nfill 1 2\n' >"$work/faulty.script"
 descriptor=000000000c000003000000000000000000100000000000000020000000000000
 descriptor=${descriptor}6400000000000000000000000000000000000000000000000000000000000000
@@ -113,6 +113,15 @@ program /dev/null run --help
 program /dev/null decode "$descriptor"
 program /dev/null decode 00
 program /dev/null
+# Each of these tests has to be there.
+for wanted in 'dml_arena refused_new' 'dml_image refused_new' 'dml_image refused_bring' 'dml_engine refused_new' \
+    'dml_engine refused_submit' 'dml_script refused_read_script' 'dml_script refused_out_text' \
+    'dml_script refused_job_text' 'dml_script refused_run_script' 'dmljob refused_command_of' 'dmljob refused_description'; do
+    binary=crates/${wanted% *}/out/${wanted% *}_tests
+    if ! "$binary" --list 2>/dev/null | grep -q "${wanted#* }:"; then
+        complain "${wanted% *}: there is no test ${wanted#* }"
+    fi
+done
 for name in $(sed -n 's/^\([a-z0-9_]*\)[^:#]*:.*/\1/p' crates.txt); do
     library "$name"
 done

@@ -87,6 +87,7 @@ fault 'image 1\nfill 1 2 0x100000000\n' 2 'not a number of the right size'
 fault 'image 1\nfill 1 0X2 3\n' 2 'not a number of the right size'
 fault 'image 1\npage 0 0\n' 2 'not hexadecimal text of the right length'
 fault 'image 1\nraw 00\n' 2 'not hexadecimal text of the right length'
+fault "image 1\\nraw $(printf '%0126d' 0)\\n" 2 'not hexadecimal text of the right length'
 fault 'image 1\nnoop \001\n' 2 'the line is not ASCII text'
 { printf 'image 1\nnoop '; filled 16380 | tr '#' ' '; printf '\n'; } >"$work/in"
 outcome 2 '' 'dmljob: line 2: the line is too long\n' run

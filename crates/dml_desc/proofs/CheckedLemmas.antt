@@ -10,8 +10,7 @@ use Rattle.dml_types.specs.declared.operations.Op.{Op}
 use Rattle.dml_types.specs.declared.operations.Op.TheVariants.{NoOp, Move, Fill, Compare, ComparePattern, CreateDelta, ApplyDelta, Dualcast}
 use Rattle.dml_types.specs.declared.statuses.Status.TheVariants.{BadFlags, BadSize, BadDeltaSize, Misaligned, DualcastBits, Overlap, RangePast, StagingRefused}
 use Rattle.dml_desc.specs.Checked.{CheckedWithinLimits, IsChecked, KeepsRules, Limits, PairLimits}
-use Rattle.dml_types.specs.Job.{op_of}
-use Rattle.dml_types.specs.Range.{span, shares, is_past}
+use Rattle.dml_types.specs.Job.{op_of, span, shares, is_past}
 use Rattle.dml_types.specs.Refusal.{first_broken, has_bad_flags, refusal, refusal_under, need, need_of}
 use Rattle.dml_desc.specs.RefusalLaws.{BreaksNone}
 use Rattle.dml_desc.proofs.RefusalLemmas.{accepted_where_none_broken}

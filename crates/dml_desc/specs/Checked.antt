@@ -3,8 +3,7 @@ use Rattle.std.specs.Prelude.{◌≡◌, ◌↔◌, ◌+◌, ◌%◌, ◌^◌, �
 use Rattle.dml_types.specs.declared.jobs.Job.{Job}
 use Rattle.dml_types.specs.declared.operations.Op.{Op}
 use Rattle.dml_types.specs.declared.operations.Op.TheVariants.{NoOp, Move, Fill, Compare, ComparePattern, CreateDelta, ApplyDelta, Dualcast}
-use Rattle.dml_types.specs.Job.{op_of}
-use Rattle.dml_types.specs.Range.{span, shares}
+use Rattle.dml_types.specs.Job.{op_of, span, shares}
 use Rattle.dml_types.specs.Refusal.{refusal, need, has_bad_flags, has_bad_size, has_bad_delta_size, is_misaligned, has_dualcast_bits, has_overlap, has_range_past}
 
 -- a job breaks no rule where there is as much staging as it needs

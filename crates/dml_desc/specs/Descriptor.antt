@@ -8,7 +8,7 @@ use Rattle.dml_types.specs.declared.operations.Op.TheVariants.{Compare, CompareP
 use Rattle.dml_types.specs.declared.records.BatchRecord.{BatchRecord}
 use Rattle.dml_types.specs.declared.records.Record.{Record}
 use Rattle.dml_types.specs.Job.{plain, op_of}
-use Rattle.dml_types.specs.Status.{code_of}
+use Rattle.dml_types.specs.Effect.{code_of}
 
 -- the fields at a byte of a descriptor: 1, 4 and 8 bytes
 abbrev pub u8_at : List ℕ → ℕ → ℕ

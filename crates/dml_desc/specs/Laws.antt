@@ -7,7 +7,7 @@ use Rattle.dml_types.specs.declared.records.BatchRecord.{BatchRecord}
 use Rattle.dml_types.specs.declared.operations.Op.TheVariants.{Compare, ComparePattern, CreateDelta, ApplyDelta, Dualcast}
 use Rattle.dml_desc.specs.Descriptor.{u8_at, u32_at, u64_at, decoded, bytes_of_record, bytes_of_batch}
 use Rattle.dml_types.specs.Job.{op_of}
-use Rattle.dml_types.specs.Status.{code_of}
+use Rattle.dml_types.specs.Effect.{code_of}
 
 -- a record's bytes have each field where the header has it, and all else 0
 pub record HoldsRecord (outcome : Record) (bytes : List ℕ) : Type 0 where

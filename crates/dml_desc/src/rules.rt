@@ -1,7 +1,7 @@
 // The rules that a job can break, each as a test.
 ghost use Rattle.std.specs.Prelude.{◌≡◌, ◌+◌};
-ghost use Rattle.dml_types.specs.Flags.{accepted_flags};
-ghost use Rattle.dml_types.specs.Range as range;
+ghost use Rattle.dml_types.specs.Job.{accepted_flags};
+ghost use Rattle.dml_types.specs.Job as range;
 ghost use Rattle.dml_types.specs.Refusal as rule;
 
 use bitflags::Flags;

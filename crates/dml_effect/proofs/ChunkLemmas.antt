@@ -9,11 +9,10 @@ use Rattle.dml_types.specs.declared.operations.Direction.{Direction}
 use Rattle.dml_types.specs.declared.operations.Direction.TheVariants.{Forward, Backward}
 use Rattle.dml_types.specs.declared.operations.Op.{Op}
 use Rattle.dml_types.specs.declared.operations.Op.TheVariants.{Fill, Move, Dualcast}
-use Rattle.dml_types.specs.First.{first}
-use Rattle.dml_types.specs.Memory.{Memory, bytes_at, offset_in}
+use Rattle.dml_types.specs.Memory.{first, Memory, bytes_at, offset_in}
 use Rattle.dml_types.specs.Effect.{is_clear, first_fault}
-use Rattle.dml_types.specs.Copy.{direction_of, done_from}
-use Rattle.dml_types.specs.Chunk.{scan_done, scan_found, scan_staged, scan_faults, scan_offset, scan_direction, passes, fault_found}
+use Rattle.dml_types.specs.Bytewise.{direction_by, done_from, faults_at, passes}
+use Rattle.dml_types.specs.Chunk.{scan_done, scan_found, scan_staged, scan_offset, fault_found}
 use Rattle.dml_types.proofs.FirstLemmas.{first_le, first_agree, first_left, first_right}
 use Rattle.dml_scan.proofs.ReachLemmas.{found_all, scan_done_within}
 use Rattle.dml_effect.specs.Joined.{after, then_found, found_joined, staged_joined, is_all}
@@ -24,7 +23,7 @@ module _ (op : Op) (memory : Memory) (job : Job) where
   blocked offset i = not (passes op memory job (offset i))
 
   abbrev stop_at : ℕ → ℕ → Found
-  stop_at k offset = cond (is_clear memory (scan_faults op job offset)) (Differs k) (fault_found k (first_fault memory (scan_faults op job offset)))
+  stop_at k offset = cond (is_clear memory (faults_at op job offset)) (Differs k) (fault_found k (first_fault memory (faults_at op job offset)))
 
   abbrev found_by : ℕ → ℕ → ℕ → Found
   found_by n offset k = cond (eqb k n) All (stop_at k offset)
@@ -50,14 +49,14 @@ module _ (op : Op) (memory : Memory) (job : Job) where
 
   after_stop : (n k offset : ℕ) → after n (stop_at k offset) ≡ stop_at (n + k) offset
   after_stop n k offset =
-      elim (is_clear memory (scan_faults op job offset)) as (λ (b : Bool). after n (cond b (Differs k) (fault_found k (first_fault memory (scan_faults op job offset)))) ≡ cond b (Differs (n + k)) (fault_found (n + k) (first_fault memory (scan_faults op job offset)))) [
+      elim (is_clear memory (faults_at op job offset)) as (λ (b : Bool). after n (cond b (Differs k) (fault_found k (first_fault memory (faults_at op job offset)))) ≡ cond b (Differs (n + k)) (fault_found (n + k) (first_fault memory (faults_at op job offset)))) [
         | true ↦ refl
         | false ↦ refl
       ]
 
   stop_stays : (n k offset : ℕ) (next : Found) → then_found n (stop_at k offset) next ≡ stop_at k offset
   stop_stays n k offset next =
-      elim (is_clear memory (scan_faults op job offset)) as (λ (b : Bool). then_found n (cond b (Differs k) (fault_found k (first_fault memory (scan_faults op job offset)))) next ≡ cond b (Differs k) (fault_found k (first_fault memory (scan_faults op job offset)))) [
+      elim (is_clear memory (faults_at op job offset)) as (λ (b : Bool). then_found n (cond b (Differs k) (fault_found k (first_fault memory (faults_at op job offset)))) next ≡ cond b (Differs k) (fault_found k (first_fault memory (faults_at op job offset)))) [
         | true ↦ refl
         | false ↦ refl
       ]
@@ -106,26 +105,26 @@ module _ (op : Op) (memory : Memory) (job : Job) where
             (cases_lt (first m (blocked other)) m)
 
 -- the offsets of a chunk, by direction
-upwards : (op : Op) (job : Job) (from to i : ℕ) → scan_direction op job ≡ Forward → scan_offset op job from to i ≡ from + i
+upwards : (op : Op) (job : Job) (from to i : ℕ) → direction_by op job ≡ Forward → scan_offset op job from to i ≡ from + i
 upwards op job from to i is = ap (λ (d : Direction). from + offset_in d (to - from) i) is
 
-downwards : (op : Op) (job : Job) (from to i : ℕ) → scan_direction op job ≡ Backward → scan_offset op job from to i ≡ from + (to - from - 1 - i)
+downwards : (op : Op) (job : Job) (from to i : ℕ) → direction_by op job ≡ Backward → scan_offset op job from to i ≡ from + (to - from - 1 - i)
 downwards op job from to i is = ap (λ (d : Direction). from + offset_in d (to - from) i) is
 
 module _ (op : Op) (memory : Memory) (job : Job) (from mid to : ℕ) (low : from ≤ mid) (high : mid ≤ to) where
   abbrev at : ℕ → ℕ → ℕ → ℕ
   at a b i = scan_offset op job a b i
 
-  up_front : scan_direction op job ≡ Forward → (i : ℕ) → i < mid - from → at from to i ≡ at from mid i
+  up_front : direction_by op job ≡ Forward → (i : ℕ) → i < mid - from → at from to i ≡ at from mid i
   up_front is i below = upwards op job from to i is ∙ sym (upwards op job from mid i is)
 
-  up_back : scan_direction op job ≡ Forward → (i : ℕ) → i < to - mid → at from to (mid - from + i) ≡ at mid to i
+  up_back : direction_by op job ≡ Forward → (i : ℕ) → i < to - mid → at from to (mid - from + i) ≡ at mid to i
   up_back is i below = omega (arith, upwards op job from to (mid - from + i) is, upwards op job mid to i is)
 
-  down_front : scan_direction op job ≡ Backward → (i : ℕ) → i < to - mid → at from to i ≡ at mid to i
+  down_front : direction_by op job ≡ Backward → (i : ℕ) → i < to - mid → at from to i ≡ at mid to i
   down_front is i below = omega (arith, downwards op job from to i is, downwards op job mid to i is)
 
-  down_back : scan_direction op job ≡ Backward → (i : ℕ) → i < mid - from → at from to (to - mid + i) ≡ at from mid i
+  down_back : direction_by op job ≡ Backward → (i : ℕ) → i < mid - from → at from to (to - mid + i) ≡ at from mid i
   down_back is i below = omega (arith, downwards op job from to (to - mid + i) is, downwards op job from mid i is)
 
   up_long : to - from ≡ mid - from + (to - mid)
@@ -135,7 +134,7 @@ module _ (op : Op) (memory : Memory) (job : Job) (from mid to : ℕ) (low : from
   down_long = omega arith
 
   -- how the chunk of both ends
-  pub neighbours_found : (direction : Direction) → scan_direction op job ≡ direction → scan_found op memory job from to ≡ found_joined direction (mid - from) (scan_found op memory job from mid) (to - mid) (scan_found op memory job mid to)
+  pub neighbours_found : (direction : Direction) → direction_by op job ≡ direction → scan_found op memory job from to ≡ found_joined direction (mid - from) (scan_found op memory job from mid) (to - mid) (scan_found op memory job mid to)
   neighbours_found Forward is =
       found_is op memory job from to
       ∙ (ap (λ (n : ℕ). found_in op memory job n (at from to)) up_long
@@ -148,22 +147,22 @@ module _ (op : Op) (memory : Memory) (job : Job) (from mid to : ℕ) (low : from
       ∙ sym (ap₂ (then_found (to - mid)) (found_is op memory job mid to) (found_is op memory job from mid))))
 
   -- how much of it is done
-  done_up_stopped : scan_direction op job ≡ Forward → scan_done op memory job from mid < mid - from → scan_done op memory job from to ≡ scan_done op memory job from mid
+  done_up_stopped : direction_by op job ≡ Forward → scan_done op memory job from mid < mid - from → scan_done op memory job from to ≡ scan_done op memory job from mid
   done_up_stopped is short =
       ap (λ (n : ℕ). first n (blocked op memory job (at from to))) up_long
       ∙ done_stopped op memory job (mid - from) (to - mid) (at from to) (at from mid) (at mid to) (up_front is) (up_back is) short
 
-  done_up : scan_direction op job ≡ Forward → scan_done op memory job from mid ≡ mid - from → scan_done op memory job from to ≡ mid - from + scan_done op memory job mid to
+  done_up : direction_by op job ≡ Forward → scan_done op memory job from mid ≡ mid - from → scan_done op memory job from to ≡ mid - from + scan_done op memory job mid to
   done_up is all =
       ap (λ (n : ℕ). first n (blocked op memory job (at from to))) up_long
       ∙ done_on op memory job (mid - from) (to - mid) (at from to) (at from mid) (at mid to) (up_front is) (up_back is) all
 
-  done_down_stopped : scan_direction op job ≡ Backward → scan_done op memory job mid to < to - mid → scan_done op memory job from to ≡ scan_done op memory job mid to
+  done_down_stopped : direction_by op job ≡ Backward → scan_done op memory job mid to < to - mid → scan_done op memory job from to ≡ scan_done op memory job mid to
   done_down_stopped is short =
       ap (λ (n : ℕ). first n (blocked op memory job (at from to))) down_long
       ∙ done_stopped op memory job (to - mid) (mid - from) (at from to) (at mid to) (at from mid) (down_front is) (down_back is) short
 
-  done_down : scan_direction op job ≡ Backward → scan_done op memory job mid to ≡ to - mid → scan_done op memory job from to ≡ to - mid + scan_done op memory job from mid
+  done_down : direction_by op job ≡ Backward → scan_done op memory job mid to ≡ to - mid → scan_done op memory job from to ≡ to - mid + scan_done op memory job from mid
   done_down is all =
       ap (λ (n : ℕ). first n (blocked op memory job (at from to))) down_long
       ∙ done_on op memory job (to - mid) (mid - from) (at from to) (at mid to) (at from mid) (down_front is) (down_back is) all
@@ -173,9 +172,9 @@ module _ (op : Op) (memory : Memory) (job : Job) (from to : ℕ) where
   stopped_early : scan_done op memory job from to < to - from → is_all (scan_found op memory job from to) ≡ false
   stopped_early short =
       ap is_all (found_is op memory job from to ∙ ends_at op memory job (to - from) (scan_offset op job from to) _ refl short)
-      ∙ not_all (is_clear memory (scan_faults op job (scan_offset op job from to (scan_done op memory job from to))))
+      ∙ not_all (is_clear memory (faults_at op job (scan_offset op job from to (scan_done op memory job from to))))
     where
-      not_all : (b : Bool) → is_all (cond b (Differs (scan_done op memory job from to)) (fault_found (scan_done op memory job from to) (first_fault memory (scan_faults op job (scan_offset op job from to (scan_done op memory job from to)))))) ≡ false
+      not_all : (b : Bool) → is_all (cond b (Differs (scan_done op memory job from to)) (fault_found (scan_done op memory job from to) (first_fault memory (faults_at op job (scan_offset op job from to (scan_done op memory job from to)))))) ≡ false
       not_all true = refl
       not_all false = refl
 
@@ -223,62 +222,62 @@ module _ (memory : Memory) (job : Job) (from mid to : ℕ) (low : from ≤ mid) 
       nothing true = refl
       nothing false = refl
 
-  move_up : direction_of job ≡ Forward → scan_staged Move memory job from to ≡ staged_neighbours Move Forward
+  move_up : direction_by Move job ≡ Forward → scan_staged Move memory job from to ≡ staged_neighbours Move Forward
   unfolding scan_staged
   move_up is =
       let front = scan_done Move memory job from mid in
       let back = scan_done Move memory job mid to in
-      let below = bytes_of_move memory job (direction_of job) from (mid - from) front in
-      let above = bytes_of_move memory job (direction_of job) mid (to - mid) back in
+      let below = bytes_of_move memory job (direction_by Move job) from (mid - from) front in
+      let above = bytes_of_move memory job (direction_by Move job) mid (to - mid) back in
       let whole = scan_done Move memory job from to in
-      let place : done_from (direction_of job) (to - from) whole ≡ 0 = ap (λ (d : Direction). done_from d (to - from) whole) is in
-      let place_below : done_from (direction_of job) (mid - from) front ≡ 0 = ap (λ (d : Direction). done_from d (mid - from) front) is in
-      let place_above : done_from (direction_of job) (to - mid) back ≡ 0 = ap (λ (d : Direction). done_from d (to - mid) back) is in
+      let place : done_from (direction_by Move job) (to - from) whole ≡ 0 = ap (λ (d : Direction). done_from d (to - from) whole) is in
+      let place_below : done_from (direction_by Move job) (mid - from) front ≡ 0 = ap (λ (d : Direction). done_from d (mid - from) front) is in
+      let place_above : done_from (direction_by Move job) (to - mid) back ≡ 0 = ap (λ (d : Direction). done_from d (to - mid) back) is in
       ⊎_elim (λ short.
       bytes_same memory _ _ _ _ (omega (arith, place, place_below)) (done_up_stopped Move memory job from mid to low high is short)
       ∙ sym (ap (λ (b : Bool). cond b (below ++ above) below) (stopped_early Move memory job from mid short)))
       (λ past.
       let all : front ≡ mid - from = omega (arith, scan_done_within Move memory job from mid) in
-      let start : job.source + (from + done_from (direction_of job) (to - from) whole) ≡ job.source + (from + done_from (direction_of job) (mid - from) front) = omega (arith, place, place_below) in
-      let beside : job.source + (mid + done_from (direction_of job) (to - mid) back) ≡ job.source + (from + done_from (direction_of job) (mid - from) front) + front = omega (arith, all, place_below, place_above) in
+      let start : job.source + (from + done_from (direction_by Move job) (to - from) whole) ≡ job.source + (from + done_from (direction_by Move job) (mid - from) front) = omega (arith, place, place_below) in
+      let beside : job.source + (mid + done_from (direction_by Move job) (to - mid) back) ≡ job.source + (from + done_from (direction_by Move job) (mid - from) front) + front = omega (arith, all, place_below, place_above) in
       bytes_same memory _ _ _ _ start (done_up Move memory job from mid to low high is all ∙ ap (λ (n : ℕ). n + back) (sym all))
       ∙ (bytes_append memory _ _ front back beside
       ∙ sym (ap (λ (b : Bool). cond b (below ++ above) below) (done_whole Move memory job from mid all))))
       (cases_lt front (mid - from))
 
-  move_down : direction_of job ≡ Backward → scan_staged Move memory job from to ≡ staged_neighbours Move Backward
+  move_down : direction_by Move job ≡ Backward → scan_staged Move memory job from to ≡ staged_neighbours Move Backward
   unfolding scan_staged
   move_down is =
       let front = scan_done Move memory job mid to in
       let back = scan_done Move memory job from mid in
-      let above = bytes_of_move memory job (direction_of job) mid (to - mid) front in
-      let below = bytes_of_move memory job (direction_of job) from (mid - from) back in
+      let above = bytes_of_move memory job (direction_by Move job) mid (to - mid) front in
+      let below = bytes_of_move memory job (direction_by Move job) from (mid - from) back in
       let whole = scan_done Move memory job from to in
-      let place : done_from (direction_of job) (to - from) whole ≡ to - from - whole = ap (λ (d : Direction). done_from d (to - from) whole) is in
-      let place_above : done_from (direction_of job) (to - mid) front ≡ to - mid - front = ap (λ (d : Direction). done_from d (to - mid) front) is in
-      let place_below : done_from (direction_of job) (mid - from) back ≡ mid - from - back = ap (λ (d : Direction). done_from d (mid - from) back) is in
+      let place : done_from (direction_by Move job) (to - from) whole ≡ to - from - whole = ap (λ (d : Direction). done_from d (to - from) whole) is in
+      let place_above : done_from (direction_by Move job) (to - mid) front ≡ to - mid - front = ap (λ (d : Direction). done_from d (to - mid) front) is in
+      let place_below : done_from (direction_by Move job) (mid - from) back ≡ mid - from - back = ap (λ (d : Direction). done_from d (mid - from) back) is in
       ⊎_elim (λ short.
       let count = done_down_stopped Move memory job from mid to low high is short in
-      let start : job.source + (from + done_from (direction_of job) (to - from) whole) ≡ job.source + (mid + done_from (direction_of job) (to - mid) front) = omega (arith, place, place_above, count, short) in
+      let start : job.source + (from + done_from (direction_by Move job) (to - from) whole) ≡ job.source + (mid + done_from (direction_by Move job) (to - mid) front) = omega (arith, place, place_above, count, short) in
       bytes_same memory _ _ _ _ start count
       ∙ sym (ap (λ (b : Bool). cond b (below ++ above) above) (stopped_early Move memory job mid to short)))
       (λ past.
       let all : front ≡ to - mid = omega (arith, scan_done_within Move memory job mid to) in
       let count = done_down Move memory job from mid to low high is all in
       let short : back ≤ mid - from = scan_done_within Move memory job from mid in
-      let start : job.source + (from + done_from (direction_of job) (to - from) whole) ≡ job.source + (from + done_from (direction_of job) (mid - from) back) = omega (arith, place, place_below, count, short) in
-      let beside : job.source + (mid + done_from (direction_of job) (to - mid) front) ≡ job.source + (from + done_from (direction_of job) (mid - from) back) + back = omega (arith, all, place_below, place_above, short) in
+      let start : job.source + (from + done_from (direction_by Move job) (to - from) whole) ≡ job.source + (from + done_from (direction_by Move job) (mid - from) back) = omega (arith, place, place_below, count, short) in
+      let beside : job.source + (mid + done_from (direction_by Move job) (to - mid) front) ≡ job.source + (from + done_from (direction_by Move job) (mid - from) back) + back = omega (arith, all, place_below, place_above, short) in
       let sum : whole ≡ back + front = omega (arith, count, all) in
       bytes_same memory _ _ _ _ start sum
       ∙ (bytes_append memory _ _ back front beside
       ∙ sym (ap (λ (b : Bool). cond b (below ++ above) above) (done_whole Move memory job mid to all))))
       (cases_lt front (to - mid))
 
-  move_staged : (direction : Direction) → direction_of job ≡ direction → scan_staged Move memory job from to ≡ staged_neighbours Move direction
+  move_staged : (direction : Direction) → direction_by Move job ≡ direction → scan_staged Move memory job from to ≡ staged_neighbours Move direction
   move_staged Forward is = move_up is
   move_staged Backward is = move_down is
 
-pub neighbours_staged : (op : Op) (memory : Memory) (job : Job) (from mid to : ℕ) → from ≤ mid → mid ≤ to → (direction : Direction) → scan_direction op job ≡ direction → (op ≡ Move) ⊎ (op ≡ Fill) ⊎ (op ≡ Dualcast)
+pub neighbours_staged : (op : Op) (memory : Memory) (job : Job) (from mid to : ℕ) → from ≤ mid → mid ≤ to → (direction : Direction) → direction_by op job ≡ direction → (op ≡ Move) ⊎ (op ≡ Fill) ⊎ (op ≡ Dualcast)
     → scan_staged op memory job from to ≡ staged_joined direction (scan_found op memory job from mid) (scan_staged op memory job from mid) (scan_found op memory job mid to) (scan_staged op memory job mid to)
 neighbours_staged op memory job from mid to low high direction way one =
     ⊎_elim (λ is. subst staged_both (sym is) (λ d w. move_staged memory job from mid to low high d w) direction way) (λ others.
@@ -289,4 +288,4 @@ neighbours_staged op memory job from mid to low high direction way one =
     staged_way o d = scan_staged o memory job from to ≡ staged_neighbours memory job from mid to low high o d
 
     staged_both : Op → Type 0
-    staged_both o = (d : Direction) → scan_direction o job ≡ d → staged_way o d
+    staged_both o = (d : Direction) → direction_by o job ≡ d → staged_way o d

@@ -11,7 +11,8 @@ use Rattle.dml_types.specs.declared.operations.Op.{Op}
 use Rattle.dml_types.specs.declared.operations.Op.TheVariants.{Fill, Move, Dualcast}
 use Rattle.dml_types.specs.Job.{op_of}
 use Rattle.dml_types.specs.Memory.{Memory}
-use Rattle.dml_types.specs.Chunk.{scan_done, scan_found, scan_staged, scan_direction}
+use Rattle.dml_types.specs.Chunk.{scan_done, scan_found, scan_staged}
+use Rattle.dml_types.specs.Bytewise.{direction_by}
 use Rattle.dml_scan.specs.declared.scans.ScanPiece.{ScanPiece}
 use Rattle.dml_scan.specs.Found.{done_of}
 use Rattle.dml_scan.proofs.ReachLemmas.{done_found, scan_done_within}
@@ -23,7 +24,7 @@ use Rattle.dml_effect.proofs.ChunkLemmas.{neighbours_found, neighbours_staged}
 pub record IsJoinedSoFar {S : Type 0} (steps : S → Option ScanPiece → S → Type 0) (memory : Memory) (job : Job) (direction : Direction) (whole : Option ScanPiece) (rest : S) : Type 0 where
   pub op : Op
   pub operation : op_of job ≡ Some op
-  pub way : direction ≡ scan_direction op job
+  pub way : direction ≡ direction_by op job
   pub chunks : List ScanPiece
   pub yields : AlwaysYields steps (λ piece. piece) rest chunks
   pub joined : MatchOption whole (AreChunksFrom op memory job 0 chunks) (λ below.
@@ -41,7 +42,7 @@ value_done op memory job from piece value =
     fewer n (Fault done place write) = omega arith
 
 module _ {S : Type 0} (steps : S → Option ScanPiece → S → Type 0) (memory : Memory) (job : Job) (direction : Direction) where
-  pub joined_none : (rest : S) → ((op : Op) → op_of job ≡ Some op → direction ≡ scan_direction op job) → YieldsChunks steps memory job rest → IsJoinedSoFar steps memory job direction None rest
+  pub joined_none : (rest : S) → ((op : Op) → op_of job ≡ Some op → direction ≡ direction_by op job) → YieldsChunks steps memory job rest → IsJoinedSoFar steps memory job direction None rest
   joined_none rest way given =
       record { op = given.op; operation = given.operation; way = way given.op given.operation; chunks = given.chunks; yields = given.yields; joined = given.values }
 

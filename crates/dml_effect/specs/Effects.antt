@@ -3,7 +3,7 @@ use Rattle.std.specs.Prelude.{Bool, List, [], ◌∷◌, length, None, Some}
 use Rattle.std.specs.List.{list_all}
 use Rattle.dml_types.specs.Memory.{Memory, Put, put_of, has_all}
 use Rattle.dml_types.specs.Effect.{Effect, effect_of}
-use Rattle.dml_types.specs.Pattern.{pattern_bytes}
+use Rattle.dml_types.specs.Bytewise.{pattern_bytes}
 use Rattle.dml_effect.specs.declared.effects.Puts.{Puts}
 use Rattle.dml_effect.specs.declared.effects.Puts.TheVariants.{Nothing, Staged, Pattern}
 use Rattle.dml_effect.specs.declared.effects.Effect.TheInside.{Inside}

@@ -12,8 +12,7 @@ use Rattle.dml_types.specs.declared.statuses.Status.{Status}
 use Rattle.dml_types.specs.declared.statuses.Status.TheVariants.{Success, ReadFault, WriteFault}
 use Rattle.dml_types.specs.Memory.{Put, put_of}
 use Rattle.dml_types.specs.Effect.{ended, faulted}
-use Rattle.dml_types.specs.Copy.{done_from}
-use Rattle.dml_types.specs.Pattern.{pattern_bytes}
+use Rattle.dml_types.specs.Bytewise.{done_from, pattern_bytes}
 
 -- an end, counted from n offsets before
 abbrev pub after : ℕ → Found → Found

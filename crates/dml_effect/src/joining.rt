@@ -7,8 +7,7 @@ ghost use Rattle.dml_types.specs.Job.{op_of};
 ghost use Rattle.dml_types.specs.Memory.{IsMemory, puts_made};
 ghost use Rattle.dml_types.specs.Refusal.{need};
 ghost use Rattle.dml_types.specs.Step.{step};
-ghost use Rattle.dml_types.specs.Copy.{result_of, done_from};
-ghost use Rattle.dml_types.specs.Chunk.{scan_direction};
+ghost use Rattle.dml_types.specs.Bytewise.{result_of, done_from, direction_by};
 ghost use Rattle.dml_scan.specs.Found.{done_of};
 ghost use Rattle.dml_effect.specs.Chunks.{YieldsChunks, IsWhole, IsBehind};
 ghost use Rattle.dml_effect.specs.Effects.{are_present, puts_of};
@@ -51,7 +50,7 @@ pub fn join_found<'a, I: Iterator<Item = ScanPiece<'a>> + Drop>(
 
 /// The order in which a job's offsets are worked on.
 fn work_direction(job: &Checked) -> Direction
-    ensures { (op : Op) → op_of job.now ≡ Some op → result ≡ scan_direction op job.now }
+    ensures { (op : Op) → op_of job.now ≡ Some op → result ≡ direction_by op job.now }
 {
     let &Job {
         source,
@@ -140,7 +139,7 @@ fn effect_of<'a>(
     whole: Option<ScanPiece<'a>>,
 ) -> Effect<'a>
     requires operation { (op_of job.now ≡ Some Move) ⊎ (op_of job.now ≡ Some Fill) ⊎ (op_of job.now ≡ Some Dualcast) }
-    requires direction { (op : Op) → op_of job.now ≡ Some op → direction ≡ scan_direction op job.now }
+    requires direction { (op : Op) → op_of job.now ≡ Some op → direction ≡ direction_by op job.now }
     requires whole { IsWhole image.now job.now whole }
     ensures answer { result.answer ≡ (step image.now job.now (need job.now)).1 }
     ensures image { puts_made image.now result.puts ≡ (step image.now job.now (need job.now)).0 }

@@ -5,7 +5,7 @@ use Rattle.std.proofs.lemmas.List.{drop_all, length-append, length-drop, append-
 use Rattle.std.proofs.lemmas.List.FromFn.{length-map-range_with_len, get_or-map-range_with_len, take-map-range_with_len}
 use Rattle.std.specs.Int.{to_le_bytes, w64}
 use borrow.Rule.Slice.PartMut.{put_mid}
-use Rattle.dml_types.specs.Pattern.{pattern_bytes, pattern_byte}
+use Rattle.dml_types.specs.Bytewise.{pattern_bytes, pattern_byte}
 
 pub length_pattern_bytes : (pattern n : ℕ) → length (pattern_bytes pattern n) ≡ n
 unfolding pattern_bytes

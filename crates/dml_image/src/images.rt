@@ -1,6 +1,6 @@
 ghost use Rattle.std.specs.Prelude.{◌≡◌, ◌≢◌, ◌+◌, ◌-◌, ◌%◌, ◌^◌, ◌<◌, ◌≤◌, min, ◌↔◌, ◌⊎◌, length, IfOk, OnErr, OnOk, IsOk, IsTrue, MatchOption, if◌then◌else◌};
 ghost use Rattle.dml_types.specs.Memory.{IsMemory, has, has_all, byte_at, bytes_at, present_toward, put};
-ghost use Rattle.dml_types.specs.Pattern.{pattern_bytes};
+ghost use Rattle.dml_types.specs.Bytewise.{pattern_bytes};
 ghost use Rattle.dml_image.specs.Brought.{all_absent, brought, has_page};
 
 use crate::PAGE_SIZE;

@@ -1,6 +1,6 @@
 ghost use Rattle.std.specs.Prelude.{◌≡◌, ◌+◌, ◌≤◌, length};
 ghost use Rattle.dml_types.specs.Memory.{overwrite};
-ghost use Rattle.dml_types.specs.Pattern.{pattern_bytes};
+ghost use Rattle.dml_types.specs.Bytewise.{pattern_bytes};
 
 // A fill writes so many bytes at once: four times the pattern.
 const BLOCK_SIZE: usize = 32;

@@ -3,10 +3,11 @@
 use Rattle.std.proofs.Common.{◌≡◌, ℕ, ◌+◌, ◌/◌, ◌<◌, ◌≤◌, ◌&&◌, ◌==◌, List, [], ◌∷◌, Bool, true, false, length, get_or, replicate, refl, sym, ◌∙◌, ap, arith, ◌⊎◌, ⊎_elim, inl, inr}
 use Rattle.std.proofs.lemmas.Bool.{cases_lt, eq-eqb, ne_eqb, and_from, and_right}
 use Rattle.std.proofs.lemmas.List.{get_or-replicate, get_or_past, length-replicate}
+use Rattle.dml_types.specs.declared.operations.Op.TheVariants.{Compare}
 use Rattle.dml_types.specs.declared.statuses.Status.TheVariants.{Success, ReadFault}
 use Rattle.dml_types.specs.Memory.{Memory, has, byte_at, overwrite}
 use Rattle.dml_types.specs.Job.{compare_job}
-use Rattle.dml_types.specs.Compare.{compare_answer, compare_faults, compared}
+use Rattle.dml_types.specs.Bytewise.{compare_answer, faults_at, compared}
 use Rattle.dml_types.specs.Step.{effect}
 use Rattle.dml_types.proofs.MemoryLemmas.{overwrite_below, overwrite_inside, overwrite_past}
 use Rattle.dml_plain.specs.Row.{answer, Answers}
@@ -59,7 +60,7 @@ full_mismatch zeros is =
     let other : byte_at memory (8192 + 4095) ≡ 0 = zero_above false zeros 4095 12287 is (omega arith) (omega arith) in
     let differ : (byte_at memory (0 + 4095) == byte_at memory (8192 + 4095)) ≡ false = ne_eqb _ _ (λ same. absurd (omega (arith, one, other, same))) in
     let stop = compare_length_is memory job 4095 (omega arith) (λ i low. alike_zeros false zeros 4095 i is (omega arith) (omega arith) low (inl (omega arith))) (λ _. and_right (has memory (0 + 4095) && has memory (8192 + 4095)) _ differ) in
-    sym (ap (λ k. compare_answer memory job k (compare_faults job k) ∷ []) stop)
+    sym (ap (λ k. compare_answer memory job k (faults_at Compare job k) ∷ []) stop)
 
 -- the absent page comes before the byte that differs
 pub full_page_edge : (zeros : List ℕ) → IsZeros zeros → Answers (four_pages true zeros 13192) (compare_job 0 8192 8192 ∷ []) (answer ReadFault 0 4096 4096 0 ∷ [])
@@ -68,4 +69,4 @@ full_page_edge zeros is =
     let memory = four_pages true zeros 13192 in
     let job = compare_job 0 8192 8192 in
     let stop = compare_length_is memory job 4096 (omega arith) (λ i low. alike_zeros true zeros 13192 i is (omega arith) low (omega arith) (inr (omega arith))) (λ _. refl) in
-    sym (ap (λ k. compare_answer memory job k (compare_faults job k) ∷ []) stop)
+    sym (ap (λ k. compare_answer memory job k (faults_at Compare job k) ∷ []) stop)

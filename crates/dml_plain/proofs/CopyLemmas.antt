@@ -2,14 +2,14 @@
 use Rattle.std.proofs.Common.{◌≡◌, ℕ, ◌+◌, ◌-◌, ◌<◌, ◌≤◌, ◌&&◌, List, [], ◌∷◌, ◌++◌, Bool, true, false, not, length, refl, sym, ◌∙◌, ap, arith, rules, ⊎_elim, ◌⊎◌, inl, inr, nat_lt}
 use Rattle.std.proofs.lemmas.Bool.{cases_lt, cases_eq, eq-eqb, ne_eqb, lt-ltb, le-ltb, not-true, and_from, and_left, and_right}
 use Rattle.std.proofs.lemmas.List.{places, same_lists}
+use Rattle.dml_types.specs.declared.operations.Op.TheVariants.{Move}
 use Rattle.dml_types.specs.declared.jobs.Job.{Job}
 use Rattle.dml_types.specs.declared.operations.Direction.{Direction}
 use Rattle.dml_types.specs.declared.operations.Direction.TheVariants.{Forward, Backward}
 use Rattle.dml_types.specs.declared.statuses.Status.TheVariants.{Success}
-use Rattle.dml_types.specs.First.{first}
-use Rattle.dml_types.specs.Memory.{Memory, has, byte_at, bytes_at, offset_in, put, puts_made}
+use Rattle.dml_types.specs.Memory.{first, Memory, has, byte_at, bytes_at, offset_in, put, puts_made}
 use Rattle.dml_types.specs.Effect.{is_clear, ended, faulted, read_fault, write_fault}
-use Rattle.dml_types.specs.Copy.{direction_of, done_from, move_faults, move_length, moved, result_of}
+use Rattle.dml_types.specs.Bytewise.{direction_by, done_from, faults_at, length_of, moved, result_of}
 use Rattle.dml_types.proofs.FirstLemmas.{first_is, passes_at}
 use Rattle.dml_types.proofs.MemoryLemmas.{bytes_at_none, length_bytes_at, overwrite_below, overwrite_past, put_comm, put_append, put_nil}
 use Rattle.dml_plain.proofs.PlainLemmas.{put_more}
@@ -31,7 +31,7 @@ bytes_before : (memory : Memory) (a b i : ℕ) → b ≡ a + 1 → a + (i + 1) �
 bytes_before memory a b i is within = same_lists _ _ (search (rules, places)) (λ k d h. grind (arith, places, cases_eq k 0))
 
 -- the direction that a job's ranges ask for
-safe_direction : (job : Job) → IsSafe (direction_of job) job.source job.target job.size
+safe_direction : (job : Job) → IsSafe (direction_by Move job) job.source job.target job.size
 unfolding IsSafe
 safe_direction job =
     ⊎_elim (λ below.
@@ -82,46 +82,46 @@ copied_more_backward memory source target n i safe below source_within target_wi
     ∙ ap (λ from. put memory (target + from) (bytes_at memory (source + from) (i + 1))) step)
 
 -- the length of a move
-both_is : (memory : Memory) (job : Job) (offset : ℕ) → is_clear memory (move_faults job offset) ≡ has memory (job.source + offset) && has memory (job.target + offset)
+both_is : (memory : Memory) (job : Job) (offset : ℕ) → is_clear memory (faults_at Move job offset) ≡ has memory (job.source + offset) && has memory (job.target + offset)
 both_is memory job offset = ap (λ b. has memory (job.source + offset) && b) (and_true (has memory (job.target + offset)))
   where
     and_true : (b : Bool) → b && true ≡ b
     and_true true = refl
     and_true false = refl
 
-pub move_length_is : (memory : Memory) (job : Job) (direction : Direction) (k : ℕ) → direction ≡ direction_of job → k ≤ job.size → ((i : ℕ) → i < k → has memory (job.source + offset_in direction job.size i) && has memory (job.target + offset_in direction job.size i) ≡ true) → (k < job.size → has memory (job.source + offset_in direction job.size k) && has memory (job.target + offset_in direction job.size k) ≡ false) → k ≡ move_length memory job
+pub move_length_is : (memory : Memory) (job : Job) (direction : Direction) (k : ℕ) → direction ≡ direction_by Move job → k ≤ job.size → ((i : ℕ) → i < k → has memory (job.source + offset_in direction job.size i) && has memory (job.target + offset_in direction job.size i) ≡ true) → (k < job.size → has memory (job.source + offset_in direction job.size k) && has memory (job.target + offset_in direction job.size k) ≡ false) → k ≡ length_of Move memory job
 move_length_is memory job direction k is within before here =
     let both : ℕ → Bool = λ i. has memory (job.source + offset_in direction job.size i) && has memory (job.target + offset_in direction job.size i) in
-    let clear : ℕ → Bool = λ i. is_clear memory (move_faults job (offset_in (direction_of job) job.size i)) in
+    let clear : ℕ → Bool = λ i. is_clear memory (faults_at Move job (offset_in (direction_by Move job) job.size i)) in
     let at : (i : ℕ) → clear i ≡ both i =
-    λ i. both_is memory job (offset_in (direction_of job) job.size i)
+    λ i. both_is memory job (offset_in (direction_by Move job) job.size i)
     ∙ ap (λ d. has memory (job.source + offset_in d job.size i) && has memory (job.target + offset_in d job.size i)) (sym is) in
     sym (first_is job.size (λ i. not (clear i)) k within (λ i low. ap not (at i ∙ before i low)) (λ below. ap not (at k ∙ here below)))
 
-pub move_length_stops : (memory : Memory) (job : Job) (direction : Direction) (k : ℕ) → direction ≡ direction_of job → k < job.size → ((i : ℕ) → i < k → has memory (job.source + offset_in direction job.size i) && has memory (job.target + offset_in direction job.size i) ≡ true) → has memory (job.source + offset_in direction job.size k) && has memory (job.target + offset_in direction job.size k) ≡ false → k ≡ move_length memory job
+pub move_length_stops : (memory : Memory) (job : Job) (direction : Direction) (k : ℕ) → direction ≡ direction_by Move job → k < job.size → ((i : ℕ) → i < k → has memory (job.source + offset_in direction job.size i) && has memory (job.target + offset_in direction job.size i) ≡ true) → has memory (job.source + offset_in direction job.size k) && has memory (job.target + offset_in direction job.size k) ≡ false → k ≡ length_of Move memory job
 move_length_stops memory job direction k is below before here = move_length_is memory job direction k is (omega arith) before (λ _. here)
 
 -- the image and the record of a move
-pub moved_image : (memory : Memory) (job : Job) (k : ℕ) → k ≡ move_length memory job → copied memory (direction_of job) job.source job.target job.size k ≡ puts_made memory (moved memory job).puts
+pub moved_image : (memory : Memory) (job : Job) (k : ℕ) → k ≡ length_of Move memory job → copied memory (direction_by Move job) job.source job.target job.size k ≡ puts_made memory (moved memory job).puts
 unfolding moved
-moved_image memory job k is = ap (λ n. copied memory (direction_of job) job.source job.target job.size n) is
+moved_image memory job k is = ap (λ n. copied memory (direction_by Move job) job.source job.target job.size n) is
 
-pub moved_whole : (memory : Memory) (job : Job) (k : ℕ) → k ≡ move_length memory job → k ≡ job.size → ended Success (result_of (direction_of job)) k 0 ≡ (moved memory job).answer
+pub moved_whole : (memory : Memory) (job : Job) (k : ℕ) → k ≡ length_of Move memory job → k ≡ job.size → ended Success (result_of (direction_by Move job)) k 0 ≡ (moved memory job).answer
 unfolding moved
 moved_whole memory job k is all = rw (← is, eq-eqb k job.size all) refl
 
-pub moved_to_read : (memory : Memory) (job : Job) (k : ℕ) → k ≡ move_length memory job → k < job.size → has memory (job.source + offset_in (direction_of job) job.size k) ≡ false → faulted (read_fault (job.source + offset_in (direction_of job) job.size k)) (result_of (direction_of job)) k 0 ≡ (moved memory job).answer
+pub moved_to_read : (memory : Memory) (job : Job) (k : ℕ) → k ≡ length_of Move memory job → k < job.size → has memory (job.source + offset_in (direction_by Move job) job.size k) ≡ false → faulted (read_fault (job.source + offset_in (direction_by Move job) job.size k)) (result_of (direction_by Move job)) k 0 ≡ (moved memory job).answer
 unfolding moved
 moved_to_read memory job k is short gone = rw (← is, ne_eqb k job.size (λ all. omega (arith, all)), gone) refl
 
-pub moved_to_write : (memory : Memory) (job : Job) (k : ℕ) → k ≡ move_length memory job → k < job.size → has memory (job.source + offset_in (direction_of job) job.size k) ≡ true → faulted (write_fault (job.target + offset_in (direction_of job) job.size k)) (result_of (direction_of job)) k 0 ≡ (moved memory job).answer
+pub moved_to_write : (memory : Memory) (job : Job) (k : ℕ) → k ≡ length_of Move memory job → k < job.size → has memory (job.source + offset_in (direction_by Move job) job.size k) ≡ true → faulted (write_fault (job.target + offset_in (direction_by Move job) job.size k)) (result_of (direction_by Move job)) k 0 ≡ (moved memory job).answer
 unfolding moved
 moved_to_write memory job k is short here =
-    let test : ℕ → Bool = λ i. not (is_clear memory (move_faults job (offset_in (direction_of job) job.size i))) in
+    let test : ℕ → Bool = λ i. not (is_clear memory (faults_at Move job (offset_in (direction_by Move job) job.size i))) in
     let first_short : first job.size test < job.size = omega (arith, is) in
     let stops : test k ≡ true = ap test is ∙ passes_at job.size test first_short in
-    let not_both = sym (both_is memory job (offset_in (direction_of job) job.size k)) ∙ not-true _ stops in
-    let gone : has memory (job.target + offset_in (direction_of job) job.size k) ≡ false = rw here at not_both in
+    let not_both = sym (both_is memory job (offset_in (direction_by Move job) job.size k)) ∙ not-true _ stops in
+    let gone : has memory (job.target + offset_in (direction_by Move job) job.size k) ≡ false = rw here at not_both in
     rw (← is, ne_eqb k job.size (λ all. omega (arith, all)), here, gone) refl
 
 -- the next byte of a move
@@ -131,10 +131,10 @@ copied_step Forward memory source target n i safe below source_within target_wit
 copied_step Backward memory source target n i safe below source_within target_within =
     copied_more_backward memory source target n i safe below (omega (arith, source_within 0 (omega arith))) (omega (arith, target_within 0 (omega arith)))
 
-pub copied_more : (memory now : Memory) (job : Job) (direction : Direction) (k i offset x : ℕ) → direction ≡ direction_of job → now ≡ copied memory direction job.source job.target job.size i → i < k → k ≤ job.size → offset ≡ offset_in direction job.size i → x ≡ byte_at now (job.source + offset) → ((j : ℕ) → j < k → job.source + offset_in (direction_of job) job.size j < length memory.bytes) → ((j : ℕ) → j < k → job.target + offset_in (direction_of job) job.size j < length memory.bytes) → put now (job.target + offset) (x ∷ []) ≡ copied memory direction job.source job.target job.size (i + 1)
+pub copied_more : (memory now : Memory) (job : Job) (direction : Direction) (k i offset x : ℕ) → direction ≡ direction_by Move job → now ≡ copied memory direction job.source job.target job.size i → i < k → k ≤ job.size → offset ≡ offset_in direction job.size i → x ≡ byte_at now (job.source + offset) → ((j : ℕ) → j < k → job.source + offset_in (direction_by Move job) job.size j < length memory.bytes) → ((j : ℕ) → j < k → job.target + offset_in (direction_by Move job) job.size j < length memory.bytes) → put now (job.target + offset) (x ∷ []) ≡ copied memory direction job.source job.target job.size (i + 1)
 copied_more memory now job direction k i offset x is at below within place byte source_within target_within =
     rw (byte, at, place, is)
-    (copied_step (direction_of job) memory job.source job.target job.size i (safe_direction job) (omega arith)
+    (copied_step (direction_by Move job) memory job.source job.target job.size i (safe_direction job) (omega arith)
     (λ j low. source_within j (omega arith)) (λ j low. target_within j (omega arith)))
 
 pub copied_none : (memory : Memory) (direction : Direction) (source target n : ℕ) → memory ≡ copied memory direction source target n 0

@@ -5,9 +5,8 @@ use Rattle.std.proofs.lemmas.Bool.{eq-eqb, ne_eqb}
 use Rattle.dml_types.specs.declared.jobs.Job.{Job}
 use Rattle.dml_types.specs.declared.statuses.Status.TheVariants.{Success}
 use Rattle.dml_types.specs.Memory.{Memory, has, present_bytes, put, puts_made}
-use Rattle.dml_types.specs.Pattern.{pattern_byte, pattern_bytes}
+use Rattle.dml_types.specs.Bytewise.{pattern_byte, pattern_bytes, filled}
 use Rattle.dml_types.specs.Effect.{ended, faulted, write_fault}
-use Rattle.dml_types.specs.Copy.{filled}
 use Rattle.dml_plain.proofs.PlainLemmas.{put_more, absent_at}
 
 length_pattern_bytes : (pattern n : ℕ) → length (pattern_bytes pattern n) ≡ n

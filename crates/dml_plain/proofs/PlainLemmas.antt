@@ -3,8 +3,7 @@ use Rattle.std.proofs.Common.{◌≡◌, ℕ, ◌+◌, ◌*◌, ◌<◌, ◌≤�
 use Rattle.std.specs.Vec.{with_item}
 use Rattle.std.proofs.lemmas.List.{places, same_lists, length-set, get_or-set_other, get_or-set_same}
 use Rattle.std.proofs.lemmas.Bool.{cases_eq, not-true}
-use Rattle.dml_types.specs.First.{first}
-use Rattle.dml_types.specs.Memory.{Memory, IsWhole, has, present_bytes, overwrite, put}
+use Rattle.dml_types.specs.Memory.{first, Memory, IsWhole, has, present_bytes, overwrite, put}
 use Rattle.dml_types.proofs.FirstLemmas.{first_is, passes_at}
 use Rattle.dml_types.proofs.MemoryLemmas.{has_within, put_append}
 

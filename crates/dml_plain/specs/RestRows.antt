@@ -3,7 +3,7 @@ use Rattle.std.specs.Prelude.{◌≡◌, true, false, [], ◌∷◌, None, Some}
 use Rattle.dml_types.specs.declared.statuses.Status.TheVariants.{Success, ReadFault, WriteFault}
 use Rattle.dml_types.specs.Memory.{put}
 use Rattle.dml_types.specs.Job.{move_job, fill_job, compare_job, create_job}
-use Rattle.dml_types.specs.Rest.{rest}
+use Rattle.dml_types.specs.Step.{rest}
 use Rattle.dml_image.specs.Brought.{brought}
 use Rattle.dml_plain.specs.Row.{hex, image, page_of, answer, Answers, Shows, after}
 

@@ -1,6 +1,7 @@
 ghost use Rattle.std.specs.Prelude.{◌≡◌, ◌&&◌, ◌==◌, ◌+◌, ◌^◌, ◌<◌, ◌≤◌};
+ghost use Rattle.dml_types.specs.declared.operations.Op.TheVariants.{Compare};
 ghost use Rattle.dml_types.specs.Memory.{has, byte_at};
-ghost use Rattle.dml_types.specs.Compare.{compare_answer, compare_faults, compare_length, compared};
+ghost use Rattle.dml_types.specs.Bytewise.{compare_answer, faults_at, length_of, compared};
 
 use crate::answers::{ended, faulted, judged};
 use crate::plain::Plain;
@@ -12,7 +13,7 @@ impl Plain {
     pub fn compare(&self, job: &Job) -> Record
         requires source { job.now.source + job.now.size ≤ 2 ^ 64 }
         requires target { job.now.target + job.now.size ≤ 2 ^ 64 }
-        ensures { result ≡ (compared self.now job.now).answer }
+        ensures { result ≡ (compared Compare self.now job.now).answer }
     {
         let done = self.equal_length(job);
         if done == job.size {
@@ -28,7 +29,7 @@ impl Plain {
         requires source { job.now.source + job.now.size ≤ 2 ^ 64 }
         requires target { job.now.target + job.now.size ≤ 2 ^ 64 }
         ensures at_most { result ≤ job.now.size }
-        ensures value { result ≡ compare_length self.now job.now }
+        ensures value { result ≡ length_of Compare self.now job.now }
     {
         for k in 0..job.size {
             if !self.is_alike(job.source + k as u64, job.target + k as u64) {
@@ -54,7 +55,7 @@ impl Plain {
         requires short { done < job.now.size }
         requires source { job.now.source + job.now.size ≤ 2 ^ 64 }
         requires target { job.now.target + job.now.size ≤ 2 ^ 64 }
-        ensures { result ≡ compare_answer self.now job.now done (compare_faults job.now done) }
+        ensures { result ≡ compare_answer self.now job.now done (faults_at Compare job.now done) }
     {
         let first = job.source + done as u64;
         let second = job.target + done as u64;

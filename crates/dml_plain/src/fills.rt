@@ -1,7 +1,6 @@
 ghost use Rattle.std.specs.Prelude.{◌≡◌, ℕ, ◌+◌, ◌^◌, ◌<◌, ◌≤◌, length};
 ghost use Rattle.dml_types.specs.Memory.{put, puts_made};
-ghost use Rattle.dml_types.specs.Pattern.{pattern_bytes};
-ghost use Rattle.dml_types.specs.Copy.{filled};
+ghost use Rattle.dml_types.specs.Bytewise.{pattern_bytes, filled};
 
 use crate::answers::{ended, faulted};
 use crate::plain::Plain;

@@ -1,6 +1,7 @@
 ghost use Rattle.std.specs.Prelude.{◌≡◌, ℕ, true, ◌&&◌, ◌+◌, ◌^◌, ◌<◌, ◌≤◌, length};
+ghost use Rattle.dml_types.specs.declared.operations.Op.TheVariants.{Move};
 ghost use Rattle.dml_types.specs.Memory.{bytes_at, has, offset_in, put, puts_made};
-ghost use Rattle.dml_types.specs.Copy.{direction_of, done_from, move_length, moved, result_of};
+ghost use Rattle.dml_types.specs.Bytewise.{direction_by, done_from, length_of, moved, result_of};
 
 use crate::answers::{ended, faulted};
 use crate::plain::Plain;
@@ -27,9 +28,9 @@ impl Plain {
         requires source { job.now.source + job.now.size ≤ 2 ^ 64 }
         requires target { job.now.target + job.now.size ≤ 2 ^ 64 }
         ensures at_most { result ≤ job.now.size }
-        ensures value { result ≡ move_length self.now job.now }
-        ensures source_within { (i : ℕ) → i < result → job.now.source + offset_in (direction_of job.now) job.now.size i < length self.now.bytes }
-        ensures target_within { (i : ℕ) → i < result → job.now.target + offset_in (direction_of job.now) job.now.size i < length self.now.bytes }
+        ensures value { result ≡ length_of Move self.now job.now }
+        ensures source_within { (i : ℕ) → i < result → job.now.source + offset_in (direction_by Move job.now) job.now.size i < length self.now.bytes }
+        ensures target_within { (i : ℕ) → i < result → job.now.target + offset_in (direction_by Move job.now) job.now.size i < length self.now.bytes }
     {
         let direction = direction_of(job);
         for k in 0..job.size {
@@ -54,7 +55,7 @@ impl Plain {
     #[tactic(auto, using(crate::proofs::CopyLemmas::moved_whole, crate::proofs::CopyLemmas::moved_to_write, crate::proofs::CopyLemmas::moved_to_read))]
     fn move_answer(&self, job: &Job, done: u32) -> Record
         requires at_most { done ≤ job.now.size }
-        requires done { done ≡ move_length self.now job.now }
+        requires done { done ≡ length_of Move self.now job.now }
         requires source { job.now.source + job.now.size ≤ 2 ^ 64 }
         requires target { job.now.target + job.now.size ≤ 2 ^ 64 }
         ensures { result ≡ (moved self.now job.now).answer }
@@ -77,9 +78,9 @@ impl Plain {
         requires at_most { done ≤ job.now.size }
         requires source { job.now.source + job.now.size ≤ 2 ^ 64 }
         requires target { job.now.target + job.now.size ≤ 2 ^ 64 }
-        requires source_within { (i : ℕ) → i < done → job.now.source + offset_in (direction_of job.now) job.now.size i < length self.old.bytes }
-        requires target_within { (i : ℕ) → i < done → job.now.target + offset_in (direction_of job.now) job.now.size i < length self.old.bytes }
-        ensures { let from = done_from (direction_of job.now) job.now.size done in self.new ≡ put self.old (job.now.target + from) (bytes_at self.old (job.now.source + from) done) }
+        requires source_within { (i : ℕ) → i < done → job.now.source + offset_in (direction_by Move job.now) job.now.size i < length self.old.bytes }
+        requires target_within { (i : ℕ) → i < done → job.now.target + offset_in (direction_by Move job.now) job.now.size i < length self.old.bytes }
+        ensures { let from = done_from (direction_by Move job.now) job.now.size done in self.new ≡ put self.old (job.now.target + from) (bytes_at self.old (job.now.source + from) done) }
     {
         let direction = direction_of(job);
         for i in 0..done {
@@ -92,7 +93,7 @@ impl Plain {
 
 /// The direction of a move.
 fn direction_of(job: &Job) -> Direction
-    ensures { result ≡ direction_of job.now }
+    ensures { result ≡ direction_by Move job.now }
 {
     if job.source < job.target && job.target - job.source < job.size as u64 {
         Direction::Backward

@@ -8,11 +8,10 @@ use Rattle.dml_types.specs.declared.operations.Direction.{Direction}
 use Rattle.dml_types.specs.declared.operations.Direction.TheVariants.{Forward}
 use Rattle.dml_types.specs.declared.operations.Op.{Op}
 use Rattle.dml_types.specs.declared.operations.Op.TheVariants.{Fill, Move, Dualcast}
-use Rattle.dml_types.specs.First.{first}
-use Rattle.dml_types.specs.Memory.{Memory, has, offset_in, present_toward}
+use Rattle.dml_types.specs.Memory.{first, Memory, has, offset_in, present_toward}
 use Rattle.dml_types.specs.Effect.{Fault, is_clear, first_fault, read_fault, write_fault}
-use Rattle.dml_types.specs.Copy.{direction_of}
-use Rattle.dml_types.specs.Chunk.{scan_done, scan_found, scan_faults, scan_offset, passes, fault_found}
+use Rattle.dml_types.specs.Bytewise.{direction_by, faults_at, passes}
+use Rattle.dml_types.specs.Chunk.{scan_done, scan_found, scan_offset, fault_found}
 use Rattle.dml_scan.specs.Found.{done_of}
 use Rattle.dml_types.proofs.FirstLemmas.{first_le, first_is, first_agree, fails_before, passes_at}
 
@@ -65,15 +64,15 @@ pub fill_done : (memory : Memory) (job : Job) (from to : ℕ) → scan_done Fill
 fill_done memory job from to =
     first_alone (to - from) (λ i. has memory (job.target + (from + i))) ∙ run_at memory Forward job.target from (to - from)
 
-pub move_done : (memory : Memory) (job : Job) (from to : ℕ) → scan_done Move memory job from to ≡ run_of_two (direction_of job) memory (job.source + from) (job.target + from) (to - from)
+pub move_done : (memory : Memory) (job : Job) (from to : ℕ) → scan_done Move memory job from to ≡ run_of_two (direction_by Move job) memory (job.source + from) (job.target + from) (to - from)
 move_done memory job from to =
     let n = to - from in
-    let offset = λ (i : ℕ). from + offset_in (direction_of job) n i in
+    let offset = λ (i : ℕ). from + offset_in (direction_by Move job) n i in
     let source = λ (i : ℕ). has memory (job.source + offset i) in
     let target = λ (i : ℕ). has memory (job.target + offset i) in
     first_both n source (λ i. target i && true)
-    ∙ (ap (λ (k : ℕ). min k (first n (λ i. not (target i && true)))) (run_at memory (direction_of job) job.source from n)
-    ∙ ap (λ (k : ℕ). min (present_toward (direction_of job) memory (job.source + from) n) k) (first_alone n target ∙ run_at memory (direction_of job) job.target from n))
+    ∙ (ap (λ (k : ℕ). min k (first n (λ i. not (target i && true)))) (run_at memory (direction_by Move job) job.source from n)
+    ∙ ap (λ (k : ℕ). min (present_toward (direction_by Move job) memory (job.source + from) n) k) (first_alone n target ∙ run_at memory (direction_by Move job) job.target from n))
 
 pub dualcast_done : (memory : Memory) (job : Job) (from to : ℕ) → scan_done Dualcast memory job from to ≡ run_of_three memory (job.source + from) (job.target + from) (job.extra + from) (to - from)
 dualcast_done memory job from to =
@@ -96,7 +95,7 @@ dualcast_done memory job from to =
 -- how a scan ends, by how much was done
 abbrev found_of : Op → Memory → Job → ℕ → ℕ → ℕ → Found
 found_of op memory job from to done =
-    let faults = scan_faults op job (scan_offset op job from to done) in
+    let faults = faults_at op job (scan_offset op job from to done) in
     cond (eqb done (to - from)) All (cond (is_clear memory faults) (Differs done) (fault_found done (first_fault memory faults)))
 
 -- all was done, or a byte of the next offset is absent
@@ -104,12 +103,12 @@ pub found_all : (op : Op) (memory : Memory) (job : Job) (from to : ℕ) → scan
 unfolding scan_found
 found_all op memory job from to is =
     sym (ap (found_of op memory job from to) is
-    ∙ ap (λ (b : Bool). cond b All (cond (is_clear memory (scan_faults op job (scan_offset op job from to (to - from)))) (Differs (to - from)) (fault_found (to - from) (first_fault memory (scan_faults op job (scan_offset op job from to (to - from))))))) (eq-eqb (to - from) (to - from) refl))
+    ∙ ap (λ (b : Bool). cond b All (cond (is_clear memory (faults_at op job (scan_offset op job from to (to - from)))) (Differs (to - from)) (fault_found (to - from) (first_fault memory (faults_at op job (scan_offset op job from to (to - from))))))) (eq-eqb (to - from) (to - from) refl))
 
-pub found_fault : (op : Op) (memory : Memory) (job : Job) (from to k : ℕ) (fault : Fault) → scan_done op memory job from to ≡ k → k < to - from → is_clear memory (scan_faults op job (scan_offset op job from to k)) ≡ false → first_fault memory (scan_faults op job (scan_offset op job from to k)) ≡ fault → fault_found k fault ≡ scan_found op memory job from to
+pub found_fault : (op : Op) (memory : Memory) (job : Job) (from to k : ℕ) (fault : Fault) → scan_done op memory job from to ≡ k → k < to - from → is_clear memory (faults_at op job (scan_offset op job from to k)) ≡ false → first_fault memory (faults_at op job (scan_offset op job from to k)) ≡ fault → fault_found k fault ≡ scan_found op memory job from to
 unfolding scan_found
 found_fault op memory job from to k fault is below blocked comes =
-    let faults = scan_faults op job (scan_offset op job from to k) in
+    let faults = faults_at op job (scan_offset op job from to k) in
     let short : eqb k (to - from) ≡ false = ltb_apart k (to - from) below in
     sym (ap (found_of op memory job from to) is
     ∙ (ap (λ (b : Bool). cond b All (cond (is_clear memory faults) (Differs k) (fault_found k (first_fault memory faults)))) short
@@ -170,33 +169,33 @@ fill_stops memory job from to address k at is below =
     ap (λ (a : ℕ). Faults k a true) place ∙ found_fault Fill memory job from to k _ done below blocked (one_fault memory _ blocked)
 
 -- a move: what stops it at an offset is its source's byte where that is absent, else its destination's
-pub move_done_from : (memory : Memory) (job : Job) (from to source target : ℕ) → source ≡ job.source + from → target ≡ job.target + from → scan_done Move memory job from to ≡ run_of_two (direction_of job) memory source target (to - from)
+pub move_done_from : (memory : Memory) (job : Job) (from to source target : ℕ) → source ≡ job.source + from → target ≡ job.target + from → scan_done Move memory job from to ≡ run_of_two (direction_by Move job) memory source target (to - from)
 move_done_from memory job from to source target at_source at_target =
-    move_done memory job from to ∙ ap₂ (λ (a b : ℕ). run_of_two (direction_of job) memory a b (to - from)) (sym at_source) (sym at_target)
+    move_done memory job from to ∙ ap₂ (λ (a b : ℕ). run_of_two (direction_by Move job) memory a b (to - from)) (sym at_source) (sym at_target)
 
-pub move_all : (memory : Memory) (job : Job) (from to source target : ℕ) → source ≡ job.source + from → target ≡ job.target + from → run_of_two (direction_of job) memory source target (to - from) ≡ to - from → All ≡ scan_found Move memory job from to
+pub move_all : (memory : Memory) (job : Job) (from to source target : ℕ) → source ≡ job.source + from → target ≡ job.target + from → run_of_two (direction_by Move job) memory source target (to - from) ≡ to - from → All ≡ scan_found Move memory job from to
 move_all memory job from to source target at_source at_target all =
     found_all Move memory job from to (move_done_from memory job from to source target at_source at_target ∙ all)
 
-pub move_stops : (memory : Memory) (job : Job) (from to k : ℕ) → scan_done Move memory job from to ≡ k → k < to - from → let offset = from + offset_in (direction_of job) (to - from) k in fault_found k (cond (has memory (job.source + offset)) (write_fault (job.target + offset)) (read_fault (job.source + offset))) ≡ scan_found Move memory job from to
+pub move_stops : (memory : Memory) (job : Job) (from to k : ℕ) → scan_done Move memory job from to ≡ k → k < to - from → let offset = from + offset_in (direction_by Move job) (to - from) k in fault_found k (cond (has memory (job.source + offset)) (write_fault (job.target + offset)) (read_fault (job.source + offset))) ≡ scan_found Move memory job from to
 move_stops memory job from to k is below =
     let blocked = blocked_at Move memory job from to k is below in
     found_fault Move memory job from to k _ is below blocked (two_faults memory _ _ blocked)
 
-pub move_reads : (memory : Memory) (job : Job) (from to source target offset k : ℕ) → source ≡ job.source + from → target ≡ job.target + from → offset ≡ offset_in (direction_of job) (to - from) k → run_of_two (direction_of job) memory source target (to - from) ≡ k → k < to - from → has memory (source + offset) ≡ false → Faults k (source + offset) false ≡ scan_found Move memory job from to
+pub move_reads : (memory : Memory) (job : Job) (from to source target offset k : ℕ) → source ≡ job.source + from → target ≡ job.target + from → offset ≡ offset_in (direction_by Move job) (to - from) k → run_of_two (direction_by Move job) memory source target (to - from) ≡ k → k < to - from → has memory (source + offset) ≡ false → Faults k (source + offset) false ≡ scan_found Move memory job from to
 move_reads memory job from to source target offset k at_source at_target at_offset is below gone =
-    let place : source + offset ≡ job.source + (from + offset_in (direction_of job) (to - from) k) = omega (arith, at_source, at_offset) in
-    let other : ℕ = job.target + (from + offset_in (direction_of job) (to - from) k) in
+    let place : source + offset ≡ job.source + (from + offset_in (direction_by Move job) (to - from) k) = omega (arith, at_source, at_offset) in
+    let other : ℕ = job.target + (from + offset_in (direction_by Move job) (to - from) k) in
     ap (λ (a : ℕ). Faults k a false) place
-    ∙ (ap (λ (b : Bool). fault_found k (cond b (write_fault other) (read_fault (job.source + (from + offset_in (direction_of job) (to - from) k))))) (sym gone ∙ ap (has memory) place)
+    ∙ (ap (λ (b : Bool). fault_found k (cond b (write_fault other) (read_fault (job.source + (from + offset_in (direction_by Move job) (to - from) k))))) (sym gone ∙ ap (has memory) place)
     ∙ move_stops memory job from to k (move_done_from memory job from to source target at_source at_target ∙ is) below)
 
-pub move_writes : (memory : Memory) (job : Job) (from to source target offset k : ℕ) → source ≡ job.source + from → target ≡ job.target + from → offset ≡ offset_in (direction_of job) (to - from) k → run_of_two (direction_of job) memory source target (to - from) ≡ k → k < to - from → has memory (source + offset) ≡ true → Faults k (target + offset) true ≡ scan_found Move memory job from to
+pub move_writes : (memory : Memory) (job : Job) (from to source target offset k : ℕ) → source ≡ job.source + from → target ≡ job.target + from → offset ≡ offset_in (direction_by Move job) (to - from) k → run_of_two (direction_by Move job) memory source target (to - from) ≡ k → k < to - from → has memory (source + offset) ≡ true → Faults k (target + offset) true ≡ scan_found Move memory job from to
 move_writes memory job from to source target offset k at_source at_target at_offset is below here =
-    let read : source + offset ≡ job.source + (from + offset_in (direction_of job) (to - from) k) = omega (arith, at_source, at_offset) in
-    let place : target + offset ≡ job.target + (from + offset_in (direction_of job) (to - from) k) = omega (arith, at_target, at_offset) in
+    let read : source + offset ≡ job.source + (from + offset_in (direction_by Move job) (to - from) k) = omega (arith, at_source, at_offset) in
+    let place : target + offset ≡ job.target + (from + offset_in (direction_by Move job) (to - from) k) = omega (arith, at_target, at_offset) in
     ap (λ (a : ℕ). Faults k a true) place
-    ∙ (ap (λ (b : Bool). fault_found k (cond b (write_fault (job.target + (from + offset_in (direction_of job) (to - from) k))) (read_fault (job.source + (from + offset_in (direction_of job) (to - from) k))))) (sym here ∙ ap (has memory) read)
+    ∙ (ap (λ (b : Bool). fault_found k (cond b (write_fault (job.target + (from + offset_in (direction_by Move job) (to - from) k))) (read_fault (job.source + (from + offset_in (direction_by Move job) (to - from) k))))) (sym here ∙ ap (has memory) read)
     ∙ move_stops memory job from to k (move_done_from memory job from to source target at_source at_target ∙ is) below)
 
 -- a dualcast: its source's byte, else its first destination's, else its second's
@@ -242,7 +241,7 @@ pub done_found : (op : Op) (memory : Memory) (job : Job) (from to : ℕ) → don
 unfolding scan_found
 done_found op memory job from to =
     let done = scan_done op memory job from to in
-    let faults = scan_faults op job (scan_offset op job from to done) in
+    let faults = faults_at op job (scan_offset op job from to done) in
     choose (to - from) done (is_clear memory faults) (first_fault memory faults)
   where
     choose : (n k : ℕ) (clear : Bool) (fault : Fault) → done_of n (cond (eqb k n) All (cond clear (Differs k) (fault_found k fault))) ≡ k

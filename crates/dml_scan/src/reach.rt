@@ -3,7 +3,7 @@
 ghost use Rattle.std.specs.Prelude.{◌≡◌, ◌+◌, ◌-◌, ◌^◌, ◌<◌, ◌≤◌, Some, true, false};
 ghost use Rattle.dml_types.specs.declared.operations.Op.TheVariants.{Fill, Move, Dualcast};
 ghost use Rattle.dml_types.specs.Job.{op_of};
-ghost use Rattle.dml_types.specs.Copy.{direction_of};
+ghost use Rattle.dml_types.specs.Bytewise.{direction_by};
 ghost use Rattle.dml_types.specs.Memory.{offset_in, present_toward};
 ghost use Rattle.dml_types.specs.Chunk.{scan_found};
 ghost use Rattle.dml_scan.specs.Found.{done_of};
@@ -76,7 +76,7 @@ pub fn fill_found(image: &Image, job: &Checked, from: u32, to: u32) -> Found
 
 /// The direction of a move: backward where its destination begins inside its source, behind the first byte.
 pub fn move_direction(job: &Job) -> Direction
-    ensures { result ≡ direction_of job.now }
+    ensures { result ≡ direction_by Move job.now }
 {
     if job.source < job.target && job.target - job.source < u64::from(job.size) {
         Direction::Backward

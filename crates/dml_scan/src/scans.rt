@@ -1,7 +1,7 @@
 ghost use Rattle.std.specs.Prelude.{◌≡◌, ◌+◌, ◌-◌, ◌^◌, ◌≤◌, ◌++◌, [], length, IsTrue};
 ghost use Rattle.dml_types.specs.declared.operations.Op.TheVariants.{Dualcast, Fill, Move};
 ghost use Rattle.dml_types.specs.Job.{op_of};
-ghost use Rattle.dml_types.specs.Copy.{done_from};
+ghost use Rattle.dml_types.specs.Bytewise.{done_from};
 ghost use Rattle.dml_types.specs.Memory.{bytes_at, has_all};
 ghost use Rattle.dml_types.specs.Chunk.{scan_found, scan_staged};
 

@@ -5,7 +5,7 @@ use Rattle.std.specs.List.{flat_map}
 use Rattle.dml_types.specs.declared.jobs.Job as jobs
 use Rattle.dml_types.specs.declared.records.Record.{Record}
 use Rattle.dml_types.specs.declared.records.BatchRecord.{BatchRecord}
-use Rattle.dml_types.specs.Status.{code_of}
+use Rattle.dml_types.specs.Effect.{code_of}
 use Rattle.dml_script.specs.declared.items.Item.{Item}
 use Rattle.dml_script.specs.declared.items.Item.TheVariants as item
 

@@ -1,6 +1,6 @@
 ghost use Rattle.std.specs.Prelude.{◌≡◌, ◌≢◌, ◌+◌, ◌^◌, ◌<◌, ◌≤◌, false, true, length, Ok, Err, OnOk, OnErr, IsErrOf, IsOk, IfSome, vec_len};
 ghost use Rattle.std.specs.Io.KnownBytes.{Appends, IsAtEnd};
-ghost use Rattle.dml_types.specs.Settings.{IsValid};
+ghost use Rattle.dml_types.specs.Refusal.{IsValid};
 ghost use Rattle.dml_script.specs.Grammar.{parse};
 ghost use Rattle.dml_script.specs.Run.{answer, answer_from, opening, text_if};
 ghost use Rattle.dml_script.specs.Runnable.{AllFit, IsRunnable};

@@ -4,7 +4,7 @@ use Rattle.std.specs.List.{range_with_len}
 use Rattle.std.proofs.lemmas.List.Sums.{position_or_len_is, fails_before_first, passes_at_first, prefix_len-le-length}
 use Rattle.std.proofs.lemmas.List.FromFn.{get_or-range_with_len, length-range_with_len}
 use Rattle.std.proofs.lemmas.Bool.{cases_lt}
-use Rattle.dml_types.specs.First.{first}
+use Rattle.dml_types.specs.Memory.{first}
 
 pub first_le : (n : ℕ) (test : ℕ → Bool) → first n test ≤ n
 unfolding first

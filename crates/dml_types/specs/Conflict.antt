@@ -1,27 +1,21 @@
 -- Which jobs of a list have to wait for earlier ones.
 use Rattle.std.specs.Prelude.{fold, unwrap_or, option_map, ℕ, zero, suc, ◌+◌, max, Bool, ◌||◌, List, [], ◌∷◌, ◌++◌, map, filter, slice_index, slice_index_or}
-use Rattle.dml_types.specs.Types.{Job, Span, range_with_len}
-use Rattle.dml_types.specs.Job.{op_of, no_op_job}
-use Rattle.dml_types.specs.Range.{any_shares, reads, writes}
+use Rattle.dml_types.specs.Types.{Job, Op, Span, range_with_len}
+use Rattle.dml_types.specs.Job.{op_of, no_op_job, any_shares, reads, writes}
 
--- the ranges of a job, by its descriptor alone
-abbrev pub reads_of : Job → List Span
-reads_of job = unwrap_or (option_map (λ op. reads op job) (op_of job)) []
-
-abbrev pub writes_of : Job → List Span
-writes_of job = unwrap_or (option_map (λ op. writes op job) (op_of job)) []
+-- the ranges that a job reads, or writes, by its descriptor alone
+abbrev pub ranges_of : (Op → Job → List Span) → Job → List Span
+ranges_of table job = unwrap_or (option_map (λ op. table op job) (op_of job)) []
 
 -- a written range of one shares a byte with a range of the other
 abbrev pub conflict : Job → Job → Bool
 conflict a b =
-    any_shares (writes_of a) (reads_of b) || any_shares (writes_of a) (writes_of b) || any_shares (reads_of a) (writes_of b)
+    any_shares (ranges_of writes a) (ranges_of reads b) || any_shares (ranges_of writes a) (ranges_of writes b)
+    || any_shares (ranges_of reads a) (ranges_of writes b)
 
 -- the jobs of a list are named by their places
-abbrev pub job_at : List Job → ℕ → Job
-job_at jobs i = slice_index_or jobs i no_op_job
-
 abbrev pub clash_of : List Job → ℕ → ℕ → Bool
-clash_of jobs i k = conflict (job_at jobs i) (job_at jobs k)
+clash_of jobs i k = conflict (slice_index_or jobs i no_op_job) (slice_index_or jobs k no_op_job)
 
 -- one more than the greatest level of an earlier job that job i clashes with, and 0 where there is none
 abbrev pub level_over : (ℕ → ℕ → Bool) → List ℕ → ℕ → ℕ

@@ -1,8 +1,7 @@
 -- Create and apply a delta record: a list of entries of 10 bytes, a 2-byte block number and the block's 8 bytes.
 use Rattle.std.specs.Prelude.{ℕ, ◌+◌, ◌-◌, ◌*◌, ◌/◌, ◌%◌, ◌^◌, Bool, not, ◌&&◌, List, [], ◌∷◌, ◌++◌, map, length, take, filter, flat_map, find, Option, None, Some, is_some, option_map, if◌then◌else◌, ◌==◌, nat_lt, nat_le, slice_index, bytes_eq}
 use Rattle.dml_types.specs.Types.{Job, Record, Success, NotRising, OffsetRange, range_with_len, from_le_bytes, to_le_bytes, w16}
-use Rattle.dml_types.specs.First.{first}
-use Rattle.dml_types.specs.Memory.{Memory, Put, put_of, present_bytes, has_all, bytes_at}
+use Rattle.dml_types.specs.Memory.{first, Memory, Put, put_of, present_bytes, has_all, bytes_at}
 use Rattle.dml_types.specs.Effect.{Effect, effect_of, Fault, read_fault, write_fault, ended, faulted, judged}
 
 abbrev pub first_absent : Memory → ℕ → ℕ → ℕ
@@ -23,13 +22,13 @@ is_readable memory job b = has_block memory job.source b && has_block memory job
 abbrev pub differs : Memory → Job → ℕ → Bool
 differs memory job b = not (bytes_eq (block_at memory job.source b) (block_at memory job.target b))
 
--- how many blocks come before the first that is not readable
-abbrev pub readable_blocks : Memory → Job → ℕ
-readable_blocks memory job = first (job.size / 8) (λ b. not (is_readable memory job b))
+-- how many blocks, of those from one up to another, come before the first that is not readable
+abbrev pub readable_blocks : Memory → Job → ℕ → ℕ → ℕ
+readable_blocks memory job from to = first (to - from) (λ i. not (is_readable memory job (from + i)))
 
 -- of these, the blocks whose two contents differ, upwards
-abbrev pub differing : Memory → Job → List ℕ
-differing memory job = filter (differs memory job) (range_with_len 0 (readable_blocks memory job))
+abbrev pub differing : Memory → Job → ℕ → ℕ → List ℕ
+differing memory job from to = filter (differs memory job) (range_with_len from (readable_blocks memory job from to))
 
 -- how many entries come before the first that has an absent byte
 abbrev pub entry_room : Memory → Job → ℕ
@@ -57,14 +56,14 @@ crowded memory job room b =
 -- the record where all entries were written: a read fault at the first block that is not readable, else the end
 abbrev pub written_out : Memory → Job → ℕ → Record
 written_out memory job entries =
-    let s = readable_blocks memory job in
+    let s = readable_blocks memory job 0 (job.size / 8) in
     let outcome = (if entries == 0 then 0 else 1) in
     if s == job.size / 8 then ended (judged job (expects job outcome)) outcome job.size (10 * entries)
     else faulted (block_fault memory job s) 0 (8 * s) (10 * entries)
 
 unfoldable pub created : Memory → Job → Effect
 created memory job =
-    let blocks = differing memory job in
+    let blocks = differing memory job 0 (job.size / 8) in
     let room = entry_room memory job in
     effect_of (put_of job.extra (flat_map (entry_for memory job) (take room blocks)) ∷ [])
     (if nat_lt room (length blocks) then crowded memory job room (slice_index blocks room)
@@ -74,21 +73,20 @@ created memory job =
 abbrev pub offset_at : Memory → Job → ℕ → ℕ
 offset_at memory job x = from_le_bytes w16 (bytes_at memory (job.source + 10 * x) 2)
 
--- the causes for which entry x is bad, in order, each with its status and address; the rise is judged behind an entry
-abbrev pub entry_causes : ℕ → Memory → Job → ℕ → List (Bool × Fault)
-entry_causes behind memory job x =
+-- the fault for which entry x is bad: the first of the causes that holds; the rise is judged behind an entry
+abbrev pub entry_fault : ℕ → Memory → Job → ℕ → Option Fault
+entry_fault behind memory job x =
     let offset = offset_at memory job x in
+    let causes : List (Bool × Fault) =
     (not (has_all memory (job.source + 10 * x) 10), read_fault (first_absent memory (job.source + 10 * x) 10))
     ∷ (nat_lt behind x && nat_le offset (offset_at memory job (x - 1)), record { status = NotRising; address = 0 })
     ∷ (nat_le (job.size / 8) offset, record { status = OffsetRange; address = 0 })
-    ∷ (not (has_block memory job.target offset), write_fault (first_absent memory (job.target + 8 * offset) 8)) ∷ []
+    ∷ (not (has_block memory job.target offset), write_fault (first_absent memory (job.target + 8 * offset) 8)) ∷ [] in
+    option_map (λ cause. cause.1) (find (λ cause. cause.0) causes)
 
-abbrev pub entry_fault : ℕ → Memory → Job → ℕ → Option Fault
-entry_fault behind memory job x = option_map (λ cause. cause.1) (find (λ cause. cause.0) (entry_causes behind memory job x))
-
--- how many entries come before the first bad one
-abbrev pub good_entries : Memory → Job → ℕ
-good_entries memory job = first (job.delta_size / 10) (λ x. is_some (entry_fault 0 memory job x))
+-- how many entries, of those from one up to another, come before the first bad one
+abbrev pub good_entries : Memory → Job → ℕ → ℕ → ℕ
+good_entries memory job from to = first (to - from) (λ i. is_some (entry_fault from memory job (from + i)))
 
 abbrev pub entry_put : Memory → Job → ℕ → Put
 entry_put memory job x = put_of (job.target + 8 * offset_at memory job x) (bytes_at memory (job.source + 10 * x + 2) 8)
@@ -99,6 +97,6 @@ apply_answer x (Some fault) = faulted fault 0 (10 * x) 0
 
 unfoldable pub applied : Memory → Job → Effect
 applied memory job =
-    let x = good_entries memory job in
+    let x = good_entries memory job 0 (job.delta_size / 10) in
     effect_of (map (entry_put memory job) (range_with_len 0 x))
     (apply_answer x (if x == job.delta_size / 10 then None else entry_fault 0 memory job x))

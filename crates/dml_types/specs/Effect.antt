@@ -1,9 +1,33 @@
--- What a job does: bytes that are put, and its completion record. An operation's equation gives both from the
--- image as it stood before the job.
-use Rattle.std.specs.Prelude.{ℕ, Bool, not, ◌||◌, List, [], find, unwrap_or, if◌then◌else◌, ◌==◌}
-use Rattle.dml_types.specs.Types.{Job, Record, Status, Success, FalsePredicate, ReadFault, WriteFault, list_all}
-use Rattle.dml_types.specs.Flags.{has_flags}
+-- What a job does, found on the image as it stood before the job: bytes that are put, and its completion record.
+use Rattle.std.specs.Prelude.{ℕ, Bool, not, ◌||◌, List, [], ◌∷◌, Option, find, unwrap_or, if◌then◌else◌, ◌==◌, nat_eq, bit_and}
+use Rattle.dml_types.specs.Types.{Job, Record, Status, Success, FalsePredicate, ReadFault, BatchFailed, NotRising, OffsetRange, BadOpcode, BadFlags, BadSize, BadDeltaSize, Overlap, DualcastBits, Misaligned, RangePast, StagingRefused, WriteFault, list_all}
 use Rattle.dml_types.specs.Memory.{Memory, Put, has}
+
+-- the statuses' codes in a completion record
+abbrev pub code_of : Status → ℕ
+code_of Success = 0x01
+code_of FalsePredicate = 0x02
+code_of ReadFault = 0x03
+code_of BatchFailed = 0x05
+code_of NotRising = 0x07
+code_of OffsetRange = 0x08
+code_of BadOpcode = 0x10
+code_of BadFlags = 0x11
+code_of BadSize = 0x13
+code_of BadDeltaSize = 0x15
+code_of Overlap = 0x16
+code_of DualcastBits = 0x17
+code_of Misaligned = 0x1C
+code_of RangePast = 0x7D
+code_of StagingRefused = 0x7E
+code_of WriteFault = 0x83
+
+-- the status with a code, if there is one
+abbrev pub status_with : ℕ → Option Status
+status_with code =
+    find (λ status. nat_eq code (code_of status))
+    (Success ∷ FalsePredicate ∷ ReadFault ∷ BatchFailed ∷ NotRising ∷ OffsetRange ∷ BadOpcode ∷ BadFlags ∷ BadSize
+    ∷ BadDeltaSize ∷ Overlap ∷ DualcastBits ∷ Misaligned ∷ RangePast ∷ StagingRefused ∷ WriteFault ∷ [])
 
 pub record Effect : Type 0 where
   pub puts : List Put
@@ -40,7 +64,7 @@ first_fault memory faults = unwrap_or (find (λ fault. not (has memory fault.add
 
 -- the status of a job that ended with a result which is the expected one, or not: the flag 0x80 asks for a check
 abbrev pub judged : Job → Bool → Status
-judged job is_expected = if not (has_flags job.flags 0x80) || is_expected then Success else FalsePredicate
+judged job is_expected = if not (nat_eq (bit_and job.flags 0x80) 0x80) || is_expected then Success else FalsePredicate
 
 -- a refused job
 abbrev pub refused : Status → Effect

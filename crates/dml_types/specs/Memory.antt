@@ -1,7 +1,10 @@
 -- A memory image: pages that are present or absent, and the bytes from address 0 on.
 use Rattle.std.specs.Prelude.{◌≡◌, ℕ, ◌+◌, ◌-◌, ◌*◌, ◌/◌, ◌≤◌, Bool, false, not, List, [], ◌∷◌, ◌++◌, length, take, drop, slice_index, slice_index_or, slice_range, nat_eq}
-use Rattle.dml_types.specs.First.{first}
-use Rattle.dml_types.specs.Types.{Direction, Forward, Backward}
+use Rattle.dml_types.specs.Types.{Direction, Forward, Backward, position_or_len, range_with_len}
+
+-- the first index: the least i below n with test i, and n where there is none
+unfoldable pub first : ℕ → (ℕ → Bool) → ℕ
+first n test = position_or_len test (range_with_len 0 n)
 
 abbrev pub page_size : ℕ
 page_size = 4096

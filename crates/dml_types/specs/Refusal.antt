@@ -1,9 +1,15 @@
--- When a job is refused: the rules in order, each with the status that answers where the job breaks it.
-use Rattle.std.specs.Prelude.{unwrap_or, option_map, ℕ, ◌*◌, ◌/◌, ◌%◌, Bool, false, not, ◌||◌, ◌==◌, List, [], ◌∷◌, ◌++◌, Option, None, Some, find, nat_lt, bit_and}
-use Rattle.dml_types.specs.Types.{Job, Op, NoOp, Move, CreateDelta, ApplyDelta, Dualcast, Status, BadOpcode, BadFlags, BadSize, BadDeltaSize, Misaligned, DualcastBits, Overlap, RangePast, StagingRefused, list_any}
-use Rattle.dml_types.specs.Flags.{accepted_flags}
-use Rattle.dml_types.specs.Job.{op_of}
-use Rattle.dml_types.specs.Range.{span, shares, any_shares, is_past, reads, writes}
+-- The limits of an engine's settings, and when a job is refused.
+use Rattle.std.specs.Prelude.{◌≡◌, ◌≤◌, unwrap_or, option_map, ℕ, ◌*◌, ◌/◌, ◌%◌, Bool, false, not, ◌||◌, ◌==◌, List, [], ◌∷◌, ◌++◌, Option, None, Some, find, nat_lt, bit_and}
+use Rattle.dml_types.specs.Types.{Job, Settings, Op, NoOp, Move, CreateDelta, ApplyDelta, Dualcast, Status, BadOpcode, BadFlags, BadSize, BadDeltaSize, Misaligned, DualcastBits, Overlap, RangePast, StagingRefused, list_any}
+use Rattle.dml_types.specs.Job.{op_of, accepted_flags, span, shares, any_shares, is_past, reads, writes}
+
+pub record IsValid (settings : Settings) : Type 0 where
+  pub staging : settings.staging ≤ 16777216
+  pub least_chunk : 8 ≤ settings.chunk
+  pub most_chunk : settings.chunk ≤ 1048576
+  pub whole_words : settings.chunk % 8 ≡ 0
+  pub least_workers : 1 ≤ settings.workers
+  pub most_workers : settings.workers ≤ 16
 
 -- the staging that a job needs
 abbrev pub need_of : Op → Job → ℕ
@@ -53,7 +59,7 @@ has_overlap _ job = false
 abbrev pub has_range_past : Op → Job → Bool
 has_range_past op job = list_any is_past (reads op job ++ writes op job)
 
--- the rules of a supported operation, in order
+-- the rules of a supported operation, in order, each with the status that answers where the job breaks it
 abbrev pub rules_of : Op → Job → ℕ → List (Bool × Status)
 rules_of op job staging =
     (has_bad_flags job, BadFlags) ∷ (has_bad_size op job, BadSize) ∷ (has_bad_delta_size op job, BadDeltaSize)

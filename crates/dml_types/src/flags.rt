@@ -21,7 +21,7 @@ impl Flags for JobFlags {
     type Bits = u32;
 
     ghost use Rattle.std.specs.Prelude.{⊤};
-    ghost use Rattle.dml_types.specs.Flags.{flag_table};
+    ghost use Rattle.dml_types.specs.Job.{flag_table};
 
     ghost exact = { ⊤ };
 

@@ -3,11 +3,10 @@
 ghost use Rattle.std.specs.Prelude.{◌≡◌, ℕ, ◌+◌, ◌<◌, ◌≤◌, ◌⊎◌, Bool, true, false, List, [], ◌∷◌, ◌++◌, length, Some, None};
 ghost use Rattle.dml_types.specs.Types.{Job, Status, NoOp, Move};
 ghost use Rattle.dml_types.specs.Job.{op_of};
-ghost use Rattle.dml_types.specs.First.{first};
-ghost use Rattle.dml_types.specs.Memory.{Memory, IsWhole, bytes_at, put};
+ghost use Rattle.dml_types.specs.Memory.{first, Memory, IsWhole, bytes_at, put};
 ghost use Rattle.dml_types.specs.Refusal.{refusal};
 ghost use Rattle.dml_types.specs.Effect.{ended};
-ghost use Rattle.dml_types.specs.Copy.{direction_of, done_from, move_length};
+ghost use Rattle.dml_types.specs.Bytewise.{direction_by, done_from, length_of};
 ghost use Rattle.dml_types.specs.Step.{step, memory_after, records_of};
 
 /// The first index: none before it passes, it passes where it is within the range, and in a range cut in two it is
@@ -58,10 +57,10 @@ pub fn law_of_folds()
 /// overwritten on the way, and all else is as before.
 pub fn law_of_moves()
     ensures source_as_it_stood { (memory : Memory) (job : Job) (staging : ℕ) → IsWhole memory → op_of job ≡ Some Move → refusal job staging ≡ None →
-        let k = move_length memory job in let from = done_from (direction_of job) job.size k in
+        let k = length_of Move memory job in let from = done_from (direction_by Move job) job.size k in
         bytes_at (step memory job staging).0 (job.target + from) k ≡ bytes_at memory (job.source + from) k }
     ensures beside { (memory : Memory) (job : Job) (staging address n : ℕ) → IsWhole memory → op_of job ≡ Some Move → refusal job staging ≡ None →
-        let k = move_length memory job in let from = done_from (direction_of job) job.size k in
+        let k = length_of Move memory job in let from = done_from (direction_by Move job) job.size k in
         (address + n ≤ job.target + from) ⊎ (job.target + from + k ≤ address) →
         bytes_at (step memory job staging).0 address n ≡ bytes_at memory address n }
 {}

@@ -1,5 +1,5 @@
 ghost use Rattle.std.specs.Prelude.{◌≡◌};
-ghost use Rattle.dml_types.specs.Status.{code_of, status_with};
+ghost use Rattle.dml_types.specs.Effect.{code_of, status_with};
 
 /// The status of a completion record. The codes are those of `linux/idxd.h`; 0x7d and 0x7e are this software's own.
 #[derive(Clone, Copy, PartialEq, Eq, Debug)]

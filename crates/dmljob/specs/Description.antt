@@ -3,7 +3,7 @@ use Rattle.std.specs.Prelude.{ℕ, List, ◌++◌, Option, Some, None, codes}
 use Rattle.std.specs.Fmt.{decimal}
 use Rattle.dml_desc.specs.Descriptor.{decoded}
 use Rattle.dml_types.specs.Refusal.{need, refusal}
-use Rattle.dml_types.specs.Status.{code_of}
+use Rattle.dml_types.specs.Effect.{code_of}
 use Rattle.dml_types.specs.declared.jobs.Job.{Job}
 use Rattle.dml_types.specs.declared.statuses.Status.{Status}
 use Rattle.dml_script.specs.Output.{byte_text, fields_of}

@@ -3,7 +3,7 @@ use Rattle.std.specs.Prelude.{◌≡◌, ℕ, List, [], length, Option, Result, 
 use Rattle.std.specs.List.{AllPass}
 use Rattle.clap.specs.Words.{IsAmong, Kinds, Row, Text, kind_of}
 use Rattle.hex.specs.Hex.{decode_of, is_hex_digit}
-use Rattle.dml_types.specs.Settings.{IsValid}
+use Rattle.dml_types.specs.Refusal.{IsValid}
 use Rattle.dmljob.specs.Line.{IsLine}
 use Rattle.dmljob.specs.declared.refusals.Refusal.{Refusal}
 use Rattle.dmljob.specs.declared.refusals.Refusal.TheVariants as refusal

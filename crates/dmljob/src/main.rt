@@ -2,7 +2,7 @@
 #![tactic(auto)]
 
 ghost use Rattle.std.specs.Prelude.{IfOk};
-ghost use Rattle.dml_types.specs.Settings.{IsValid};
+ghost use Rattle.dml_types.specs.Refusal.{IsValid};
 ghost use Rattle.dmljob.specs.Request.{HasValidSettings};
 
 mod descriptions;

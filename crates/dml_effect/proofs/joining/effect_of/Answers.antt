@@ -7,8 +7,8 @@ use Rattle.dml_types.specs.declared.operations.Direction.{Direction}
 use Rattle.dml_types.specs.declared.records.Record.{Record}
 use Rattle.dml_types.specs.Job.{op_of}
 use Rattle.dml_types.specs.Memory.{Memory, Put, puts_made}
-use Rattle.dml_types.specs.Copy.{result_of}
-use Rattle.dml_types.specs.Chunk.{scan_direction, scan_done, scan_found, scan_staged}
+use Rattle.dml_types.specs.Bytewise.{result_of, direction_by}
+use Rattle.dml_types.specs.Chunk.{scan_done, scan_found, scan_staged}
 use Rattle.dml_scan.specs.declared.scans.ScanPiece.{ScanPiece}
 use Rattle.dml_scan.specs.Found.{done_of}
 use Rattle.dml_scan.proofs.ReachLemmas.{done_found, scan_done_within, found_none}
@@ -43,18 +43,18 @@ completed_at memory job given op direction found answer same is told =
     ∙ (completed_is given.size (result_of direction) found
     ∙ (ap₂ done_of size is ∙ done_found op memory job 0 job.size))
 
-answer_at : (memory : Memory) (job given : Job) (op : Op) (direction : Direction) (found : Found) (answer : Record) → given ≡ job → direction ≡ scan_direction op job → found ≡ scan_found op memory job 0 job.size
-    → answer ≡ record_of given.size (result_of direction) found → answer ≡ record_of job.size (result_of (scan_direction op job)) (scan_found op memory job 0 job.size)
+answer_at : (memory : Memory) (job given : Job) (op : Op) (direction : Direction) (found : Found) (answer : Record) → given ≡ job → direction ≡ direction_by op job → found ≡ scan_found op memory job 0 job.size
+    → answer ≡ record_of given.size (result_of direction) found → answer ≡ record_of job.size (result_of (direction_by op job)) (scan_found op memory job 0 job.size)
 answer_at memory job given op direction found answer same way is told =
-    told ∙ (ap₂ (λ (j : Job) (d : Direction). record_of j.size (result_of d) found) same way ∙ ap (record_of job.size (result_of (scan_direction op job))) is)
+    told ∙ (ap₂ (λ (j : Job) (d : Direction). record_of j.size (result_of d) found) same way ∙ ap (record_of job.size (result_of (direction_by op job))) is)
 
 puts_at : (memory : Memory) (job given : Job) (op : Op) (direction : Direction) (whole : Option ScanPiece) (piece : ScanPiece) (answer : Record) (puts : List Put) → op_of job ≡ Some op → IsWhole memory job whole → whole ≡ Some piece
-    → given ≡ job → direction ≡ scan_direction op job → answer ≡ record_of given.size (result_of direction) piece.found → puts ≡ puts_by op given direction answer.completed piece.staged.bytes
-    → puts ≡ puts_by op job (scan_direction op job) (scan_done op memory job 0 job.size) (scan_staged op memory job 0 job.size)
+    → given ≡ job → direction ≡ direction_by op job → answer ≡ record_of given.size (result_of direction) piece.found → puts ≡ puts_by op given direction answer.completed piece.staged.bytes
+    → puts ≡ puts_by op job (direction_by op job) (scan_done op memory job 0 job.size) (scan_staged op memory job 0 job.size)
 puts_at memory job given op direction whole piece answer puts operation is at same way told puts_told =
     let value = value_at memory job op whole piece operation is at in
     let count = completed_at memory job given op direction piece.found answer same value.0 told in
-    puts_told ∙ (ap₂ (λ (j : Job) (d : Direction). puts_by op j d answer.completed piece.staged.bytes) same way ∙ ap₂ (puts_by op job (scan_direction op job)) count value.1)
+    puts_told ∙ (ap₂ (λ (j : Job) (d : Direction). puts_by op j d answer.completed piece.staged.bytes) same way ∙ ap₂ (puts_by op job (direction_by op job)) count value.1)
 
 -- where there is no piece, the job is empty
 empty_at : (memory : Memory) (job : Job) (whole : Option ScanPiece) → IsWhole memory job whole → whole ≡ None → job.size ≡ 0
@@ -87,7 +87,7 @@ returns-in-None-clause-image c =
     let operation = c.op-op.ensures.rules.operation in
     let none = empty_at c.args.image.now job c.args.whole c.requires.whole c.in-None.is in
     let count : scan_done op memory job 0 job.size ≡ 0 = omega (arith, none, scan_done_within op memory job 0 job.size) in
-    ap (puts_made memory) (sym (puts_none op job (scan_direction op job) (scan_done op memory job 0 job.size) (scan_staged op memory job 0 job.size) count))
+    ap (puts_made memory) (sym (puts_none op job (direction_by op job) (scan_done op memory job 0 job.size) (scan_staged op memory job 0 job.size) count))
     ∙ ((puts_of_step memory job op operation c.requires.operation c.pages-pages.ensures.memory.whole).image
     ∙ image_of_step memory job op operation c.requires.operation c.job-job.ensures.checked)
 

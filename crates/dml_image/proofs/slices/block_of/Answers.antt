@@ -1,6 +1,6 @@
 use Rattle.std.proofs.Common.{◌≡◌, ◌*◌, take, ap, sym, ◌∙◌, arith}
 use Rattle.std.proofs.lemmas.List.{take_all}
-use Rattle.dml_types.specs.Pattern.{pattern_bytes}
+use Rattle.dml_types.specs.Bytewise.{pattern_bytes}
 use Rattle.dml_image.proofs.slices.block_of.Goals as goal
 
 pub returns : goal.returns

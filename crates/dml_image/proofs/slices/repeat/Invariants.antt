@@ -1,5 +1,5 @@
 use Rattle.std.proofs.Common.{◌≡◌, ◌*◌, take}
-use Rattle.dml_types.specs.Pattern.{pattern_bytes}
+use Rattle.dml_types.specs.Bytewise.{pattern_bytes}
 use Rattle.dml_image.proofs.slices.repeat.Given as goal
 
 abbrev pub invariant-loop-k : goal.invariant-loop-k

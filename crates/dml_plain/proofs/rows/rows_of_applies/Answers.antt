@@ -1,7 +1,6 @@
 use Rattle.std.proofs.Common.{◌≡◌, ℕ, ◌+◌, ◌<◌, ◌≤◌, List, length, get_or, map, replicate, Some, refl, arith, lit<}
 use Rattle.std.specs.List.{range_with_len}
-use Rattle.dml_types.specs.First.{first}
-use Rattle.dml_types.specs.Memory.{overwrite}
+use Rattle.dml_types.specs.Memory.{first, overwrite}
 use Rattle.dml_types.specs.Delta.{applied}
 use Rattle.dml_types.specs.Step.{effect}
 use Rattle.dml_types.proofs.MemoryLemmas.{overwrite_inside}

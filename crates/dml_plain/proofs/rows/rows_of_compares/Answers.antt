@@ -1,7 +1,6 @@
 use Rattle.std.proofs.Common.{refl, replicate}
-use Rattle.dml_types.specs.First.{first}
-use Rattle.dml_types.specs.Memory.{overwrite}
-use Rattle.dml_types.specs.Compare.{compared, compared_pattern}
+use Rattle.dml_types.specs.Memory.{first, overwrite}
+use Rattle.dml_types.specs.Bytewise.{compared}
 use Rattle.dml_types.specs.Delta.{created}
 use Rattle.dml_types.specs.Step.{effect}
 use Rattle.dml_plain.specs.CompareRows as row
@@ -21,5 +20,5 @@ unfolding row.expected_results first overwrite compared created effect
 returns-clause-expected_results c = (refl, refl)
 
 pub returns-clause-pattern_expected : goal.returns-clause-pattern_expected
-unfolding row.pattern_expected first overwrite compared_pattern effect
+unfolding row.pattern_expected first overwrite compared effect
 returns-clause-pattern_expected c = refl

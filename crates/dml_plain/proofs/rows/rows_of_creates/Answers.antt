@@ -1,6 +1,5 @@
 use Rattle.std.proofs.Common.{refl}
-use Rattle.dml_types.specs.First.{first}
-use Rattle.dml_types.specs.Memory.{overwrite}
+use Rattle.dml_types.specs.Memory.{first, overwrite}
 use Rattle.dml_types.specs.Delta.{created}
 use Rattle.dml_types.specs.Step.{effect}
 use Rattle.dml_plain.specs.CreateRows as row

@@ -1,9 +1,6 @@
 use Rattle.std.proofs.Common.{refl}
-use Rattle.dml_types.specs.First.{first}
-use Rattle.dml_types.specs.Memory.{overwrite}
-use Rattle.dml_types.specs.Pattern.{pattern_bytes}
-use Rattle.dml_types.specs.Copy.{moved, dualcast, filled}
-use Rattle.dml_types.specs.Compare.{compared}
+use Rattle.dml_types.specs.Memory.{first, overwrite}
+use Rattle.dml_types.specs.Bytewise.{pattern_bytes, moved, dualcast, filled, compared}
 use Rattle.dml_types.specs.Delta.{created, applied}
 use Rattle.dml_types.specs.Step.{effect}
 use Rattle.dml_plain.specs.FillRows as row

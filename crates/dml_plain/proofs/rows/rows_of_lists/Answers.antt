@@ -1,8 +1,6 @@
 use Rattle.std.proofs.Common.{refl}
-use Rattle.dml_types.specs.First.{first}
-use Rattle.dml_types.specs.Memory.{overwrite}
-use Rattle.dml_types.specs.Pattern.{pattern_bytes}
-use Rattle.dml_types.specs.Copy.{moved, filled}
+use Rattle.dml_types.specs.Memory.{first, overwrite}
+use Rattle.dml_types.specs.Bytewise.{pattern_bytes, moved, filled}
 use Rattle.dml_types.specs.Step.{effect}
 use Rattle.dml_desc.specs.Descriptor.{decoded}
 use Rattle.dml_plain.specs.ListRows as row

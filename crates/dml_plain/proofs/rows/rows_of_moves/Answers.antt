@@ -1,7 +1,6 @@
 use Rattle.std.proofs.Common.{refl}
-use Rattle.dml_types.specs.First.{first}
-use Rattle.dml_types.specs.Memory.{overwrite}
-use Rattle.dml_types.specs.Copy.{moved, dualcast}
+use Rattle.dml_types.specs.Memory.{first, overwrite}
+use Rattle.dml_types.specs.Bytewise.{moved, dualcast}
 use Rattle.dml_types.specs.Step.{effect}
 use Rattle.dml_plain.specs.MoveRows as row
 use Rattle.dml_plain.proofs.rows.rows_of_moves.Goals as goal

@@ -3,7 +3,7 @@ use Rattle.dml_types.specs.declared.operations.Op.TheVariants.{Move}
 use Rattle.dml_types.specs.declared.operations.Direction.{Direction}
 use Rattle.dml_types.specs.declared.jobs.Job.{Job}
 use Rattle.dml_types.specs.Memory.{bytes_at, has_all}
-use Rattle.dml_types.specs.Copy.{direction_of, done_from}
+use Rattle.dml_types.specs.Bytewise.{direction_by, done_from}
 use Rattle.dml_types.specs.Chunk.{scan_staged}
 use Rattle.dml_scan.proofs.ReachLemmas.{scan_done_within, done_told}
 use Rattle.dml_scan.proofs.StageLemmas.{move_source_present}
@@ -19,8 +19,8 @@ stage_source-requires-clause-present c =
     let done = done_told Move c.args.image.now c.args.job.now c.args.from c.args.to _ _ c.move_found-found.ensures c.done_in-done.ensures in
     let k = c.done_in-done.result in
     let n = c.args.to - c.args.from in
-    let direction : c.move_direction.result ≡ direction_of c.args.job.now = c.move_direction.ensures ∙ ap direction_of c.job.ensures.job in
-    let first : c.first_done-first.result ≡ c.args.from + done_from (direction_of c.args.job.now) n k =
+    let direction : c.move_direction.result ≡ direction_by Move c.args.job.now = c.move_direction.ensures ∙ ap (direction_by Move) c.job.ensures.job in
+    let first : c.first_done-first.result ≡ c.args.from + done_from (direction_by Move c.args.job.now) n k =
     c.first_done-first.ensures.value ∙ ap (λ (d : Direction). c.args.from + done_from d n k) direction in
     ap₂ (λ (job : Job) (place : ℕ). has_all c.args.image.now (job.source + place) k) c.job-2.ensures.job first
     ∙ move_source_present c.args.image.now c.args.job.now c.args.from c.args.to k (sym done)
@@ -31,10 +31,10 @@ returns-clause-staged c =
     let done = done_told Move c.args.image.now c.args.job.now c.args.from c.args.to _ _ c.move_found-found.ensures c.done_in-done.ensures in
     let k = c.done_in-done.result in
     let n = c.args.to - c.args.from in
-    let direction : c.move_direction.result ≡ direction_of c.args.job.now = c.move_direction.ensures ∙ ap direction_of c.job.ensures.job in
-    let first : c.first_done-first.result ≡ c.args.from + done_from (direction_of c.args.job.now) n k =
+    let direction : c.move_direction.result ≡ direction_by Move c.args.job.now = c.move_direction.ensures ∙ ap (direction_by Move) c.job.ensures.job in
+    let first : c.first_done-first.result ≡ c.args.from + done_from (direction_by Move c.args.job.now) n k =
     c.first_done-first.ensures.value ∙ ap (λ (d : Direction). c.args.from + done_from d n k) direction in
     c.stage_source.ensures.bytes
     ∙ (ap₂ (λ (old : List ℕ) (job : Job). old ++ bytes_at c.args.image.now (job.source + c.first_done-first.result) k) c.requires.empty c.job-2.ensures.job
     ∙ (ap (λ (place : ℕ). bytes_at c.args.image.now (c.args.job.now.source + place) k) first
-    ∙ ap (λ (m : ℕ). bytes_at c.args.image.now (c.args.job.now.source + (c.args.from + done_from (direction_of c.args.job.now) n m)) m) done))
+    ∙ ap (λ (m : ℕ). bytes_at c.args.image.now (c.args.job.now.source + (c.args.from + done_from (direction_by Move c.args.job.now) n m)) m) done))

@@ -1,6 +1,6 @@
 use Rattle.std.proofs.Common.{◌≡◌, ◌+◌, length}
 use Rattle.dml_types.specs.Memory.{bytes_at, put}
-use Rattle.dml_types.specs.Copy.{done_from}
+use Rattle.dml_types.specs.Bytewise.{done_from}
 use Rattle.dml_plain.proofs.plain.Plain.copy.Given as goal
 
 abbrev pub invariant-loop-i : goal.invariant-loop-i

@@ -1,6 +1,6 @@
 use Rattle.std.proofs.Common.{◌≡◌, length}
 use Rattle.dml_types.specs.Memory.{put}
-use Rattle.dml_types.specs.Pattern.{pattern_bytes}
+use Rattle.dml_types.specs.Bytewise.{pattern_bytes}
 use Rattle.dml_plain.proofs.plain.Plain.repeat.Given as goal
 
 abbrev pub invariant-loop-i : goal.invariant-loop-i

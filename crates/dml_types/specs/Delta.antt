@@ -73,7 +73,7 @@ created memory job =
 abbrev pub offset_at : Memory → Job → ℕ → ℕ
 offset_at memory job x = from_le_bytes w16 (bytes_at memory (job.source + 10 * x) 2)
 
--- the fault for which entry x is bad: the first of the causes that holds; the rise is judged behind an entry
+-- the fault for which entry x is bad: of the causes, in order, the first that holds; the rise is judged behind an entry
 abbrev pub entry_fault : ℕ → Memory → Job → ℕ → Option Fault
 entry_fault behind memory job x =
     let offset = offset_at memory job x in

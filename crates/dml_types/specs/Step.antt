@@ -41,7 +41,7 @@ abbrev pub records_of : Memory → List Job → ℕ → List Record
 records_of memory [] staging = []
 records_of memory (job ∷ jobs) staging = (step memory job staging).1 ∷ records_of (step memory job staging).0 jobs staging
 
--- a batch is the fold of its jobs, with a record: success where each job has it, and how many there are, refused ones included
+-- a batch is the fold of its jobs, with a record: success where each job has it; the jobs are counted, refused ones included
 abbrev pub batch_answer : List Record → BatchRecord
 batch_answer records =
     record { status = if list_all (λ r. nat_eq (code_of r.status) 0x01) records then Success else BatchFailed; completed = length records }
@@ -77,7 +77,7 @@ rest_by Move job outcome =
     else rest_behind Move job outcome.completed
 rest_by op job outcome = rest_behind op job outcome.completed
 
--- some only after a page fault, a read's (0x03) or a write's (0x83), that left bytes
+-- the job that is left after a record: some only after a page fault, a read's (0x03) or a write's (0x83), that left bytes
 abbrev pub rest : Job → Record → Option Job
 rest job outcome =
     let code = code_of outcome.status in

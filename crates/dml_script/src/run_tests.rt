@@ -543,7 +543,16 @@ fn refused_read_script(rt: HostRuntime) {
         rt.alloc(),
         b"image 2\npage 0 0102\npoke 1 03\nnoop\nshow 0 2",
     ) {
-        Ok(script) => assert_eq!(rt; script.list.len(), 5),
+        Ok(script) => {
+            let mut lines = script.lines(rt.alloc());
+            for _ in 0..5 {
+                let Ok(line) = lines.next_line(rt.alloc()) else {
+                    return;
+                };
+                assert!(rt; line.is_some());
+            }
+            assert!(rt; matches!(lines.next_line(rt.alloc()), Ok(None)));
+        }
         Err(error) => assert_eq!(rt; error, ScriptError::NoMemory),
     }
 }

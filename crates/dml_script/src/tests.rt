@@ -15,6 +15,19 @@ fn fault_of(rt: &impl Abort, alloc: Global, text: &[u8]) -> Option<(u32, Kind)> 
     }
 }
 
+/// The lines of a script.
+fn lines_of(alloc: Global, script: &Script<'_>) -> Result<Vec<Line>, AllocError> {
+    let mut lines = Vec::new(alloc);
+    let mut left = script.lines(alloc);
+    for _ in 0..=4_194_304 {
+        let Some(line) = left.next_line(alloc)? else {
+            break;
+        };
+        lines.push(line)?;
+    }
+    Ok(lines)
+}
+
 /// A text with so many copies of a byte between a front and a back.
 fn padded(
     alloc: Global,
@@ -178,7 +191,7 @@ fn number_forms(rt: HostRuntime) -> Result<(), Fail> {
         let bytes = text.as_bytes();
         assert!(rt; bytes.len() <= 4_194_304);
         let read = match read_script(rt.alloc(), bytes) {
-            Ok(script) => match script.list.get(1) {
+            Ok(script) => match lines_of(rt.alloc(), &script)?.get(1) {
                 Some(Line::Job(job)) => {
                     assert_eq!(rt;
                         (job.opcode, job.flags, job.size),
@@ -288,8 +301,9 @@ fn each_line_is_read(rt: HostRuntime) -> Result<(), Fail> {
     let Ok(script) = read_script(rt.alloc(), text) else {
         panic!(rt; "not read");
     };
-    assert_eq!(rt; script.list.len(), lines.len());
-    for (line, expected) in script.list.iter().zip(lines) {
+    let found = lines_of(rt.alloc(), &script)?;
+    assert_eq!(rt; found.len(), lines.len());
+    for (line, expected) in found.iter().zip(lines) {
         let shown = format!(in rt.alloc(); "{line:?}")?;
         assert_eq!(rt; shown.as_str(), expected);
     }

@@ -15,80 +15,36 @@ use Rattle.dml_script.specs.declared.lines.Line.{Line}
 use Rattle.dml_script.specs.declared.lines.Line.TheVariants as line
 use Rattle.dml_script.specs.Grammar.{Skipped, Faulty, Fine, brings, is_present, pages_of, parse, parse_from, verdict, fault_at}
 use Rattle.dml_script.specs.Run.{Session, after_line, opening}
+use Rattle.dml_script.specs.Pages.{Tracks}
 use Rattle.dml_script.specs.Runnable.{AllFit, Fits, IsRunnable}
 use Rattle.dml_script.proofs.FollowLemmas.{MayFollow, follows}
+use Rattle.dml_script.proofs.PageLemmas.{tracks_image, tracks_page, tracks_same}
 use Rattle.dml_script.proofs.PresenceLemmas.{byte_present}
-
--- a session after lines has the pages that they bring
-record Agrees (session : Session) (before : List Line) : Type 0 where
-  pages : length session.memory.present ≡ pages_of before
-  marks : (page : ℕ) → get_or session.memory.present page false ≡ is_present before page
-
-present_more : (before : List Line) (l : Line) (page : ℕ) → is_present (before ++ l ∷ []) page ≡ (is_present before page || (brings page l || false))
-present_more before l page = list_any-append (brings page) before (l ∷ [])
-
--- a line after the first leaves the number of pages
-pages_more : (before : List Line) (l : Line) → 0 < length before → pages_of (before ++ l ∷ []) ≡ pages_of before
-pages_more [] l some = absurd (omega arith)
-pages_more (line.Image pages ∷ before) l some = refl
-pages_more (line.Page page bytes ∷ before) l some = refl
-pages_more (line.Poke address bytes ∷ before) l some = refl
-pages_more (line.Job job ∷ before) l some = refl
-pages_more (line.Show address len ∷ before) l some = refl
-
-more_of_none : (a b : Bool) → b ≡ false → (a || (b || false)) ≡ a
-more_of_none true b none = refl
-more_of_none false b none = rw none refl
-
-more_of_some : (a b : Bool) → b ≡ true → (a || (b || false)) ≡ true
-more_of_some true b found = refl
-more_of_some false b found = rw found refl
 
 not_first : (before : List Line) → 0 < length before → before ≡ [] → ⊥
 not_first before some none = let nothing : length before ≡ 0 = ap length none in omega arith
 
--- one that brings no page leaves presence too
-agrees_same : (session after : Session) (before : List Line) (l : Line) → 0 < length before → Agrees session before
-    → after.memory.present ≡ session.memory.present → ((page : ℕ) → brings page l ≡ false) → Agrees after (before ++ l ∷ [])
-agrees_same session after before l some agrees same none = record {
-  pages = ap length same ∙ agrees.pages ∙ sym (pages_more before l some);
-  marks = λ page. ap (λ present. get_or present page false) same ∙ agrees.marks page ∙ sym (present_more before l page ∙ more_of_none _ _ (none page));
-}
+-- the pages of a session are those of its lines
+tracks_more : (staging : ℕ) (session : Session) (before : List Line) (l : Line) → 0 < length before → Tracks session.memory.present before → MayFollow before l
+    → Tracks (after_line staging session l).memory.present (before ++ l ∷ [])
+tracks_more staging session before (line.Image pages) some tracks may = absurd (not_first before some may.0)
+tracks_more staging session before (line.Page page bytes) some tracks may =
+    tracks_page session.memory.present before page bytes some (omega (arith, tracks.pages, may.1)) tracks
+tracks_more staging session before (line.Poke address bytes) some tracks may = tracks_same session.memory.present before _ some tracks (λ page. refl)
+tracks_more staging session before (line.Job job) some tracks may =
+    subst (λ (present : List Bool). Tracks present (before ++ line.Job job ∷ [])) (sym (step_present session.memory job staging))
+    (tracks_same session.memory.present before (line.Job job) some tracks (λ page. refl))
+tracks_more staging session before (line.Show address len) some tracks may = tracks_same session.memory.present before _ some tracks (λ page. refl)
 
--- the page that a line brings is present, and of the others those that were
-page_marked : (session : Session) (before : List Line) (page : ℕ) (bytes : List ℕ) (at : ℕ) → page < length session.memory.present → Agrees session before
-    → get_or (set session.memory.present page true) at false ≡ is_present (before ++ line.Page page bytes ∷ []) at
-page_marked session before page bytes at inside agrees =
-    elim (cases_Bool (nat_eq page at)) [
-      | inl same ↦
-          let here : at ≡ page = sym (eqb-true page at same) in
-          rw here (get_or-set_same session.memory.present page true false inside) ∙ sym (present_more before (line.Page page bytes) at ∙ more_of_some _ _ same)
-      | inr other ↦
-          let apart : at ≢ page = λ here. eqb-false page at other (sym here) in
-          get_or-set_other session.memory.present page at true false apart ∙ agrees.marks at
-          ∙ sym (present_more before (line.Page page bytes) at ∙ more_of_none _ _ other)
-    ]
-
-agrees_more : (staging : ℕ) (session : Session) (before : List Line) (l : Line) → 0 < length before → Agrees session before → MayFollow before l
-    → Agrees (after_line staging session l) (before ++ l ∷ [])
-agrees_more staging session before (line.Image pages) some agrees may = absurd (not_first before some may.0)
-agrees_more staging session before (line.Page page bytes) some agrees may = record {
-  pages = length-set session.memory.present page true ∙ agrees.pages ∙ sym (pages_more before (line.Page page bytes) some);
-  marks = λ at. page_marked session before page bytes at (omega (arith, agrees.pages, may.1)) agrees;
-}
-agrees_more staging session before (line.Poke address bytes) some agrees may = agrees_same session _ before _ some agrees refl (λ page. refl)
-agrees_more staging session before (line.Job job) some agrees may = agrees_same session _ before _ some agrees (step_present session.memory job staging) (λ page. refl)
-agrees_more staging session before (line.Show address len) some agrees may = agrees_same session _ before _ some agrees refl (λ page. refl)
-
-fits_of : (session : Session) (before : List Line) (l : Line) → 0 < length before → Agrees session before → MayFollow before l → Fits session l
-fits_of session before (line.Image pages) some agrees may = not_first before some may.0
-fits_of session before (line.Page page bytes) some agrees may = (omega (arith, agrees.pages, may.1), may.2)
-fits_of session before (line.Poke address bytes) some agrees may =
+fits_of : (session : Session) (before : List Line) (l : Line) → 0 < length before → Tracks session.memory.present before → MayFollow before l → Fits session l
+fits_of session before (line.Image pages) some tracks may = not_first before some may.0
+fits_of session before (line.Page page bytes) some tracks may = (omega (arith, tracks.pages, may.1), may.2)
+fits_of session before (line.Poke address bytes) some tracks may =
     let each : (i : ℕ) → i < length bytes → not (has session.memory (address + i)) ≡ false =
-    λ i low. ap not (agrees.marks ((address + i) / 4096) ∙ byte_present before address (length bytes) i low may.1) in
+    λ i low. ap not (tracks.marks ((address + i) / 4096) ∙ byte_present before address (length bytes) i low may.1) in
     eq-eqb _ _ (first_none (length bytes) (λ i. not (has session.memory (address + i))) each)
-fits_of session before (line.Job job) some agrees may = may.1
-fits_of session before (line.Show address len) some agrees may = may.1
+fits_of session before (line.Job job) some tracks may = may.1
+fits_of session before (line.Show address len) some tracks may = may.1
 
 abbrev read : List Line → Result (List Line) ScriptFault
 read found = Ok found
@@ -127,40 +83,33 @@ behind_end staging number before found session some parsed =
           record { rest = []; joined = sym same ∙ sym (append-nil before); fits = tt; few = omega arith }
     ]
 
-behind : (staging : ℕ) (texts : List (List ℕ)) (number : ℕ) (before found : List Line) (session : Session) → 0 < length before → Agrees session before
+behind : (staging : ℕ) (texts : List (List ℕ)) (number : ℕ) (before found : List Line) (session : Session) → 0 < length before → Tracks session.memory.present before
     → parse_from number before texts ≡ Ok found → Behind staging session before found (length texts)
 unfolding parse_from
-behind staging [] number before found session some agrees parsed = behind_end staging number before found session some parsed
-behind staging (text ∷ texts) number before found session some agrees parsed =
+behind staging [] number before found session some tracks parsed = behind_end staging number before found session some parsed
+behind staging (text ∷ texts) number before found session some tracks parsed =
     elim (verdict text before) as (λ v. verdict text before ≡ v → (elim v [
       | Skipped ↦ parse_from (number + 1) before texts
       | Faulty kind ↦ Err (fault_at number kind)
       | Fine l ↦ parse_from (number + 1) (before ++ l ∷ []) texts
     ]) ≡ read found → Behind staging session before found (suc (length texts))) [
       | Skipped ↦ λ is after.
-          let left = behind staging texts (number + 1) before found session some agrees after in
+          let left = behind staging texts (number + 1) before found session some tracks after in
           record { rest = left.rest; joined = left.joined; fits = left.fits; few = let few : length left.rest ≤ length texts = left.few in omega arith }
       | Faulty kind ↦ λ is after. absurd (not_read (fault_at number kind) found after)
       | Fine l ↦ λ is after.
           let may = follows text before l is in
           let longer : 0 < length (before ++ l ∷ []) = omega (arith, length-append before (l ∷ [])) in
-          behind_more staging session before found l (length texts) (fits_of session before l some agrees may)
+          behind_more staging session before found l (length texts) (fits_of session before l some tracks may)
           (behind staging texts (number + 1) (before ++ l ∷ []) found (after_line staging session l) longer
-          (agrees_more staging session before l some agrees may) after)
+          (tracks_more staging session before l some tracks may) after)
     ] refl parsed
-
-none_marked : (pages page : ℕ) → get_or (replicate pages false) page false ≡ false
-none_marked zero page = refl
-none_marked (suc pages) zero = refl
-none_marked (suc pages) (suc page) = none_marked pages page
 
 -- the first line is the image line
 from_first : (staging : ℕ) (texts : List (List ℕ)) (number : ℕ) (l : Line) (found : List Line) → length texts < 2 ^ 32 → MayFollow [] l
     → parse_from number (l ∷ []) texts ≡ Ok found → IsRunnable staging found
 from_first staging texts number (line.Image pages) found few may after =
-    let agrees : Agrees (after_line staging opening (line.Image pages)) (line.Image pages ∷ []) =
-    record { pages = length-replicate pages false; marks = λ page. none_marked pages page } in
-    let left = behind staging texts number (line.Image pages ∷ []) found (after_line staging opening (line.Image pages)) (omega arith) agrees after in
+    let left = behind staging texts number (line.Image pages ∷ []) found (after_line staging opening (line.Image pages)) (omega arith) (tracks_image pages) after in
     let short : length left.rest ≤ length texts = left.few in
     subst (IsRunnable staging) (sym left.joined) (may.1, may.2, omega arith, left.fits)
 from_first staging texts number (line.Page page bytes) found few may after = absurd (omega (arith, may.0))

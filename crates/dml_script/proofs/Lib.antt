@@ -4,8 +4,10 @@ pub mod EntryLemmas
 pub mod FirstFaultLemmas
 pub mod FitLemmas
 pub mod FollowLemmas
+pub mod LeftLemmas
 pub mod LineLemmas
 pub mod NumberLemmas
+pub mod PageLemmas
 pub mod PresenceLemmas
 pub mod Rows
 pub mod RunLemmas

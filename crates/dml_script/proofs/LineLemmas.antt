@@ -1,11 +1,9 @@
 -- Laws of lines: the sizes of their values, the order of their faults, and what may come next.
-use Rattle.std.proofs.Common.{◌≡◌, ℕ, zero, suc, ◌+◌, ◌*◌, ◌/◌, ◌≤◌, List, [], ◌∷◌, ◌++◌, length, map, get_or, refl, sym, ◌∙◌, ap, subst, arith, Bool, true, false, cond, ◌&&◌, Option, Some, None, unwrap_or, is_none, Ok, Err, inl, inr, nat_le}
-use Rattle.std.specs.List.{count_by}
+use Rattle.std.proofs.Common.{◌≡◌, ℕ, zero, suc, ◌+◌, ◌*◌, ◌/◌, ◌<◌, ◌≤◌, List, [], ◌∷◌, ◌++◌, length, map, get_or, refl, sym, ◌∙◌, ap, subst, arith, Bool, true, false, cond, ◌&&◌, Option, Some, None, unwrap_or, is_none, Ok, Err, inl, inr, nat_le}
 use Rattle.std.specs.Option.{option_and_then}
 use Rattle.std.specs.Result.{result_ok}
 use Rattle.std.proofs.lemmas.Bool.{cases_Bool, leb-true, ltb-true, and_parts, not-false}
 use Rattle.std.proofs.lemmas.List.{length-append, append-nil}
-use Rattle.std.proofs.lemmas.List.Sums.{sum_by-cons}
 use Rattle.hex.specs.Hex.{decode_of}
 use Rattle.hex.proofs.HexLemmas.{decode_of-ok}
 use Rattle.dml_script.specs.declared.faults.Kind.{Kind}
@@ -196,17 +194,15 @@ sizes_of_fitted word.Show ws entries is fine = tt
 -- What may come next.
 
 pub next_in_range : (first : Word) (v : grammar.Values) (before : List Line) → (grammar.is_image first ≡ true → before ≡ [])
-    → grammar.is_out_of_range first v before ≡ false → IsNext before (grammar.line_of first v)
-next_in_range word.Image v before start within = (start refl, leb-true _ _ (and_parts _ _ (not-false _ within)).1)
-next_in_range word.Page v before start within = ltb-true _ _ (not-false _ within)
-next_in_range word.Poke v before start within = tt
-next_in_range word.NoOp v before start within = tt
-next_in_range word.Move v before start within = tt
-next_in_range word.Fill v before start within = tt
-next_in_range word.Dualcast v before start within = tt
-next_in_range word.Raw v before start within = tt
-next_in_range word.Show v before start within = tt
-
--- how many texts pass a test, the first apart
-pub count_by_first : (test : List ℕ → Bool) (text : List ℕ) (texts : List (List ℕ)) → count_by test (text ∷ texts) ≡ cond (test text) 1 0 + count_by test texts
-count_by_first test text texts = sum_by-cons (λ x. cond (test x) 1 0) text texts
+    → (grammar.is_image first ≡ false → 0 < length before) → grammar.is_out_of_range first v before ≡ false
+    → IsNext before (grammar.line_of first v)
+next_in_range word.Image v before start behind within =
+    let range = and_parts _ _ (not-false _ within) in (start refl, leb-true _ _ range.0, leb-true _ _ range.1)
+next_in_range word.Page v before start behind within = ltb-true _ _ (not-false _ within)
+next_in_range word.Poke v before start behind within = behind refl
+next_in_range word.NoOp v before start behind within = behind refl
+next_in_range word.Move v before start behind within = behind refl
+next_in_range word.Fill v before start behind within = behind refl
+next_in_range word.Dualcast v before start behind within = behind refl
+next_in_range word.Raw v before start behind within = behind refl
+next_in_range word.Show v before start behind within = behind refl

@@ -1,5 +1,5 @@
 -- The run of a script's lines, one after another.
-use Rattle.std.proofs.Common.{◌≡◌, ℕ, suc, ◌+◌, ◌^◌, ◌<◌, ◌≤◌, List, ◌∷◌, ◌++◌, length, get_or, drop, Option, Some, None, IfSome, Result, Ok, Err, OnErr, sym, ap, subst, ◌∙◌, arith, add-one, drop-cons}
+use Rattle.std.proofs.Common.{◌≡◌, ℕ, ◌+◌, ◌^◌, ◌<◌, ◌≤◌, List, [], ◌∷◌, ◌++◌, length, Option, Some, None, IfSome, MatchOption, Result, Ok, Err, OnErr, sym, ap, subst, ◌∙◌, arith}
 use Rattle.dml_script.specs.declared.lines.Line.{Line}
 use Rattle.dml_script.specs.declared.lines.Line.TheVariants as line
 use Rattle.dml_script.specs.Grammar.{parse}
@@ -10,10 +10,6 @@ use Rattle.dml_script.proofs.BytesLemmas.{IsWritten}
 pub on_error : {T E : Type 0} (r : Result T E) (P : Type 0) → P → OnErr r P
 on_error (Ok x) P h = tt
 on_error (Err e) P h = h
-
--- the item at an index, and what follows it
-drop_next : {X : Type 0} (xs : List X) (i : ℕ) (x : X) → i < length xs → x ≡ get_or xs i x → drop i xs ≡ x ∷ drop (i + 1) xs
-drop_next xs i x below at = rw (add-one, drop-cons xs i x below) (ap (λ y. y ∷ drop (suc i) xs) (sym at))
 
 -- a line has at most one job
 jobs_after : (staging : ℕ) (session : Session) (l : Line) → (after_line staging session l).jobs ≤ session.jobs + 1
@@ -43,12 +39,18 @@ taken_of staging session l left old now whole turn = record {
   written = turn.written;
 }
 
-pub taken_at : (staging : ℕ) (session : Session) (lines : List Line) (i : ℕ) (l : Line) (old now : Option (List ℕ)) (whole : List ℕ)
-    → i < length lines → l ≡ get_or lines i l → Turn staging session (drop i lines) old now whole
-    → Taken staging session l (drop (i + 1) lines) old now whole
-taken_at staging session lines i l old now whole below at turn =
-    taken_of staging session l (drop (i + 1) lines) old now whole
-    (subst (λ (left : List Line). Turn staging session left old now whole) (drop_next lines i l below at) turn)
+-- where a line was found, it was the first that was left
+first_left : (found : Option Line) (l : Line) (before left : List Line) → found ≡ Some l
+    → MatchOption found (before ≡ []) (λ line. before ≡ line ∷ left) → before ≡ l ∷ left
+first_left None l before left is given = cc
+first_left (Some line) l before left is given = let same : line ≡ l = cc in given ∙ ap (λ (first : Line). first ∷ left) same
+
+pub taken_at : (staging : ℕ) (session : Session) (found : Option Line) (l : Line) (before left : List Line) (old now : Option (List ℕ)) (whole : List ℕ)
+    → found ≡ Some l → MatchOption found (before ≡ []) (λ line. before ≡ line ∷ left) → Turn staging session before old now whole
+    → Taken staging session l left old now whole
+taken_at staging session found l before left old now whole is given turn =
+    taken_of staging session l left old now whole
+    (subst (λ (lines : List Line). Turn staging session lines old now whole) (first_left found l before left is given) turn)
 
 -- what holds of the bytes that were read holds of all that there were
 pub of_all : (known : Option (List ℕ)) (bytes : List ℕ) (P : List ℕ → Type 0) → IfSome known (λ all. bytes ≡ all) → P bytes → IfSome known P
@@ -60,6 +62,5 @@ unfolding answer
 answer_is bytes staging lines parsed = ap (λ p. answer_if p staging) (sym parsed)
 
 -- the lines of a script that was read from the bytes themselves
-pub parsed_lines : (bytes seen : List ℕ) (script items lines : List Line) → seen ≡ bytes → parse seen ≡ Ok script → lines ≡ items → items ≡ script
-    → parse bytes ≡ Ok lines
-parsed_lines bytes seen script items lines same parsed shown viewed = ap parse (sym same) ∙ parsed ∙ ap (λ ls. Ok ls) (sym (shown ∙ viewed))
+pub parsed_lines : (bytes seen : List ℕ) (script lines : List Line) → seen ≡ bytes → parse seen ≡ Ok script → lines ≡ script → parse bytes ≡ Ok lines
+parsed_lines bytes seen script lines same parsed shown = ap parse (sym same) ∙ parsed ∙ ap (λ ls. Ok ls) (sym shown)

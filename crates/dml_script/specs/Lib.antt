@@ -2,12 +2,13 @@ pub mod AnswerLaws
 pub mod Faults
 pub mod FirstFault
 pub mod Grammar
+pub mod Left
 pub mod Number
 pub mod Output
+pub mod Pages
 pub mod Reads
 pub mod Run
 pub mod Runnable
 pub mod Table
 pub mod Text
-pub mod Tracks
 pub mod Watching

@@ -40,13 +40,13 @@ values_seen values = record { numbers = values.numbers.items; bytes = values.byt
 abbrev pub faults_in : List (Slot × Option (Bor (List ℕ))) → List (Bool × Kind)
 faults_in entries = map (λ e. grammar.slot_fault e.0 e.1) (entries_seen entries)
 
--- a line that may come next: an image of few pages at the start, a page of the image
+-- a line that may come next: an image of few pages at the start, a page of the image, another line behind the first
 abbrev pub IsNext : List Line → Line → Type 0
-IsNext before (line.Image pages) = (before ≡ []) × (pages ≤ 4096)
+IsNext before (line.Image pages) = (before ≡ []) × (1 ≤ pages) × (pages ≤ 4096)
 IsNext before (line.Page page bytes) = page < grammar.pages_of before
-IsNext before (line.Poke address bytes) = Unit {0}
-IsNext before (line.Job job) = Unit {0}
-IsNext before (line.Show address len) = Unit {0}
+IsNext before (line.Poke address bytes) = 0 < length before
+IsNext before (line.Job job) = 0 < length before
+IsNext before (line.Show address len) = 0 < length before
 
 -- what the slots of a line say of its values
 abbrev pub HasSizes : Word → grammar.Values → Type 0

@@ -1,4 +1,4 @@
--- A reader or writer that keeps whether a call failed.
+-- A reader or writer that keeps whether a call failed, and whether what was written is flushed.
 use Rattle.std.specs.Prelude.{◌≡◌, ℕ, Bool, true, ◌&&◌, ◌++◌, List, length, nat_eq, nat_lt, Option, Result, Ok, Err}
 use Rattle.std.specs.Io.KnownBytes.{Appends}
 use Rattle.dml_script.specs.declared.watching.Watched.{Watched}
@@ -8,6 +8,14 @@ inner_of watched = watched.inner
 
 abbrev pub has_failed : {T : Type 0} → Watched T → Bool
 has_failed watched = watched.has_failed
+
+abbrev pub is_flushed : {T : Type 0} → Watched T → Bool
+is_flushed watched = watched.is_flushed
+
+-- whether a write took no byte
+abbrev pub takes_none : {E : Type 0} → Result ℕ E → Bool
+takes_none (Ok n) = nat_eq n 0
+takes_none (Err e) = true
 
 -- whether a write failed: it answered an error, or took none of at least one byte
 abbrev pub write_fails : {E : Type 0} → List ℕ → Result ℕ E → Bool

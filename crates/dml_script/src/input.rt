@@ -1,4 +1,4 @@
-ghost use Rattle.std.specs.Prelude.{◌≡◌, ◌<◌, ◌≤◌, true, length, vec_len, IfOk, IfSome, OnOk, IsErrOf};
+ghost use Rattle.std.specs.Prelude.{◌≡◌, ◌<◌, ◌≤◌, false, true, length, vec_len, IfOk, IfSome, OnOk, IsErrOf};
 ghost use Rattle.std.specs.Io.KnownBytes.{IsAtEnd};
 ghost use Rattle.dml_script.specs.Watching.{inner_of, has_failed};
 
@@ -21,9 +21,11 @@ pub enum InputError {
 
 /// All bytes of a reader, which is asked at most `MAX_INPUT + 1` times.
 pub fn read_all<R: Read>(alloc: Global, reader: &mut Watched<R>) -> Result<Vec<u8>, InputError>
+    requires { has_failed reader.old ≡ false }
     ensures within { IfOk result (λ input. vec_len input ≤ MAX_INPUT) }
     ensures all { IfOk result (λ input. IfSome (R.remaining (inner_of reader.old)) (λ bytes. input.items ≡ bytes)) }
     ensures end { OnOk result (IsAtEnd (R.remaining (inner_of reader.new))) }
+    ensures passed { OnOk result (has_failed reader.new ≡ false) }
     ensures read { IsErrOf result InputError.Read → has_failed reader.new ≡ true }
     ensures too_long { IsErrOf result InputError.TooLong
         → IfSome (R.remaining (inner_of reader.old)) (λ bytes. MAX_INPUT < length bytes) }

@@ -1,6 +1,6 @@
 //! One line of text: skipped, read, or faulty.
 
-ghost use Rattle.std.specs.Prelude.{◌≡◌, [], IfOk, IfErr, IfSome, OnOk, Some, None, true, false};
+ghost use Rattle.std.specs.Prelude.{◌≡◌, ◌<◌, [], length, IfOk, IfErr, IfSome, OnOk, Some, None, true, false};
 ghost use Rattle.std.specs.List.{list_all};
 ghost use Rattle.dml_script.specs.Grammar as grammar;
 ghost use Rattle.dml_script.specs.Reads.{Condemns, Fails, FitsFields, HasSizes, IsNext, values_seen, verdict_from};
@@ -134,7 +134,8 @@ fn line_of(word: Word, values: Values) -> Line
 
 /// The line of a known first word that may stand here, of the words after it.
 fn read_words(alloc: Global, reading: &Reading, word: Word, rest: &[u8]) -> Result<Line, ReadError>
-    requires { grammar.is_image word ≡ true → reading.now ≡ [] }
+    requires image { grammar.is_image word ≡ true → reading.now ≡ [] }
+    requires others { grammar.is_image word ≡ false → 0 < length reading.now }
     ensures fine { OnOk result (grammar.first_of (grammar.rest_faults word (words rest.now) reading.now) ≡ None) }
     ensures line { IfOk result (λ line. grammar.line_in (Some word) (words rest.now) ≡ grammar.Fine line) }
     ensures next { IfOk result (λ line. IsNext reading.now line) }
@@ -157,6 +158,7 @@ fn read_words(alloc: Global, reading: &Reading, word: Word, rest: &[u8]) -> Resu
 fn misplaced(word: Word, reading: &Reading) -> Option<Kind>
     ensures kind { result ≡ grammar.first_of (grammar.place_faults word reading.now) }
     ensures image { result ≡ None → grammar.is_image word ≡ true → reading.now ≡ [] }
+    ensures others { result ≡ None → grammar.is_image word ≡ false → 0 < length reading.now }
 {
     match (reading.is_empty(), word == Word::Image) {
         (true, false) => Some(Kind::MissingImage),

@@ -31,18 +31,3 @@ pub enum Line {
     /// Bytes are shown, 1 to 65,536 of them.
     Show { addr: u64, len: u32 },
 }
-
-/// A script without faults: its lines, in order.
-#[derive(Debug, Drop)]
-pub struct Script {
-    pub list: Vec<Line>,
-}
-
-impl Model for Script {
-    ghost use Rattle.std.specs.Prelude.{List};
-    ghost use Rattle.dml_script.specs.declared.lines.Line.{Line};
-
-    ghost Value = { List Line };
-
-    ghost view = { λ script. script.list.items };
-}

@@ -1,52 +1,53 @@
-//! The lines read so far, and what they say of the image's pages.
+//! What the lines read so far say of the image's pages.
 
-use crate::lines::{Bytes, Line, Script};
+use crate::lines::Line;
 use std::alloc::{AllocError, Global};
 use std::marker::Model;
 
-/// The lines read so far, and which pages of the image are present after them.
+/// The image's pages after the lines read so far, present or absent; none before the `image` line. Contracts see
+/// the shortest lines that make this image, which answer each later line as those that were read.
 #[derive(Drop)]
 pub struct Reading {
-    lines: Vec<Line>,
     present: Vec<bool>,
 }
 
 impl Model for Reading {
-    ghost use Rattle.std.specs.Prelude.{List};
+    ghost use Rattle.std.specs.Prelude.{◌≤◌, List, length};
     ghost use Rattle.dml_script.specs.declared.lines.Line.{Line};
-    ghost use Rattle.dml_script.specs.Tracks.{Tracks};
+    ghost use Rattle.dml_script.specs.Pages.{lines_for};
 
     ghost Value = { List Line };
 
-    ghost view = { λ reading. reading.lines.items };
+    ghost view = { λ reading. lines_for reading.present.items };
 
-    ghost invariant = { λ reading. Tracks reading.lines.items reading.present.items };
+    ghost invariant = { λ reading. length reading.present.items ≤ 4096 };
 }
 
 impl Reading {
-    ghost use Rattle.std.specs.Prelude.{◌≡◌, ◌<◌, ◌≤◌, ◌∷◌, ◌++◌, [], length, nat_eq, nat_lt, OnOk, IsTrue, IfOk};
-    ghost use Rattle.dml_script.specs.declared.lines.Line.TheVariants as line;
+    ghost use Rattle.std.specs.Prelude.{◌≡◌, ◌≤◌, ◌∷◌, ◌++◌, [], length, nat_eq, nat_lt, OnOk, OnErr};
     ghost use Rattle.dml_script.specs.Grammar as grammar;
+    ghost use Rattle.dml_script.specs.Pages.{Alike};
     ghost use Rattle.dml_script.specs.Reads.{IsNext};
 
-    /// No line yet, with room for so many.
-    pub fn new(alloc: Global, lines: usize) -> Result<Reading, AllocError>
-        ensures { IfOk result (λ reading. reading ≡ []) }
+    /// No line yet.
+    pub fn new(alloc: Global) -> Reading
+        ensures { result ≡ [] }
     {
-        Ok(Reading {
-            lines: Vec::with_capacity(alloc, lines)?,
+        Reading {
             present: Vec::new(alloc),
-        })
+        }
     }
 
     /// Whether no line was read yet.
+    #[tactic(auto, using(crate::proofs::PageLemmas::no_lines_for))]
     pub fn is_empty(&self) -> bool
         ensures { result ≡ nat_eq (length self.now) 0 }
     {
-        self.lines.is_empty()
+        self.present.is_empty()
     }
 
     /// Whether the image has a page of this number.
+    #[tactic(auto, using(crate::proofs::PageLemmas::pages_for))]
     pub fn has_page(&self, page: u64) -> bool
         ensures value { result ≡ nat_lt page (grammar.pages_of self.now) }
         ensures few { grammar.pages_of self.now ≤ 4096 }
@@ -55,6 +56,7 @@ impl Reading {
     }
 
     /// Whether a page is present.
+    #[tactic(auto, using(crate::proofs::PageLemmas::present_for))]
     fn is_present(&self, page: u64) -> bool
         ensures { result ≡ grammar.is_present self.now page }
     {
@@ -74,46 +76,18 @@ impl Reading {
         self.is_present(addr / 4096) && self.is_present(last)
     }
 
-    /// Adds an `image` line.
-    fn push_image(&mut self, alloc: Global, pages: u32) -> Result<(), AllocError>
-        requires { IsNext self.old (line.Image pages) }
-        ensures { OnOk result (self.new ≡ self.old ++ line.Image pages ∷ []) }
-    {
-        let present = vec![in alloc; false; pages as usize]?;
-        self.lines.push(Line::Image { pages })?;
-        self.present = present;
-        Ok(())
-    }
-
-    /// Adds a `page` line.
-    fn push_page(&mut self, page: u32, bytes: Bytes) -> Result<(), AllocError>
-        requires { IsNext self.old (line.Page page bytes) }
-        ensures { OnOk result (self.new ≡ self.old ++ line.Page page bytes ∷ []) }
-    {
-        self.lines.push(Line::Page { page, bytes })?;
-        self.present[page as usize] = true;
-        Ok(())
-    }
-
-    /// Adds a line that may come next.
-    pub fn push(&mut self, alloc: Global, next: Line) -> Result<(), AllocError>
-        requires { IsNext self.old next }
-        ensures { OnOk result (self.new ≡ self.old ++ next ∷ []) }
+    /// Takes note of a line that may come next.
+    #[tactic(auto, using(crate::proofs::PageLemmas::noted_same))]
+    pub fn note(&mut self, alloc: Global, next: &Line) -> Result<(), AllocError>
+        requires { IsNext self.old next.now }
+        ensures noted { OnOk result (Alike self.new (self.old ++ next.now ∷ [])) }
+        ensures unchanged { OnErr result (self.new ≡ self.old) }
     {
         match next {
-            Line::Image { pages } => self.push_image(alloc, pages),
-            Line::Page { page, bytes } => self.push_page(page, bytes),
-            other => {
-                self.lines.push(other)?;
-                Ok(())
-            }
+            Line::Image { pages } => self.present = vec![in alloc; false; *pages as usize]?,
+            Line::Page { page, .. } => self.present[*page as usize] = true,
+            Line::Poke { .. } | Line::Job(_) | Line::Show { .. } => {}
         }
-    }
-
-    /// The script of these lines.
-    pub fn into_script(self) -> Script
-        ensures { result ≡ self }
-    {
-        Script { list: self.lines }
+        Ok(())
     }
 }

@@ -14,6 +14,17 @@ const DEFAULTS: Settings = Settings {
     workers: 4,
 };
 
+const OF_EIGHT: Settings = Settings {
+    chunk: 8,
+    workers: 16,
+    ..DEFAULTS
+};
+
+const NARROW: Settings = Settings {
+    staging: 64,
+    ..DEFAULTS
+};
+
 const FILL: &str = "image 2\npage 0\nfill 0x0807060504030201 4090 12\nshow 4088 10\n";
 
 const FILL_ANSWER: &str =
@@ -79,78 +90,72 @@ fn scripts_and_their_answers(rt: HostRuntime) {
     }
 }
 
+/// Rows of moves and dualcasts: their names, settings, scripts and answers.
+const MOVES: [(&str, Settings, &str, &str); 8] = [
+    (
+        "backward_move_into_absent_page",
+        DEFAULTS,
+        "image 2\npage 0 0102030405\nmove 0 4 4096\nshow 0 8",
+        "job 0 status 83 result 1 completed 0 fault 4099 delta 0\nshow 0 0102030405000000\n",
+    ),
+    (
+        "forward_move_over_itself",
+        OF_EIGHT,
+        "image 1\npage 0 a0a1a2a3a4a5a6a7a8a9aaab\npoke 100 d0d1d2d3d4d5\nmove 4 0 100\nshow 0 10\nshow 94 12",
+        "job 0 status 01 result 0 completed 100 fault 0 delta 0\n\
+         show 0 a4a5a6a7a8a9aaab0000\nshow 94 0000d0d1d2d3d0d1d2d3d4d5\n",
+    ),
+    (
+        "dualcast_refusals",
+        DEFAULTS,
+        "image 4\npage 0\ndualcast 0 8 16 100\ndualcast 0 4096 8192 4097\ndualcast 0 4096 8192 4",
+        "job 0 status 17 result 0 completed 0 fault 0 delta 0\n\
+         job 1 status 16 result 0 completed 0 fault 0 delta 0\n\
+         job 2 status 83 result 0 completed 0 fault 4096 delta 0\n",
+    ),
+    (
+        "staging_refusal_and_two_waves",
+        NARROW,
+        "image 1\npage 0\nmove 0 256 64\nmove 0 512 65\nmove 0 1024 64",
+        "job 0 status 01 result 0 completed 64 fault 0 delta 0\n\
+         job 1 status 7e result 0 completed 0 fault 0 delta 0\n\
+         job 2 status 01 result 0 completed 64 fault 0 delta 0\n",
+    ),
+    (
+        "end_of_address_space",
+        DEFAULTS,
+        "image 1\npage 0\nmove 0xfffffffffffffff0 0 17\nmove 0xfffffffffffffff0 0 16",
+        "job 0 status 7d result 0 completed 0 fault 0 delta 0\n\
+         job 1 status 03 result 0 completed 0 fault 18446744073709551600 delta 0\n",
+    ),
+    (
+        "flags_before_size",
+        DEFAULTS,
+        "image 1\nmove 0 0 1048577 flags 0x10\nmove 0 0 1048577\nmove 0 0 0\nnoop flags 1",
+        "job 0 status 11 result 0 completed 0 fault 0 delta 0\n\
+         job 1 status 13 result 0 completed 0 fault 0 delta 0\n\
+         job 2 status 01 result 0 completed 0 fault 0 delta 0\n\
+         job 3 status 11 result 0 completed 0 fault 0 delta 0\n",
+    ),
+    (
+        "backward_move_stops_at_page_edge",
+        DEFAULTS,
+        "image 3\npage 0\npage 2 0102\nmove 0 8 12272\nshow 8192 12",
+        "job 0 status 03 result 1 completed 4080 fault 8191 delta 0\n\
+         show 8192 010200000000000001020000\n",
+    ),
+    (
+        "dualcast_write_fault",
+        DEFAULTS,
+        "image 4\npage 0 0102030405\npage 1\npage 3\ndualcast 0 8190 16382 5\nshow 8190 2\nshow 16382 2",
+        "job 0 status 83 result 0 completed 2 fault 8192 delta 0\n\
+         show 8190 0102\nshow 16382 0102\n",
+    ),
+];
+
 #[test]
 fn moves_and_dualcasts(rt: HostRuntime) {
-    let of_eight = Settings {
-        chunk: 8,
-        workers: 16,
-        ..DEFAULTS
-    };
-    let narrow = Settings {
-        staging: 64,
-        ..DEFAULTS
-    };
-    for (name, settings, script, answer) in [
-        (
-            "backward_move_into_absent_page",
-            DEFAULTS,
-            "image 2\npage 0 0102030405\nmove 0 4 4096\nshow 0 8",
-            "job 0 status 83 result 1 completed 0 fault 4099 delta 0\nshow 0 0102030405000000\n",
-        ),
-        (
-            "forward_move_over_itself",
-            of_eight,
-            "image 1\npage 0 a0a1a2a3a4a5a6a7a8a9aaab\npoke 100 d0d1d2d3d4d5\nmove 4 0 100\nshow 0 10\nshow 94 12",
-            "job 0 status 01 result 0 completed 100 fault 0 delta 0\n\
-             show 0 a4a5a6a7a8a9aaab0000\nshow 94 0000d0d1d2d3d0d1d2d3d4d5\n",
-        ),
-        (
-            "dualcast_refusals",
-            DEFAULTS,
-            "image 4\npage 0\ndualcast 0 8 16 100\ndualcast 0 4096 8192 4097\ndualcast 0 4096 8192 4",
-            "job 0 status 17 result 0 completed 0 fault 0 delta 0\n\
-             job 1 status 16 result 0 completed 0 fault 0 delta 0\n\
-             job 2 status 83 result 0 completed 0 fault 4096 delta 0\n",
-        ),
-        (
-            "staging_refusal_and_two_waves",
-            narrow,
-            "image 1\npage 0\nmove 0 256 64\nmove 0 512 65\nmove 0 1024 64",
-            "job 0 status 01 result 0 completed 64 fault 0 delta 0\n\
-             job 1 status 7e result 0 completed 0 fault 0 delta 0\n\
-             job 2 status 01 result 0 completed 64 fault 0 delta 0\n",
-        ),
-        (
-            "end_of_address_space",
-            DEFAULTS,
-            "image 1\npage 0\nmove 0xfffffffffffffff0 0 17\nmove 0xfffffffffffffff0 0 16",
-            "job 0 status 7d result 0 completed 0 fault 0 delta 0\n\
-             job 1 status 03 result 0 completed 0 fault 18446744073709551600 delta 0\n",
-        ),
-        (
-            "flags_before_size",
-            DEFAULTS,
-            "image 1\nmove 0 0 1048577 flags 0x10\nmove 0 0 1048577\nmove 0 0 0\nnoop flags 1",
-            "job 0 status 11 result 0 completed 0 fault 0 delta 0\n\
-             job 1 status 13 result 0 completed 0 fault 0 delta 0\n\
-             job 2 status 01 result 0 completed 0 fault 0 delta 0\n\
-             job 3 status 11 result 0 completed 0 fault 0 delta 0\n",
-        ),
-        (
-            "backward_move_stops_at_page_edge",
-            DEFAULTS,
-            "image 3\npage 0\npage 2 0102\nmove 0 8 12272\nshow 8192 12",
-            "job 0 status 03 result 1 completed 4080 fault 8191 delta 0\n\
-             show 8192 010200000000000001020000\n",
-        ),
-        (
-            "dualcast_write_fault",
-            DEFAULTS,
-            "image 4\npage 0 0102030405\npage 1\npage 3\ndualcast 0 8190 16382 5\nshow 8190 2\nshow 16382 2",
-            "job 0 status 83 result 0 completed 2 fault 8192 delta 0\n\
-             show 8190 0102\nshow 16382 0102\n",
-        ),
-    ] {
+    for (name, settings, script, answer) in MOVES {
         let (outcome, written) = run_at(&rt, rt.alloc(), script.as_bytes(), settings);
         assert_eq!(rt; outcome, Ok(()), "at {name}");
         assert_eq!(rt; written.as_slice(), answer.as_bytes(), "at {name}");
@@ -543,7 +548,16 @@ fn refused_read_script(rt: HostRuntime) {
         rt.alloc(),
         b"image 2\npage 0 0102\npoke 1 03\nnoop\nshow 0 2",
     ) {
-        Ok(script) => assert_eq!(rt; script.list.len(), 5),
+        Ok(script) => {
+            let mut lines = script.lines(rt.alloc());
+            for _ in 0..5 {
+                let Ok(line) = lines.next_line(rt.alloc()) else {
+                    return;
+                };
+                assert!(rt; line.is_some());
+            }
+            assert!(rt; matches!(lines.next_line(rt.alloc()), Ok(None)));
+        }
         Err(error) => assert_eq!(rt; error, ScriptError::NoMemory),
     }
 }

@@ -4,7 +4,7 @@ ghost use Rattle.dml_types.specs.Refusal.{IsValid};
 ghost use Rattle.dml_script.specs.Grammar.{parse};
 ghost use Rattle.dml_script.specs.Run.{answer, answer_from, opening, text_if};
 ghost use Rattle.dml_script.specs.Runnable.{AllFit, IsRunnable};
-ghost use Rattle.dml_script.specs.Watching.{inner_of, has_failed, AppendsFront};
+ghost use Rattle.dml_script.specs.Watching.{inner_of, has_failed, is_flushed, AppendsFront};
 ghost use Rattle.dml_script.specs.declared.faults.ScriptFault.{ScriptFault as TheFault};
 ghost use Rattle.dml_script.specs.declared.running.RunFault.TheVariants as faults;
 
@@ -12,7 +12,7 @@ use crate::faults::{ScriptError, ScriptFault, fault_text};
 use crate::input::{InputError, MAX_INPUT, read_all};
 use crate::items::Item;
 use crate::lines::Line;
-use crate::reader::read_script;
+use crate::script::{ScriptLines, read_script};
 use crate::sessions::Session;
 use crate::texts::out_text;
 use crate::watching::Watched;
@@ -20,7 +20,7 @@ use crate::writing::write_all;
 use dml_engine::{Engine, EngineError};
 use dml_image::Image;
 use dml_types::Settings;
-use std::alloc::Global;
+use std::alloc::{AllocError, Global};
 use std::io::{Read, Write};
 use thiserror::Error;
 
@@ -60,18 +60,21 @@ pub fn run_script<R: Read, W: Write>(
     // The answer of the whole input is written, and nothing else.
     ensures answered { OnOk result (IfSome (R.remaining (inner_of reader.old)) (λ bytes.
         Appends (W.contents (inner_of writer.old)) (W.contents (inner_of writer.new)) (answer bytes settings.staging))) }
-    ensures is_script { OnOk result (IfSome (R.remaining (inner_of reader.old)) (λ bytes. IsOk (parse bytes))) }
+    ensures is_script { OnOk result (IfSome (R.remaining (inner_of reader.old)) (λ bytes. (length bytes ≤ 4194304) × IsOk (parse bytes))) }
     ensures all_read { OnOk result (IsAtEnd (R.remaining (inner_of reader.new))) }
+    ensures passed { OnOk result ((has_failed reader.new ≡ false) × (has_failed writer.new ≡ false)) }
+    ensures flushed { OnOk result (is_flushed writer.new ≡ true) }
 
     // Whatever the error, no more than a front of the answer is written; and nothing before the script is checked.
     ensures front { OnErr result (IfSome (R.remaining (inner_of reader.old)) (λ bytes.
         AppendsFront (W.contents (inner_of writer.old)) (W.contents (inner_of writer.new)) (answer bytes settings.staging))) }
     ensures script { (fault : TheFault) → IsErrOf result (faults.Script fault) → (writer.new ≡ writer.old)
-        × IfSome (R.remaining (inner_of reader.old)) (λ bytes. parse bytes ≡ Err fault) }
+        × IfSome (R.remaining (inner_of reader.old)) (λ bytes. (length bytes ≤ 4194304) × (parse bytes ≡ Err fault)) }
     ensures too_long { IsErrOf result faults.TooLong → (writer.new ≡ writer.old)
         × IfSome (R.remaining (inner_of reader.old)) (λ bytes. 4194304 < length bytes) }
     ensures read { IsErrOf result faults.Read → (writer.new ≡ writer.old) × (has_failed reader.new ≡ true) }
-    ensures write { IsErrOf result faults.Write → has_failed writer.new ≡ true }
+    ensures write { IsErrOf result faults.Write → (has_failed writer.new ≡ true)
+        × IfSome (R.remaining (inner_of reader.old)) (λ bytes. length bytes ≤ 4194304) }
 {
     match read_all(alloc, reader) {
         Ok(bytes) => answer_input(alloc, bytes, writer, settings),
@@ -81,7 +84,7 @@ pub fn run_script<R: Read, W: Write>(
     }
 }
 
-/// Checks a whole script and writes its answer. The input is let go before anything runs.
+/// Checks a whole script and writes its answer.
 fn answer_input<W: Write>(
     alloc: Global,
     bytes: Vec<u8>,
@@ -90,8 +93,11 @@ fn answer_input<W: Write>(
 ) -> Result<(), RunFault>
     requires valid { IsValid settings }
     requires within { vec_len bytes ≤ MAX_INPUT }
+    requires writer { has_failed writer.old ≡ false }
     ensures answered { OnOk result (Appends (W.contents (inner_of writer.old)) (W.contents (inner_of writer.new)) (answer bytes.items settings.staging)) }
     ensures is_script { OnOk result (IsOk (parse bytes.items)) }
+    ensures passed { OnOk result (has_failed writer.new ≡ false) }
+    ensures flushed { OnOk result (is_flushed writer.new ≡ true) }
     ensures front { OnErr result (AppendsFront (W.contents (inner_of writer.old)) (W.contents (inner_of writer.new)) (answer bytes.items settings.staging)) }
     ensures script { (fault : TheFault) → IsErrOf result (faults.Script fault)
         → (writer.new ≡ writer.old) × (parse bytes.items ≡ Err fault) }
@@ -104,8 +110,7 @@ fn answer_input<W: Write>(
         Err(ScriptError::Fault(fault)) => return Err(RunFault::Script(fault)),
         Err(ScriptError::NoMemory) => return Err(RunFault::NoMemory),
     };
-    drop(bytes);
-    match answer_script(alloc, &script.list, writer, settings) {
+    match answer_script(alloc, script.lines(alloc), writer, settings) {
         Ok(()) => Ok(()),
         Err(AnswerError::NoMemory) => Err(RunFault::NoMemory),
         Err(AnswerError::Write) => Err(RunFault::Write),
@@ -119,25 +124,39 @@ enum AnswerError {
     Write,
 }
 
+impl From<AllocError> for AnswerError {
+    ghost use Rattle.std.specs.Prelude.{◌≡◌};
+    ghost use Rattle.dml_script.specs.declared.running.AnswerError.TheVariants.{NoMemory};
+
+    ghost from_gives = { λ _ e. e ≡ NoMemory };
+
+    fn from(_error: AllocError) -> AnswerError {
+        AnswerError::NoMemory
+    }
+}
+
 /// Writes the answer of a script's lines, and flushes the writer.
 fn answer_script<W: Write>(
     alloc: Global,
-    lines: &[Line],
+    mut lines: ScriptLines<'_>,
     writer: &mut Watched<W>,
     settings: Settings,
 ) -> Result<(), AnswerError>
     requires valid { IsValid settings }
-    requires runnable { IsRunnable settings.staging lines.now }
+    requires runnable { IsRunnable settings.staging lines }
+    requires writer { has_failed writer.old ≡ false }
     ensures ok { OnOk result (Appends (W.contents (inner_of writer.old)) (W.contents (inner_of writer.new))
-        (answer_from settings.staging opening lines.now)) }
+        (answer_from settings.staging opening lines.entry)) }
+    ensures passed { OnOk result (has_failed writer.new ≡ false) }
+    ensures flushed { OnOk result (is_flushed writer.new ≡ true) }
     ensures front { OnErr result (AppendsFront (W.contents (inner_of writer.old)) (W.contents (inner_of writer.new))
-        (answer_from settings.staging opening lines.now)) }
+        (answer_from settings.staging opening lines.entry)) }
     ensures failed { IsErrOf result AnswerError.Write → has_failed writer.new ≡ true }
 {
-    let [Line::Image { pages }, lines @ ..] = lines else {
+    let Some(Line::Image { pages }) = lines.next_line(alloc)? else {
         unreachable!()
     };
-    let Ok(image) = Image::new(alloc, *pages) else {
+    let Ok(image) = Image::new(alloc, pages) else {
         return Err(AnswerError::NoMemory);
     };
     let engine = match Engine::new(alloc, image, settings) {
@@ -152,21 +171,22 @@ fn answer_script<W: Write>(
 fn answer_lines<W: Write>(
     alloc: Global,
     mut session: Session,
-    lines: &[Line],
+    mut lines: ScriptLines<'_>,
     writer: &mut Watched<W>,
 ) -> Result<(), AnswerError>
-    requires fits { AllFit session.staging session.session lines.now }
-    requires counted { session.session.jobs + length lines.now < 2 ^ 32 }
+    requires fits { AllFit session.staging session.session lines }
+    requires counted { session.session.jobs + length lines < 2 ^ 32 }
+    requires writer { has_failed writer.old ≡ false }
     ensures ok { OnOk result (Appends (W.contents (inner_of writer.old)) (W.contents (inner_of writer.new))
-        (answer_from session.staging session.session lines.now)) }
+        (answer_from session.staging session.session lines.entry)) }
+    ensures passed { OnOk result (has_failed writer.new ≡ false) }
+    ensures flushed { OnOk result (is_flushed writer.new ≡ true) }
     ensures front { OnErr result (AppendsFront (W.contents (inner_of writer.old)) (W.contents (inner_of writer.new))
-        (answer_from session.staging session.session lines.now)) }
+        (answer_from session.staging session.session lines.entry)) }
     ensures failed { IsErrOf result AnswerError.Write → has_failed writer.new ≡ true }
 {
-    for line in lines {
-        let Ok(item) = session.take(alloc, line) else {
-            return Err(AnswerError::NoMemory);
-        };
+    while let Some(line) = lines.next_line(alloc)? {
+        let item = session.take(alloc, &line)?;
         write_item(alloc, item, writer)?;
     }
     if writer.flush().is_err() {
@@ -181,7 +201,9 @@ fn write_item<W: Write>(
     item: Option<Item>,
     writer: &mut Watched<W>,
 ) -> Result<(), AnswerError>
+    requires writer { has_failed writer.old ≡ false }
     ensures ok { OnOk result (Appends (W.contents (inner_of writer.old)) (W.contents (inner_of writer.new)) (text_if item)) }
+    ensures passed { OnOk result (has_failed writer.new ≡ false) }
     ensures front { OnErr result (AppendsFront (W.contents (inner_of writer.old)) (W.contents (inner_of writer.new)) (text_if item)) }
     ensures failed { IsErrOf result AnswerError.Write → has_failed writer.new ≡ true }
 {

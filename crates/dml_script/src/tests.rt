@@ -15,6 +15,19 @@ fn fault_of(rt: &impl Abort, alloc: Global, text: &[u8]) -> Option<(u32, Kind)> 
     }
 }
 
+/// The lines of a script.
+fn lines_of(alloc: Global, script: &Script<'_>) -> Result<Vec<Line>, AllocError> {
+    let mut lines = Vec::new(alloc);
+    let mut left = script.lines(alloc);
+    for _ in 0..=4_194_304 {
+        let Some(line) = left.next_line(alloc)? else {
+            break;
+        };
+        lines.push(line)?;
+    }
+    Ok(lines)
+}
+
 /// A text with so many copies of a byte between a front and a back.
 fn padded(
     alloc: Global,
@@ -32,72 +45,75 @@ fn padded(
     Ok(text)
 }
 
+/// Scripts with one fault, the line and the kind of it.
+const FAULTS: [(&str, u32, Kind); 54] = [
+    ("image 1\nnoop\u{e9}", 2, Kind::NotAscii),
+    ("image 1\nnoop\u{7f}", 2, Kind::NotAscii),
+    ("image 1\ncompare 0 0 0", 2, Kind::UnknownWord),
+    ("image 1\nNOOP", 2, Kind::UnknownWord),
+    ("image 1\nfil 0 0 0", 2, Kind::UnknownWord),
+    ("image 1\nfills 0 0 0", 2, Kind::UnknownWord),
+    ("image 1\nbatch", 2, Kind::UnknownWord),
+    ("image 1\nend", 2, Kind::UnknownWord),
+    ("noop", 1, Kind::MissingImage),
+    ("# first\n\n \t\npage 0\nimage 1", 4, Kind::MissingImage),
+    ("image 1\nnoop\nimage 1", 3, Kind::SecondImage),
+    ("image 1\npage", 2, Kind::WrongWords),
+    ("image 1\npage 0 00 00", 2, Kind::WrongWords),
+    ("image 1\npoke 0", 2, Kind::WrongWords),
+    ("image 1\nnoop flag 1", 2, Kind::WrongWords),
+    ("image 1\nnoop flags", 2, Kind::WrongWords),
+    ("image 1\nnoop flags 1 flags 2", 2, Kind::WrongWords),
+    ("image 1\nfill 0 0 0 0", 2, Kind::WrongWords),
+    ("image 1\nfill 0 0 0 check 1", 2, Kind::WrongWords),
+    ("image 1\nmove 0 0", 2, Kind::WrongWords),
+    ("image 1\nmove 0 0 0 0", 2, Kind::WrongWords),
+    ("image 1\ndualcast 0 0 0", 2, Kind::WrongWords),
+    ("image 1\ndualcast 0 0 0 0 0", 2, Kind::WrongWords),
+    ("image 1\nmove 0 0 4294967296", 2, Kind::BadNumber),
+    ("image 1\ndualcast 0 0 0 4294967296", 2, Kind::BadNumber),
+    (
+        "image 1\ndualcast 0 0 0 0 flags 0x1000000",
+        2,
+        Kind::BadNumber,
+    ),
+    ("image 1\nfill 1 0 flags", 2, Kind::BadNumber),
+    ("image 1\nfill 1 flags 2", 2, Kind::BadNumber),
+    ("image 1\nfill 0 0 4294967296", 2, Kind::BadNumber),
+    ("image 1\nnoop flags 0x1000000", 2, Kind::BadNumber),
+    ("image 1\npage 0 0", 2, Kind::BadHex),
+    ("image 1\npage 0 000", 2, Kind::BadHex),
+    ("image 1\npage 0 0g", 2, Kind::BadHex),
+    ("image 1\npage 0 0x00", 2, Kind::BadHex),
+    ("image 1\nraw", 2, Kind::WrongWords),
+    ("image 1\nraw 00 flags 1", 2, Kind::WrongWords),
+    ("image 1\nraw 00", 2, Kind::BadHex),
+    ("image 0", 1, Kind::BadRange),
+    ("image 4097", 1, Kind::BadRange),
+    ("image 18446744073709551615", 1, Kind::BadRange),
+    ("image 1\npage 1", 2, Kind::BadRange),
+    ("image 2\npoke 0 01", 2, Kind::BadRange),
+    ("image 2\npage 0\npoke 4095 0102", 3, Kind::BadRange),
+    ("image 2\npage 1\npoke 4095 0102", 3, Kind::BadRange),
+    ("image 2\npoke 0 01\npage 0", 2, Kind::BadRange),
+    (
+        "image 1\npage 0\npoke 0xffffffffffffffff 0102",
+        3,
+        Kind::BadRange,
+    ),
+    ("image 1\nshow 0 0", 2, Kind::BadRange),
+    ("image 1\nshow 0 65537", 2, Kind::BadRange),
+    ("image 1\nshow 18446744073709551615 2", 2, Kind::BadRange),
+    ("", 1, Kind::MissingImage),
+    ("\n", 2, Kind::MissingImage),
+    ("\n\n", 3, Kind::MissingImage),
+    ("# a", 2, Kind::MissingImage),
+    ("#image 1\n", 2, Kind::MissingImage),
+];
+
 #[test]
 fn each_kind_of_fault(rt: HostRuntime) {
-    for (text, line, kind) in [
-        ("image 1\nnoop\u{e9}", 2, Kind::NotAscii),
-        ("image 1\nnoop\u{7f}", 2, Kind::NotAscii),
-        ("image 1\ncompare 0 0 0", 2, Kind::UnknownWord),
-        ("image 1\nNOOP", 2, Kind::UnknownWord),
-        ("image 1\nfil 0 0 0", 2, Kind::UnknownWord),
-        ("image 1\nfills 0 0 0", 2, Kind::UnknownWord),
-        ("image 1\nbatch", 2, Kind::UnknownWord),
-        ("image 1\nend", 2, Kind::UnknownWord),
-        ("noop", 1, Kind::MissingImage),
-        ("# first\n\n \t\npage 0\nimage 1", 4, Kind::MissingImage),
-        ("image 1\nnoop\nimage 1", 3, Kind::SecondImage),
-        ("image 1\npage", 2, Kind::WrongWords),
-        ("image 1\npage 0 00 00", 2, Kind::WrongWords),
-        ("image 1\npoke 0", 2, Kind::WrongWords),
-        ("image 1\nnoop flag 1", 2, Kind::WrongWords),
-        ("image 1\nnoop flags", 2, Kind::WrongWords),
-        ("image 1\nnoop flags 1 flags 2", 2, Kind::WrongWords),
-        ("image 1\nfill 0 0 0 0", 2, Kind::WrongWords),
-        ("image 1\nfill 0 0 0 check 1", 2, Kind::WrongWords),
-        ("image 1\nmove 0 0", 2, Kind::WrongWords),
-        ("image 1\nmove 0 0 0 0", 2, Kind::WrongWords),
-        ("image 1\ndualcast 0 0 0", 2, Kind::WrongWords),
-        ("image 1\ndualcast 0 0 0 0 0", 2, Kind::WrongWords),
-        ("image 1\nmove 0 0 4294967296", 2, Kind::BadNumber),
-        ("image 1\ndualcast 0 0 0 4294967296", 2, Kind::BadNumber),
-        (
-            "image 1\ndualcast 0 0 0 0 flags 0x1000000",
-            2,
-            Kind::BadNumber,
-        ),
-        ("image 1\nfill 1 0 flags", 2, Kind::BadNumber),
-        ("image 1\nfill 1 flags 2", 2, Kind::BadNumber),
-        ("image 1\nfill 0 0 4294967296", 2, Kind::BadNumber),
-        ("image 1\nnoop flags 0x1000000", 2, Kind::BadNumber),
-        ("image 1\npage 0 0", 2, Kind::BadHex),
-        ("image 1\npage 0 000", 2, Kind::BadHex),
-        ("image 1\npage 0 0g", 2, Kind::BadHex),
-        ("image 1\npage 0 0x00", 2, Kind::BadHex),
-        ("image 1\nraw", 2, Kind::WrongWords),
-        ("image 1\nraw 00 flags 1", 2, Kind::WrongWords),
-        ("image 1\nraw 00", 2, Kind::BadHex),
-        ("image 0", 1, Kind::BadRange),
-        ("image 4097", 1, Kind::BadRange),
-        ("image 18446744073709551615", 1, Kind::BadRange),
-        ("image 1\npage 1", 2, Kind::BadRange),
-        ("image 2\npoke 0 01", 2, Kind::BadRange),
-        ("image 2\npage 0\npoke 4095 0102", 3, Kind::BadRange),
-        ("image 2\npage 1\npoke 4095 0102", 3, Kind::BadRange),
-        ("image 2\npoke 0 01\npage 0", 2, Kind::BadRange),
-        (
-            "image 1\npage 0\npoke 0xffffffffffffffff 0102",
-            3,
-            Kind::BadRange,
-        ),
-        ("image 1\nshow 0 0", 2, Kind::BadRange),
-        ("image 1\nshow 0 65537", 2, Kind::BadRange),
-        ("image 1\nshow 18446744073709551615 2", 2, Kind::BadRange),
-        ("", 1, Kind::MissingImage),
-        ("\n", 2, Kind::MissingImage),
-        ("\n\n", 3, Kind::MissingImage),
-        ("# a", 2, Kind::MissingImage),
-        ("#image 1\n", 2, Kind::MissingImage),
-    ] {
+    for (text, line, kind) in FAULTS {
         assert_eq!(rt;
             fault_of(&rt, rt.alloc(), text.as_bytes()),
             Some((line, kind)),
@@ -154,31 +170,34 @@ fn lines_and_words(rt: HostRuntime) {
     }
 }
 
+/// Words, and the numbers that they write.
+const NUMBERS: [(&str, Option<u64>); 16] = [
+    ("0", Some(0)),
+    ("18446744073709551615", Some(18_446_744_073_709_551_615)),
+    ("00000000000000000007", Some(7)),
+    ("0xAbCdEf", Some(0xabc_def)),
+    ("0x0000000000000001", Some(1)),
+    ("0xffffffffffffffff", Some(18_446_744_073_709_551_615)),
+    ("18446744073709551616", None),
+    ("000000000000000000007", None),
+    ("0x00000000000000001", None),
+    ("0x", None),
+    ("0X10", None),
+    ("+1", None),
+    ("-1", None),
+    ("1_000", None),
+    ("a", None),
+    ("0xg", None),
+];
+
 #[test]
 fn number_forms(rt: HostRuntime) -> Result<(), Fail> {
-    for (number, value) in [
-        ("0", Some(0)),
-        ("18446744073709551615", Some(18_446_744_073_709_551_615)),
-        ("00000000000000000007", Some(7)),
-        ("0xAbCdEf", Some(0xabc_def)),
-        ("0x0000000000000001", Some(1)),
-        ("0xffffffffffffffff", Some(18_446_744_073_709_551_615)),
-        ("18446744073709551616", None),
-        ("000000000000000000007", None),
-        ("0x00000000000000001", None),
-        ("0x", None),
-        ("0X10", None),
-        ("+1", None),
-        ("-1", None),
-        ("1_000", None),
-        ("a", None),
-        ("0xg", None),
-    ] {
+    for (number, value) in NUMBERS {
         let text = format!(in rt.alloc(); "image 1\nfill {number} 0 4294967295 flags 16777215")?;
         let bytes = text.as_bytes();
         assert!(rt; bytes.len() <= 4_194_304);
         let read = match read_script(rt.alloc(), bytes) {
-            Ok(script) => match script.list.get(1) {
+            Ok(script) => match lines_of(rt.alloc(), &script)?.get(1) {
                 Some(Line::Job(job)) => {
                     assert_eq!(rt;
                         (job.opcode, job.flags, job.size),
@@ -203,61 +222,64 @@ fn number_forms(rt: HostRuntime) -> Result<(), Fail> {
     Ok(())
 }
 
+/// A front, a byte, its copies and a back of scripts at the limits, and their faults.
+const LONG_SCRIPTS: [(&str, u8, usize, &str, Option<(u32, Kind)>); 15] = [
+    ("image 1\nnoop", b' ', 16_380, "", None),
+    ("image 1\nnoop", b' ', 16_380, "\r\n", None),
+    ("image 1\nnoop", b' ', 16_381, "", Some((2, Kind::LongLine))),
+    (
+        "image 1\nnoop\u{e9}",
+        b' ',
+        16_380,
+        "",
+        Some((2, Kind::LongLine)),
+    ),
+    (
+        "image 1\nmove ",
+        b' ',
+        16_380,
+        "",
+        Some((2, Kind::LongLine)),
+    ),
+    (
+        "image 1\nnoop",
+        b' ',
+        16_380,
+        "\r",
+        Some((2, Kind::LongLine)),
+    ),
+    ("image 1\n", b' ', 20_000, "", None),
+    ("image 1\n#", b'\xff', 20_000, "\n", None),
+    ("image 1\npage 0 ", b'a', 8192, "", None),
+    ("image 1\npage 0 ", b'a', 8194, "", Some((2, Kind::BadHex))),
+    ("image 1\npage 0\npoke 0 ", b'a', 8192, "", None),
+    (
+        "image 1\npage 0\npoke 1 ",
+        b'a',
+        8192,
+        "",
+        Some((3, Kind::BadRange)),
+    ),
+    (
+        "image 1\npage 0\npoke 0 ",
+        b'a',
+        8194,
+        "",
+        Some((3, Kind::BadHex)),
+    ),
+    ("image 2\npage 1\npage 0\npoke 4095 ", b'a', 8192, "", None),
+    (
+        "image 3\npage 0\npage 2\npoke 4095 ",
+        b'a',
+        4,
+        "",
+        Some((4, Kind::BadRange)),
+    ),
+];
+
 #[test]
 fn longest_lines_and_words(rt: HostRuntime) -> Result<(), Fail> {
-    for (front, byte, copies, back, fault) in [
-        ("image 1\nnoop", b' ', 16_380, "", None),
-        ("image 1\nnoop", b' ', 16_380, "\r\n", None),
-        ("image 1\nnoop", b' ', 16_381, "", Some((2, Kind::LongLine))),
-        (
-            "image 1\nnoop\u{e9}",
-            b' ',
-            16_380,
-            "",
-            Some((2, Kind::LongLine)),
-        ),
-        (
-            "image 1\nmove ",
-            b' ',
-            16_380,
-            "",
-            Some((2, Kind::LongLine)),
-        ),
-        (
-            "image 1\nnoop",
-            b' ',
-            16_380,
-            "\r",
-            Some((2, Kind::LongLine)),
-        ),
-        ("image 1\n", b' ', 20_000, "", None),
-        ("image 1\n#", b'\xff', 20_000, "\n", None),
-        ("image 1\npage 0 ", b'a', 8192, "", None),
-        ("image 1\npage 0 ", b'a', 8194, "", Some((2, Kind::BadHex))),
-        ("image 1\npage 0\npoke 0 ", b'a', 8192, "", None),
-        (
-            "image 1\npage 0\npoke 1 ",
-            b'a',
-            8192,
-            "",
-            Some((3, Kind::BadRange)),
-        ),
-        (
-            "image 1\npage 0\npoke 0 ",
-            b'a',
-            8194,
-            "",
-            Some((3, Kind::BadHex)),
-        ),
-        ("image 2\npage 1\npage 0\npoke 4095 ", b'a', 8192, "", None),
-        (
-            "image 3\npage 0\npage 2\npoke 4095 ",
-            b'a',
-            4,
-            "",
-            Some((4, Kind::BadRange)),
-        ),
-    ] {
+    for (front, byte, copies, back, fault) in LONG_SCRIPTS {
         let text = padded(rt.alloc(), front, byte, copies, back)?;
         assert_eq!(rt;
             fault_of(&rt, rt.alloc(), text.as_slice()),
@@ -288,8 +310,9 @@ fn each_line_is_read(rt: HostRuntime) -> Result<(), Fail> {
     let Ok(script) = read_script(rt.alloc(), text) else {
         panic!(rt; "not read");
     };
-    assert_eq!(rt; script.list.len(), lines.len());
-    for (line, expected) in script.list.iter().zip(lines) {
+    let found = lines_of(rt.alloc(), &script)?;
+    assert_eq!(rt; found.len(), lines.len());
+    for (line, expected) in found.iter().zip(lines) {
         let shown = format!(in rt.alloc(); "{line:?}")?;
         assert_eq!(rt; shown.as_str(), expected);
     }
@@ -322,8 +345,8 @@ fn raw_lines(rt: HostRuntime) -> Result<(), Fail> {
         ("09", 128, None),
         // short_raw_line
         ("00", 126, Some((2, Kind::BadHex))),
-        ("03", 127, Some((2, Kind::BadHex))),
-        ("03", 129, Some((2, Kind::BadHex))),
+        ("05", 127, Some((2, Kind::BadHex))),
+        ("05", 129, Some((2, Kind::BadHex))),
         ("00", 130, Some((2, Kind::BadHex))),
         ("0x", 128, Some((2, Kind::BadHex))),
     ] {

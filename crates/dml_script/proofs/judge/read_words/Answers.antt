@@ -33,4 +33,4 @@ returns-clause-fine c =
 
 pub returns-clause-next : goal.returns-clause-next
 returns-clause-next c =
-    rw c.line_of.ensures (next_in_range c.args.word (values_seen c.in_ok-values.values) c.args.reading.now c.requires (sym c.is_out_of_range.ensures.value ∙ c.if-is_out_of_range.false))
+    rw c.line_of.ensures (next_in_range c.args.word (values_seen c.in_ok-values.values) c.args.reading.now c.requires.image c.requires.others (sym c.is_out_of_range.ensures.value ∙ c.if-is_out_of_range.false))

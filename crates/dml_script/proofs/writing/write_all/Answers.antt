@@ -1,4 +1,4 @@
-use Rattle.std.proofs.Common.{List, ℕ, take, drop, subst, arith}
+use Rattle.std.proofs.Common.{rules, List, ℕ, take, drop, subst, arith}
 use Rattle.std.specs.Io.KnownBytes.{Appends}
 use Rattle.dml_script.specs.Watching.{inner_of}
 use Rattle.dml_script.proofs.BytesLemmas.{appends_more}
@@ -11,6 +11,7 @@ loop-done-preserved g c =
     let next : Appends before after (take c.in-Ok.count (drop c.loop-done.done c.args.bytes.now)) =
     subst (λ (bytes : List ℕ). Appends before after (take c.in-Ok.count bytes)) c.split_at.ensures.back c.in-Ok.ensures.bytes in
     record {
+      passed = search (rules, c.loop-done.invariant.passed, c.in-Ok.ensures.failed, c.in-Ok.ensures.bound);
       within = omega (arith, c.in-Ok.ensures.bound, c.split_at.ensures.back_len);
       written = appends_more _ _ _ _ _ _ c.loop-done.invariant.written next;
     }

@@ -200,11 +200,39 @@ help() {
     [ ! -s "$work/err" ] || complain "dmljob $*: says $(cat "$work/err")"
 }
 
-help help
-help --help
-help -h
-help run --help
-help help decode
+# shows WORDS TEXT..: a help that has each of these texts in one of its lines
+shows() {
+    words=$1
+    shift
+    help $words
+    for text in "$@"; do
+        grep -qF -e "$text" "$work/out" || complain "dmljob $words: does not show: $text"
+    done
+}
+
+# typed ANSWER WORD..: what a help says to type is typed, on the input in the file `in`
+typed() {
+    answer=$1
+    shift
+    outcome 0 "$answer\n" '' "$@"
+}
+
+for words in help --help -h; do
+    shows "$words" 'Carries out memory jobs of a data mover in software' 'run     Carry out the script on the standard input' \
+        'decode  Show the fields of a descriptor' 'Exit status: 0 done, 2 the script has a fault, 3 the command line is refused'
+    sed '1,/^To try it,/d; /^and type:$/,$d; s/^  //' "$work/out" >"$work/in"
+    typed "$(cat examples/fill.answer)" $(sed -n '/^and type:$/,$s/^  dmljob \(.*\) < .*/\1/p' "$work/out")
+done
+for words in 'run --help' 'run -h' 'help run'; do
+    shows "$words" 'How many workers carry out jobs, 1 to 16 [default: 4]' \
+        'How many bytes one task covers, a multiple of 8 from 8 to 1048576 [default: 4096]' \
+        'How many bytes the staging arena has, 0 to 16777216 [default: 1048576]' 'fill PATTERN DST N ' 'show ADDR LEN '
+    typed "$(cat examples/fill.answer)" $(sed -n 's/^  dmljob \(run .*\) < .*/\1/p' "$work/out")
+done
+for words in 'decode --help' 'decode -h' 'help decode'; do
+    shows "$words" 'Usage: dmljob decode <HEX>' '<HEX>  The 64 bytes of the descriptor, as 128 hexadecimal digits in either case'
+    typed "$(sed '1,/^prints$/d; s/^  //' "$work/out")" $(sed -n 's/^  dmljob \(decode .*\)/\1/p' "$work/out")
+done
 
 # ---- a standard output that takes nothing
 

@@ -1,5 +1,5 @@
 -- How the program ends without an answer: its exit status and its text.
-use Rattle.std.specs.Prelude.{ℕ, List, ◌++◌, Option, Some, None, codes}
+use Rattle.std.specs.Prelude.{◌≡◌, ◌⊎◌, ℕ, List, ◌++◌, Option, Some, None, codes, Result, Ok, Err}
 use Rattle.std.specs.Fmt.{decimal}
 use Rattle.clap.specs.Words.{kind_of}
 use Rattle.clap.specs.declared.error.Error.{Error}
@@ -41,12 +41,26 @@ text_in refusal.NoMemory = Some (codes "dmljob: out of memory\n")
 text_in refusal.Read = Some (codes "dmljob: cannot read the script\n")
 text_in refusal.Write = Some (codes "dmljob: cannot write the answer\n")
 
--- what clap's refusal of the words is to the program, by its kind
+-- What clap's error is to the program, for each kind that it can have: a request for help or for the
+-- version, want of memory, and else a mistake in the words.
 abbrev pub refusal_by : ErrorKind → Error → Refusal
-refusal_by kind.OutOfMemory error = refusal.NoMemory
 refusal_by kind.DisplayHelp error = refusal.Help error
 refusal_by kind.DisplayVersion error = refusal.Help error
-refusal_by _ error = refusal.Words error
+refusal_by kind.OutOfMemory error = refusal.NoMemory
+refusal_by kind.InvalidValue error = refusal.Words error
+refusal_by kind.UnknownArgument error = refusal.Words error
+refusal_by kind.InvalidSubcommand error = refusal.Words error
+refusal_by kind.NoEquals error = refusal.Words error
+refusal_by kind.ValueValidation error = refusal.Words error
+refusal_by kind.TooManyValues error = refusal.Words error
+refusal_by kind.TooFewValues error = refusal.Words error
+refusal_by kind.WrongNumberOfValues error = refusal.Words error
+refusal_by kind.ArgumentConflict error = refusal.Words error
+refusal_by kind.MissingRequiredArgument error = refusal.Words error
+refusal_by kind.MissingSubcommand error = refusal.Words error
+refusal_by kind.DisplayHelpOnMissingArgumentOrSubcommand error = refusal.Words error
+refusal_by kind.Io error = refusal.Words error
+refusal_by kind.Format error = refusal.Words error
 
 abbrev pub refusal_of : Error → Refusal
 refusal_of error = refusal_by (kind_of error) error
@@ -63,3 +77,23 @@ refusal_of_run run.TooLong = refusal.TooLong
 refusal_of_run (run.Script fault) = refusal.Script fault
 refusal_of_run run.NoMemory = refusal.NoMemory
 refusal_of_run run.Write = refusal.Write
+
+-- ---- the end of the program
+
+-- what a run is refused by, once its settings are judged
+abbrev pub IsOfRun : Refusal → Type 0
+IsOfRun refused = (fault : RunFault) × (refused ≡ refusal_of_run fault)
+
+-- what a description is refused by, once its digits are judged
+abbrev pub IsOfDescription : Refusal → Type 0
+IsOfDescription refused = (refused ≡ refusal.NoMemory) ⊎ (refused ≡ refusal.Write)
+
+-- what the program ends by: its refusal, but a failed write where help cannot be written
+abbrev pub IsShown : Refusal → Refusal → Type 0
+IsShown (refusal.Help error) shown = (shown ≡ refusal.Help error) ⊎ (shown ≡ refusal.Write)
+IsShown refused shown = shown ≡ refused
+
+-- the exit status after an answer, or in place of one
+abbrev pub EndsWith : Result Unit Refusal → ℕ → Type 0
+EndsWith (Ok done) status = status ≡ 0
+EndsWith (Err refused) status = (shown : Refusal) × IsShown refused shown × (status ≡ status_in shown)

@@ -1,10 +1,12 @@
 -- What a line of words asks for, judged before any input is read.
 use Rattle.std.specs.Prelude.{◌≡◌, ℕ, List, [], length, Option, Result, Ok, Err}
 use Rattle.std.specs.List.{AllPass}
-use Rattle.clap.specs.Words.{IsAmong, Kinds, Row, Text, kind_of}
+use Rattle.clap.specs.Words.{IsAmong, Kinds, Row, Text, fault_of, kind_of, subcommand_of}
 use Rattle.hex.specs.Hex.{decode_of, is_hex_digit}
 use Rattle.dml_types.specs.Refusal.{IsValid}
-use Rattle.dmljob.specs.Line.{IsLine}
+use Rattle.clap.specs.declared.error.Error.{Error}
+use Rattle.dmljob.specs.Line.{IsLine, dmljob}
+use Rattle.dmljob.specs.Refusal.{refusal_of}
 use Rattle.dmljob.specs.declared.refusals.Refusal.{Refusal}
 use Rattle.dmljob.specs.declared.refusals.Refusal.TheVariants as refusal
 use Rattle.dmljob.specs.declared.requests.Request.{Request}
@@ -31,17 +33,29 @@ Judges (Decode hex) (Err refused) =
 abbrev pub JudgesLine : Option (Text × List Row) → Result Request Refusal → Type 0
 JudgesLine command judged = (line : Line) × IsLine command line × Judges line judged
 
+-- what clap's answer comes to: the judgement of its line, or what its error is by the error's kind
+abbrev pub ComesTo : Result Line Error → Result Request Refusal → Type 0
+ComesTo (Ok line) judged = Judges line judged
+ComesTo (Err error) judged = judged ≡ Err (refusal_of error)
+
 -- What the words come to, by the faults that clap finds in them and the command that they name:
--- their first fault, and only where they have none the judgement of the line that they say.
+-- their first fault, in the case of its kind, and only where they have none the judgement of the line
+-- that they say.
 abbrev pub Asks : Kinds → Option (Text × List Row) → Result Request Refusal → Type 0
 Asks faults command (Ok asked) = (faults ≡ []) × JudgesLine command (Ok asked)
 Asks faults command (Err refusal.Settings) =
     (faults ≡ []) × JudgesLine command (Err refusal.Settings)
 Asks faults command (Err refusal.NotHex) = (faults ≡ []) × JudgesLine command (Err refusal.NotHex)
-Asks faults command (Err (refusal.Help error)) = IsAmong (kind_of error) faults
-Asks faults command (Err (refusal.Words error)) = IsAmong (kind_of error) faults
+Asks faults command (Err (refusal.Help error)) =
+    (refusal_of error ≡ refusal.Help error) × IsAmong (kind_of error) faults
+Asks faults command (Err (refusal.Words error)) =
+    (refusal_of error ≡ refusal.Words error) × IsAmong (kind_of error) faults
 Asks faults command (Err refusal.NoMemory) = Unit {0}
 Asks faults command (Err _) = ⊥
+
+-- what these words ask for, the first being the program's name
+abbrev pub AsksBy : List Text → Result Request Refusal → Type 0
+AsksBy words asked = Asks (fault_of dmljob words) (subcommand_of dmljob words) asked
 
 -- what runs has settings in their range
 abbrev pub HasValidSettings : Request → Type 0

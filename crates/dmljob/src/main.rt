@@ -1,9 +1,10 @@
 //! The program `dmljob`: carries out scripts of memory jobs, and describes descriptors.
 #![tactic(auto)]
 
-ghost use Rattle.std.specs.Prelude.{IfOk};
+ghost use Rattle.std.specs.Prelude.{IfErr};
+ghost use Rattle.std.specs.Process.{exit_status};
 ghost use Rattle.dml_types.specs.Refusal.{IsValid};
-ghost use Rattle.dmljob.specs.Request.{HasValidSettings};
+ghost use Rattle.dmljob.specs.Refusal.{EndsWith, IsOfDescription, IsOfRun, IsShown};
 
 mod descriptions;
 mod help;
@@ -14,28 +15,21 @@ mod words;
 use descriptions::description;
 use dml_script::{Watched, run_script};
 use dml_types::Settings;
-use refusals::{Refusal, refusal_of_words, status_of};
-use requests::{Request, asked_by};
+use refusals::{Refusal, status_of};
+use requests::{Request, asked_of};
 use std::io::BufWriter;
 use std::process::ExitCode;
 use std::{env, io};
 
-// What the words ask for, before any input is read.
-fn request_in(rt: &HostRuntime) -> Result<Request, Refusal>
-    ensures { IfOk result HasValidSettings }
-{
-    let alloc = rt.alloc();
-    let arguments = env::args(rt).map_err(refusal_of_words)?;
-    let arguments: Vec<String> = arguments.collect(alloc)?;
-    let mut words = Vec::with_capacity(alloc, arguments.len())?;
-    for argument in &arguments {
-        words.push(argument.as_str())?;
-    }
-    asked_by(alloc, words.as_slice())
+// The program's words; the first is its name.
+fn arguments_in(rt: &HostRuntime) -> io::Result<Vec<String>> {
+    let arguments = env::args(rt)?.collect(rt.alloc())?;
+    Ok(arguments)
 }
 
 fn carried_out(rt: &HostRuntime, settings: Settings) -> Result<(), Refusal>
     requires { IsValid settings }
+    ensures { IfErr result IsOfRun }
 {
     let alloc = rt.alloc();
     let Ok(output) = BufWriter::new(alloc, io::writer(rt)) else {
@@ -47,35 +41,44 @@ fn carried_out(rt: &HostRuntime, settings: Settings) -> Result<(), Refusal>
     Ok(())
 }
 
-fn described(rt: &HostRuntime, bytes: &[u8; 64]) -> Result<(), Refusal> {
+fn described(rt: &HostRuntime, bytes: &[u8; 64]) -> Result<(), Refusal>
+    ensures { IfErr result IsOfDescription }
+{
     let text = description(rt.alloc(), bytes)?;
     rt.print(&text).map_err(|_| Refusal::Write)
 }
 
-fn answered(rt: &HostRuntime) -> Result<(), Refusal> {
-    match request_in(rt)? {
-        Request::Run(settings) => carried_out(rt, settings),
-        Request::Decode(bytes) => described(rt, &bytes),
-    }
-}
-
 // Help goes to the standard output, which may fail.
-fn with_help_shown(rt: &HostRuntime, refusal: Refusal) -> Refusal {
+fn with_help_shown(rt: &HostRuntime, refusal: Refusal) -> Refusal
+    ensures { IsShown refusal result }
+{
     match &refusal {
         Refusal::Help(_) if rt.print(&refusal).is_err() => Refusal::Write,
         _ => refusal,
     }
 }
 
-fn main(rt: HostRuntime) -> ExitCode {
-    let Err(refusal) = answered(&rt) else {
-        return ExitCode::SUCCESS;
+// How the program ends: it shows why there is no answer.
+fn ended(rt: &HostRuntime, answer: Result<(), Refusal>) -> ExitCode
+    ensures { EndsWith answer (exit_status result) }
+{
+    let Err(refusal) = answer else {
+        return ExitCode::from(0);
     };
-    let refusal = with_help_shown(&rt, refusal);
+    let refusal = with_help_shown(rt, refusal);
     if !matches!(refusal, Refusal::Help(_)) {
         let _ = rt.eprint(&refusal);
     }
     ExitCode::from(status_of(&refusal))
+}
+
+fn main(rt: HostRuntime) -> ExitCode {
+    let answer = match asked_of(rt.alloc(), arguments_in(&rt)) {
+        Ok(Request::Run(settings)) => carried_out(&rt, settings),
+        Ok(Request::Decode(bytes)) => described(&rt, &bytes),
+        Err(refusal) => Err(refusal),
+    };
+    ended(&rt, answer)
 }
 
 #[cfg(test)]

@@ -1,14 +1,15 @@
 //! What the program is asked for.
-ghost use Rattle.std.specs.Prelude.{IfOk, map};
-ghost use Rattle.clap.specs.Words.{fault_of, subcommand_of};
-ghost use Rattle.dmljob.specs.Line.{dmljob};
-ghost use Rattle.dmljob.specs.Request.{Asks, HasValidSettings, Judges};
+ghost use Rattle.std.specs.Prelude.{◌≡◌, Err, IfErr, IfOk, map, string_bytes};
+ghost use Rattle.std.specs.IoError.{error_kind};
+ghost use Rattle.dmljob.specs.Refusal.{unread_refusal};
+ghost use Rattle.dmljob.specs.Request.{AsksBy, ComesTo, HasValidSettings, Judges};
 
-use crate::refusals::Refusal;
+use crate::refusals::{Refusal, refusal_of_words};
 use crate::words::{Line, command_of};
 use dml_types::Settings;
 use hex::FromHex;
 use std::alloc::Global;
+use std::io;
 
 /// What a command line asks for, once it is judged.
 #[derive(Clone, Copy, PartialEq, Debug)]
@@ -34,13 +35,41 @@ pub fn request_of(line: Line<'_>) -> Result<Request, Refusal>
     }
 }
 
+// Judges the line of clap's answer; its error becomes the case of its kind.
+fn judged(answer: Result<Line<'_>, clap::Error>) -> Result<Request, Refusal>
+    ensures judged { ComesTo answer.entry result }
+    ensures valid { IfOk result HasValidSettings }
+{
+    request_of(answer?)
+}
+
 /// What the words of a command line ask for; the first is the program's name. The words are judged
 /// first, and then the settings or the descriptor's digits.
 pub fn asked_by<'a>(alloc: Global, words: &'a [&'a str]) -> Result<Request, Refusal>
-    ensures judged { Asks (fault_of dmljob (map (λ word. word.now) words.entry.now))
-        (subcommand_of dmljob (map (λ word. word.now) words.entry.now)) result }
+    ensures judged { AsksBy (map (λ word. word.now) words.entry.now) result }
     ensures valid { IfOk result HasValidSettings }
 {
-    let line = command_of(alloc, words)?;
-    request_of(line)
+    judged(command_of(alloc, words))
+}
+
+/// What the arguments of the program ask for.
+pub fn asked_in(alloc: Global, arguments: &[String]) -> Result<Request, Refusal>
+    ensures judged { AsksBy (map string_bytes arguments.now) result }
+    ensures valid { IfOk result HasValidSettings }
+{
+    let mut words = Vec::with_capacity(alloc, arguments.len())?;
+    for argument in arguments {
+        words.push(argument.as_str())?;
+    }
+    asked_by(alloc, words.as_slice())
+}
+
+/// What the arguments of the program ask for, where they could be read.
+pub fn asked_of(alloc: Global, arguments: io::Result<Vec<String>>) -> Result<Request, Refusal>
+    ensures unread { IfErr arguments (λ error. result ≡ Err (unread_refusal (error_kind error))) }
+    ensures judged { IfOk arguments (λ words. AsksBy (map string_bytes words.items) result) }
+    ensures valid { IfOk result HasValidSettings }
+{
+    let words = arguments.map_err(refusal_of_words)?;
+    asked_in(alloc, &words)
 }

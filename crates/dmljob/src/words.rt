@@ -53,7 +53,10 @@ fn decode_command<'a>(alloc: Global) -> Result<Command<'a>, AllocError>
     ensures local { IfOk result (λ command. (fields_of command).has_globals ≡ false) }
 {
     let hex = Arg::new(alloc, "HEX").required(true).help(help::HEX);
-    Command::new(alloc, "decode").about(help::DECODE).arg(hex)
+    Command::new(alloc, "decode")
+        .about(help::DECODE)
+        .after_help(help::DESCRIPTOR)
+        .arg(hex)
 }
 
 fn dmljob_command<'a>(alloc: Global) -> Result<Command<'a>, AllocError>

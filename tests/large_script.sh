@@ -7,7 +7,7 @@ set -u
 export LC_ALL=C
 
 limit=4194304        # bytes of the longest script
-most_memory=6        # times the longest script, above what a script of one line takes
+most_memory=2        # times the longest script, above what a script of one line takes
 most_reading=1000    # milliseconds of processor time to read a script and refuse its last line
 most_running=3000    # milliseconds of processor time to read a script, carry it out and write its answer
 

@@ -1,9 +1,10 @@
 -- The run of a script's lines, one after another.
+use Rattle.std.proofs.lemmas.Bool.{le-leb}
 use Rattle.std.proofs.Common.{◌≡◌, ℕ, ◌+◌, ◌^◌, ◌<◌, ◌≤◌, List, [], ◌∷◌, ◌++◌, length, Option, Some, None, IfSome, MatchOption, Result, Ok, Err, OnErr, sym, ap, subst, ◌∙◌, arith}
 use Rattle.dml_script.specs.declared.lines.Line.{Line}
 use Rattle.dml_script.specs.declared.lines.Line.TheVariants as line
 use Rattle.dml_script.specs.Grammar.{parse}
-use Rattle.dml_script.specs.Run.{Session, after_line, answer, answer_from, answer_if, item_of, opening, text_if}
+use Rattle.dml_script.specs.Run.{Session, after_line, answer, answer_from, answer_if, item_of, longest_script, opening, text_if}
 use Rattle.dml_script.specs.Runnable.{AllFit}
 use Rattle.dml_script.proofs.BytesLemmas.{IsWritten}
 
@@ -41,12 +42,12 @@ taken_of staging session l left old now whole turn = record {
 
 -- where a line was found, it was the first that was left
 first_left : (found : Option Line) (l : Line) (before left : List Line) → found ≡ Some l
-    → MatchOption found (before ≡ []) (λ line. before ≡ line ∷ left) → before ≡ l ∷ left
+    → MatchOption found ((before ≡ []) × (left ≡ [])) (λ line. before ≡ line ∷ left) → before ≡ l ∷ left
 first_left None l before left is given = cc
 first_left (Some line) l before left is given = let same : line ≡ l = cc in given ∙ ap (λ (first : Line). first ∷ left) same
 
 pub taken_at : (staging : ℕ) (session : Session) (found : Option Line) (l : Line) (before left : List Line) (old now : Option (List ℕ)) (whole : List ℕ)
-    → found ≡ Some l → MatchOption found (before ≡ []) (λ line. before ≡ line ∷ left) → Turn staging session before old now whole
+    → found ≡ Some l → MatchOption found ((before ≡ []) × (left ≡ [])) (λ line. before ≡ line ∷ left) → Turn staging session before old now whole
     → Taken staging session l left old now whole
 taken_at staging session found l before left old now whole is given turn =
     taken_of staging session l left old now whole
@@ -57,9 +58,11 @@ pub of_all : (known : Option (List ℕ)) (bytes : List ℕ) (P : List ℕ → Ty
 of_all None bytes P same holds = tt
 of_all (Some all) bytes P same holds = subst P same holds
 
-pub answer_is : (bytes : List ℕ) (staging : ℕ) (lines : List Line) → parse bytes ≡ Ok lines → answer_from staging opening lines ≡ answer bytes staging
+pub answer_is : (bytes : List ℕ) (staging : ℕ) (lines : List Line) → length bytes ≤ longest_script → parse bytes ≡ Ok lines
+    → answer_from staging opening lines ≡ answer bytes staging
 unfolding answer
-answer_is bytes staging lines parsed = ap (λ p. answer_if p staging) (sym parsed)
+answer_is bytes staging lines within parsed =
+    rw (le-leb (length bytes) longest_script within) (ap (λ p. answer_if p staging) (sym parsed))
 
 -- the lines of a script that was read from the bytes themselves
 pub parsed_lines : (bytes seen : List ℕ) (script lines : List Line) → seen ≡ bytes → parse seen ≡ Ok script → lines ≡ script → parse bytes ≡ Ok lines

@@ -207,11 +207,7 @@ judged None first after = line_in first after
 abbrev pub is_comment : List ℕ → Bool
 is_comment first = nat_eq (slice_index first 0) 35
 
--- a line without a word, or whose first word begins with `#`
-abbrev pub is_skipped : List (List ℕ) → Bool
-is_skipped [] = true
-is_skipped (first ∷ after) = is_comment first
-
+-- a line is skipped that has no word, or whose first word begins with `#`
 abbrev pub verdict_of : List (List ℕ) → List ℕ → List Line → Verdict
 verdict_of [] text before = Skipped
 verdict_of (first ∷ after) text before =

@@ -1,5 +1,5 @@
 -- What a script's run writes: its lines change a memory, one after another, and jobs and shows add text.
-use Rattle.std.specs.Prelude.{ℕ, ◌+◌, ◌-◌, if◌then◌else◌, List, [], ◌∷◌, ◌++◌, length, map, replicate, Option, None, Some, Result, Ok, Err}
+use Rattle.std.specs.Prelude.{ℕ, ◌+◌, ◌-◌, if◌then◌else◌, List, [], ◌∷◌, ◌++◌, length, map, nat_le, replicate, Option, None, Some, Result, Ok, Err}
 use Rattle.std.specs.List.{range_with_len}
 use Rattle.dml_types.specs.Memory.{Memory, page_size, has, byte_at, put}
 use Rattle.dml_types.specs.Step.{step}
@@ -62,11 +62,15 @@ answer_from staging session [] = []
 answer_from staging session (l ∷ lines) =
     text_if (item_of staging session l) ++ answer_from staging (after_line staging session l) lines
 
+-- the most bytes of a script
+abbrev pub longest_script : ℕ
+longest_script = 4194304
+
 -- a script with a fault has no answer
 abbrev pub answer_if : Result (List Line) ScriptFault → ℕ → List ℕ
 answer_if (Ok lines) staging = answer_from staging opening lines
 answer_if (Err fault) staging = []
 
--- the answer of a script's bytes, at a staging size
+-- the answer of a script's bytes, at a staging size; one that is too long has none
 unfoldable pub answer : List ℕ → ℕ → List ℕ
-answer bytes staging = answer_if (parse bytes) staging
+answer bytes staging = if nat_le (length bytes) longest_script then answer_if (parse bytes) staging else []

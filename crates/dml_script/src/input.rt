@@ -1,4 +1,4 @@
-ghost use Rattle.std.specs.Prelude.{◌≡◌, ◌<◌, ◌≤◌, false, true, length, vec_len, IfOk, IfSome, OnOk, IsErrOf};
+ghost use Rattle.std.specs.Prelude.{◌≡◌, ◌≢◌, ◌<◌, ◌≤◌, false, true, length, vec_len, Err, IfOk, IfSome, OnOk, IsErrOf};
 ghost use Rattle.std.specs.Io.KnownBytes.{IsAtEnd};
 ghost use Rattle.dml_script.specs.Watching.{inner_of, has_failed};
 
@@ -6,33 +6,33 @@ use crate::watching::Watched;
 use std::alloc::Global;
 use std::io::Read;
 
-/// The most bytes of a script.
-pub const MAX_INPUT: usize = 4_194_304;
+/// The most bytes of a script: 4 MiB.
+pub const MAX_SCRIPT: usize = 4_194_304;
 
 /// Why an input was not read.
 #[derive(Clone, Copy, PartialEq, Eq, Debug)]
 pub enum InputError {
     /// The reader answered an error.
     Read,
-    /// It has more than `MAX_INPUT` bytes.
+    /// It has more than `MAX_SCRIPT` bytes.
     TooLong,
     NoMemory,
 }
 
-/// All bytes of a reader, which is asked at most `MAX_INPUT + 1` times.
+/// All bytes of a reader, which is asked at most `MAX_SCRIPT + 1` times.
 pub fn read_all<R: Read>(alloc: Global, reader: &mut Watched<R>) -> Result<Vec<u8>, InputError>
     requires { has_failed reader.old ≡ false }
-    ensures within { IfOk result (λ input. vec_len input ≤ MAX_INPUT) }
+    ensures within { IfOk result (λ input. vec_len input ≤ MAX_SCRIPT) }
     ensures all { IfOk result (λ input. IfSome (R.remaining (inner_of reader.old)) (λ bytes. input.items ≡ bytes)) }
     ensures end { OnOk result (IsAtEnd (R.remaining (inner_of reader.new))) }
-    ensures passed { OnOk result (has_failed reader.new ≡ false) }
+    ensures passed { result ≢ Err InputError.Read → has_failed reader.new ≡ false }
     ensures read { IsErrOf result InputError.Read → has_failed reader.new ≡ true }
     ensures too_long { IsErrOf result InputError.TooLong
-        → IfSome (R.remaining (inner_of reader.old)) (λ bytes. MAX_INPUT < length bytes) }
+        → IfSome (R.remaining (inner_of reader.old)) (λ bytes. MAX_SCRIPT < length bytes) }
 {
     let mut input = Vec::new(alloc);
     let mut chunk = [0; 8192];
-    for _turn in 0..MAX_INPUT + 1 {
+    for _turn in 0..MAX_SCRIPT + 1 {
         let Ok(count) = reader.read(&mut chunk) else {
             return Err(InputError::Read);
         };
@@ -42,7 +42,7 @@ pub fn read_all<R: Read>(alloc: Global, reader: &mut Watched<R>) -> Result<Vec<u
         if input.extend_from_slice(&chunk[..count]).is_err() {
             return Err(InputError::NoMemory);
         }
-        if input.len() > MAX_INPUT {
+        if input.len() > MAX_SCRIPT {
             return Err(InputError::TooLong);
         }
     }

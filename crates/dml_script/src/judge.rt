@@ -35,16 +35,6 @@ fn is_comment(first: &[u8]) -> bool
     matches!(first, [b'#', ..])
 }
 
-/// Whether a line is skipped: it has no word, or its first word begins with `#`.
-pub fn is_skipped(text: &[u8]) -> bool
-    ensures { result ≡ grammar.is_skipped (words text.now) }
-{
-    match next_word(text) {
-        Some((first, _)) => is_comment(first),
-        None => true,
-    }
-}
-
 /// The number of an entry, or 0 where its word was left out.
 fn number_at(values: &Values, place: usize) -> u64
     ensures { result ≡ grammar.number_at (values_seen values.now) place }

@@ -22,6 +22,7 @@ mod words;
 mod writing;
 
 pub use faults::{Kind, ScriptError, ScriptFault, fault_text};
+pub use input::MAX_SCRIPT;
 pub use items::{Item, Shown};
 pub use laws::{law_of_answers, law_of_first_fault};
 pub use lines::{Bytes, Line};

@@ -225,8 +225,8 @@ fn a_fault_writes_nothing(rt: HostRuntime) {
 /// An input of exactly so many bytes: one image line, and comments.
 fn long_input(alloc: Global, len: usize) -> Result<Vec<u8>, AllocError> {
     let mut input = Vec::with_capacity(alloc, len)?;
-    input.extend_from_slice(b"image 1\n")?;
-    for place in 8..len {
+    input.extend_from_slice(b"image 1\nshow 0 1\n")?;
+    for place in 17..len {
         input.push(if place % 64 == 0 { b'\n' } else { b'#' })?;
     }
     Ok(input)
@@ -234,14 +234,19 @@ fn long_input(alloc: Global, len: usize) -> Result<Vec<u8>, AllocError> {
 
 #[test]
 fn the_longest_input(rt: HostRuntime) -> Result<(), Fail> {
-    for (len, outcome) in [(4_194_304, Ok(())), (4_194_305, Err(RunFault::TooLong))] {
+    for (len, outcome, answer) in [
+        (MAX_SCRIPT, Ok(()), "show 0 --\n"),
+        (MAX_SCRIPT + 1, Err(RunFault::TooLong), ""),
+    ] {
         let input = long_input(rt.alloc(), len)?;
-        assert_eq!(rt; run(&rt, rt.alloc(), &input).0, outcome, "at {len}");
+        let (found, written) = run(&rt, rt.alloc(), &input);
+        assert_eq!(rt; found, outcome, "at {len}");
+        assert_eq!(rt; written.as_slice(), answer.as_bytes(), "at {len}");
     }
     Ok(())
 }
 
-/// Gives bytes, at most so many a call, and fails at a call.
+/// Gives bytes, at most so many a call, and fails at one call.
 #[derive(Drop)]
 struct Steps<'a> {
     bytes: &'a [u8],
@@ -252,10 +257,11 @@ struct Steps<'a> {
 
 impl Read for Steps<'_> {
     fn read(&mut self, buf: &mut [u8]) -> io::Result<usize> {
-        if self.calls == self.fails_at {
+        let call = self.calls;
+        self.calls = self.calls.saturating_add(1);
+        if call == self.fails_at {
             return Err(io::Error::from(ErrorKind::Interrupted));
         }
-        self.calls = self.calls.saturating_add(1);
         let count = self.step.min(buf.len()).min(self.bytes.len());
         let (now, after) = self.bytes.split_at(count);
         buf[..count].copy_from_slice(now);
@@ -297,6 +303,7 @@ fn a_reader_fails_at_each_call(rt: HostRuntime) {
             "at {fails_at}"
         );
         assert!(rt; reader.failed());
+        assert_eq!(rt; reader.into_inner().calls, fails_at + 1);
         assert!(rt; writer.into_inner().is_empty(), "at {fails_at}");
     }
 }
@@ -331,7 +338,8 @@ fn a_reader_without_end(rt: HostRuntime) {
     assert!(rt; writer.into_inner().is_empty());
 }
 
-/// Room for so many bytes: then a call fails, or takes none. It takes at most seven bytes a call.
+/// Room for so many bytes: then one call fails, or takes none, and there is room again. It takes at most seven bytes
+/// a call.
 #[derive(Drop)]
 struct Paper {
     bytes: [u8; 256],
@@ -360,6 +368,7 @@ impl Write for Paper {
     fn write(&mut self, buf: &[u8]) -> io::Result<usize> {
         let most = self.room.min(256);
         if self.len >= most {
+            self.room = 256;
             return if self.fails {
                 Err(io::Error::from(ErrorKind::Other))
             } else {
@@ -403,9 +412,11 @@ fn a_writer_fails_at_each_byte(rt: HostRuntime) {
     }
 }
 
-/// Takes all bytes, and cannot be flushed.
+/// Takes all bytes, and fails at the first flush.
 #[derive(Drop)]
-struct Stuck;
+struct Stuck {
+    flushes: u32,
+}
 
 impl Write for Stuck {
     fn write(&mut self, buf: &[u8]) -> io::Result<usize> {
@@ -413,19 +424,61 @@ impl Write for Stuck {
     }
 
     fn flush(&mut self) -> io::Result<()> {
-        Err(io::Error::from(ErrorKind::Other))
+        self.flushes = self.flushes.saturating_add(1);
+        if self.flushes == 1 {
+            return Err(io::Error::from(ErrorKind::Other));
+        }
+        Ok(())
     }
 }
 
 #[test]
 fn a_flush_that_fails(rt: HostRuntime) {
     let mut reader = Watched::new(FILL.as_bytes());
-    let mut writer = Watched::new(Stuck);
+    let mut writer = Watched::new(Stuck { flushes: 0 });
     assert_eq!(rt;
         run_script(rt.alloc(), &mut reader, &mut writer, DEFAULTS),
         Err(RunFault::Write)
     );
     assert!(rt; writer.failed());
+    assert!(rt; !writer.flushed());
+    assert_eq!(rt; writer.into_inner().flushes, 1);
+}
+
+/// Each call is passed on once, also after one that failed, and the failure is kept.
+#[test]
+fn watched_calls(rt: HostRuntime) {
+    let mut reader = Watched::new(Steps {
+        bytes: b"ab",
+        step: 1,
+        calls: 0,
+        fails_at: 0,
+    });
+    let mut buf = [0; 2];
+    assert!(rt; reader.read(&mut buf).is_err());
+    assert!(rt; reader.failed());
+    assert_eq!(rt; reader.read(&mut buf).ok(), Some(1));
+    assert!(rt; reader.failed());
+    assert_eq!(rt; reader.into_inner().calls, 2);
+    for fails in [true, false] {
+        let mut writer = Watched::new(Paper::new(0, fails));
+        assert_eq!(rt; writer.write(b"").is_err(), fails);
+        assert_eq!(rt; writer.failed(), fails);
+        let mut writer = Watched::new(Paper::new(0, fails));
+        assert_eq!(rt; writer.write(b"ab").is_err(), fails);
+        assert!(rt; writer.failed());
+        assert!(rt; writer.flushed());
+        assert_eq!(rt; writer.write(b"ab").ok(), Some(2));
+        assert!(rt; !writer.flushed());
+        assert!(rt; writer.flush().is_ok());
+        assert!(rt; writer.flushed());
+        assert!(rt; writer.into_inner().holds(b"ab"));
+    }
+    let mut writer = Watched::new(Stuck { flushes: 0 });
+    assert!(rt; writer.flush().is_err());
+    assert!(rt; writer.failed());
+    assert!(rt; writer.flush().is_ok());
+    assert_eq!(rt; writer.into_inner().flushes, 2);
 }
 
 #[test]

@@ -9,7 +9,7 @@ ghost use Rattle.dml_script.specs.declared.faults.ScriptFault.{ScriptFault as Th
 ghost use Rattle.dml_script.specs.declared.running.RunFault.TheVariants as faults;
 
 use crate::faults::{ScriptError, ScriptFault, fault_text};
-use crate::input::{InputError, MAX_INPUT, read_all};
+use crate::input::{InputError, MAX_SCRIPT, read_all};
 use crate::items::Item;
 use crate::lines::Line;
 use crate::script::{ScriptLines, read_script};
@@ -62,10 +62,14 @@ pub fn run_script<R: Read, W: Write>(
         Appends (W.contents (inner_of writer.old)) (W.contents (inner_of writer.new)) (answer bytes settings.staging))) }
     ensures is_script { OnOk result (IfSome (R.remaining (inner_of reader.old)) (λ bytes. (length bytes ≤ 4194304) × IsOk (parse bytes))) }
     ensures all_read { OnOk result (IsAtEnd (R.remaining (inner_of reader.new))) }
-    ensures passed { OnOk result ((has_failed reader.new ≡ false) × (has_failed writer.new ≡ false)) }
     ensures flushed { OnOk result (is_flushed writer.new ≡ true) }
 
-    // Whatever the error, no more than a front of the answer is written; and nothing before the script is checked.
+    // A failed call of the reader or the writer is always told.
+    ensures reader { result ≢ Err faults.Read → has_failed reader.new ≡ false }
+    ensures writer { result ≢ Err faults.Write → has_failed writer.new ≡ false }
+
+    // Whatever the error, no more than a front of the answer is written; and nothing before the script is checked. A
+    // script with a fault or over the limit has no answer.
     ensures front { OnErr result (IfSome (R.remaining (inner_of reader.old)) (λ bytes.
         AppendsFront (W.contents (inner_of writer.old)) (W.contents (inner_of writer.new)) (answer bytes settings.staging))) }
     ensures script { (fault : TheFault) → IsErrOf result (faults.Script fault) → (writer.new ≡ writer.old)
@@ -74,7 +78,7 @@ pub fn run_script<R: Read, W: Write>(
         × IfSome (R.remaining (inner_of reader.old)) (λ bytes. 4194304 < length bytes) }
     ensures read { IsErrOf result faults.Read → (writer.new ≡ writer.old) × (has_failed reader.new ≡ true) }
     ensures write { IsErrOf result faults.Write → (has_failed writer.new ≡ true)
-        × IfSome (R.remaining (inner_of reader.old)) (λ bytes. length bytes ≤ 4194304) }
+        × IfSome (R.remaining (inner_of reader.old)) (λ bytes. (length bytes ≤ 4194304) × IsOk (parse bytes)) }
 {
     match read_all(alloc, reader) {
         Ok(bytes) => answer_input(alloc, bytes, writer, settings),
@@ -92,16 +96,16 @@ fn answer_input<W: Write>(
     settings: Settings,
 ) -> Result<(), RunFault>
     requires valid { IsValid settings }
-    requires within { vec_len bytes ≤ MAX_INPUT }
+    requires within { vec_len bytes ≤ MAX_SCRIPT }
     requires writer { has_failed writer.old ≡ false }
     ensures answered { OnOk result (Appends (W.contents (inner_of writer.old)) (W.contents (inner_of writer.new)) (answer bytes.items settings.staging)) }
     ensures is_script { OnOk result (IsOk (parse bytes.items)) }
-    ensures passed { OnOk result (has_failed writer.new ≡ false) }
+    ensures passed { result ≢ Err faults.Write → has_failed writer.new ≡ false }
     ensures flushed { OnOk result (is_flushed writer.new ≡ true) }
     ensures front { OnErr result (AppendsFront (W.contents (inner_of writer.old)) (W.contents (inner_of writer.new)) (answer bytes.items settings.staging)) }
     ensures script { (fault : TheFault) → IsErrOf result (faults.Script fault)
         → (writer.new ≡ writer.old) × (parse bytes.items ≡ Err fault) }
-    ensures write { IsErrOf result faults.Write → has_failed writer.new ≡ true }
+    ensures write { IsErrOf result faults.Write → (has_failed writer.new ≡ true) × IsOk (parse bytes.items) }
     ensures no_read { result ≢ Err faults.Read }
     ensures no_length { result ≢ Err faults.TooLong }
 {
@@ -147,7 +151,7 @@ fn answer_script<W: Write>(
     requires writer { has_failed writer.old ≡ false }
     ensures ok { OnOk result (Appends (W.contents (inner_of writer.old)) (W.contents (inner_of writer.new))
         (answer_from settings.staging opening lines.entry)) }
-    ensures passed { OnOk result (has_failed writer.new ≡ false) }
+    ensures passed { result ≢ Err AnswerError.Write → has_failed writer.new ≡ false }
     ensures flushed { OnOk result (is_flushed writer.new ≡ true) }
     ensures front { OnErr result (AppendsFront (W.contents (inner_of writer.old)) (W.contents (inner_of writer.new))
         (answer_from settings.staging opening lines.entry)) }
@@ -179,7 +183,7 @@ fn answer_lines<W: Write>(
     requires writer { has_failed writer.old ≡ false }
     ensures ok { OnOk result (Appends (W.contents (inner_of writer.old)) (W.contents (inner_of writer.new))
         (answer_from session.staging session.session lines.entry)) }
-    ensures passed { OnOk result (has_failed writer.new ≡ false) }
+    ensures passed { result ≢ Err AnswerError.Write → has_failed writer.new ≡ false }
     ensures flushed { OnOk result (is_flushed writer.new ≡ true) }
     ensures front { OnErr result (AppendsFront (W.contents (inner_of writer.old)) (W.contents (inner_of writer.new))
         (answer_from session.staging session.session lines.entry)) }
@@ -203,7 +207,7 @@ fn write_item<W: Write>(
 ) -> Result<(), AnswerError>
     requires writer { has_failed writer.old ≡ false }
     ensures ok { OnOk result (Appends (W.contents (inner_of writer.old)) (W.contents (inner_of writer.new)) (text_if item)) }
-    ensures passed { OnOk result (has_failed writer.new ≡ false) }
+    ensures passed { result ≢ Err AnswerError.Write → has_failed writer.new ≡ false }
     ensures front { OnErr result (AppendsFront (W.contents (inner_of writer.old)) (W.contents (inner_of writer.new)) (text_if item)) }
     ensures failed { IsErrOf result AnswerError.Write → has_failed writer.new ≡ true }
 {

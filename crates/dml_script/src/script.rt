@@ -5,13 +5,14 @@ ghost use Rattle.dml_script.specs.Grammar.{parse};
 ghost use Rattle.dml_script.specs.Reads.{Reads};
 
 use crate::faults::ScriptError;
+use crate::input::MAX_SCRIPT;
 use crate::lines::Line;
 use crate::reader::LineReader;
 use std::alloc::{AllocError, Global};
 use std::marker::Model;
 
 /// A script without faults: its lines, in order. It keeps its text alone, in which they are read again one by one.
-#[derive(Drop)]
+#[derive(Debug, Drop)]
 pub struct Script<'a> {
     text: &'a [u8],
 }
@@ -63,7 +64,7 @@ impl<'a> ScriptLines<'a> {
 
     /// The next line; None behind the last one. Where memory is refused, the same line is still the next.
     pub fn next_line(&mut self, alloc: Global) -> Result<Option<Line>, AllocError>
-        ensures line { IfOk result (λ line. MatchOption line (self.old ≡ []) (λ line. self.old ≡ line ∷ self.new)) }
+        ensures line { IfOk result (λ line. MatchOption line ((self.old ≡ []) × (self.new ≡ [])) (λ line. self.old ≡ line ∷ self.new)) }
         ensures unchanged { OnErr result (self.new ≡ self.old) }
     {
         match self.reader.next(alloc) {
@@ -75,11 +76,11 @@ impl<'a> ScriptLines<'a> {
     }
 }
 
-/// Reads a script of at most 4,194,304 bytes: its lines, or its first fault. Beside the bytes it takes memory for a mark of each page and for
+/// Reads a script of at most `MAX_SCRIPT` bytes: its lines, or its first fault. Beside the bytes it takes memory for a mark of each page and for
 /// the bytes of one line.
 #[tactic(auto, using(crate::proofs::LeftLemmas::parse_is))]
 pub fn read_script<'a>(alloc: Global, bytes: &'a [u8]) -> Result<Script<'a>, ScriptError>
-    requires { length bytes.now ≤ 4_194_304 }
+    requires { length bytes.now ≤ MAX_SCRIPT }
     ensures { Reads result (parse bytes.now) }
 {
     let mut lines = LineReader::new(alloc, bytes);

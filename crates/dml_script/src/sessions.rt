@@ -1,4 +1,4 @@
-ghost use Rattle.std.specs.Prelude.{◌≡◌, ◌+◌, ◌-◌, ◌%◌, ◌^◌, ◌<◌, ◌≤◌, ◌++◌, true, false, length, map, None, Some, IfOk, OnOk};
+ghost use Rattle.std.specs.Prelude.{◌≡◌, ◌+◌, ◌-◌, ◌%◌, ◌^◌, ◌<◌, ◌≤◌, ◌++◌, true, false, length, map, None, Some, IfOk, OnOk, OnErr};
 ghost use Rattle.dml_types.specs.Memory.{has};
 ghost use Rattle.dml_image.specs.Brought.{brought};
 ghost use Rattle.dml_script.specs.Run.{after_line, item_of, page_of, shown_bytes};
@@ -36,13 +36,14 @@ impl Session {
         Session { engine, jobs: 0 }
     }
 
-    /// Takes a line that is not the first. `NoMemory` comes from a show alone, and leaves all as it was.
+    /// Takes a line that is not the first. Where memory is refused, all is as it was.
     pub fn take(&mut self, alloc: Global, line: &Line) -> Result<Option<Item>, AllocError>
         requires fits { Fits self.old.session line.now }
         requires counted { self.old.session.jobs < 2 ^ 32 - 1 }
         ensures item { IfOk result (λ item. item ≡ item_of self.old.staging self.old.session line.now) }
         ensures after { IfOk result (λ _. self.new.session ≡ after_line self.old.staging self.old.session line.now) }
         ensures staging { self.new.staging ≡ self.old.staging }
+        ensures unchanged { OnErr result (self.new.session ≡ self.old.session) }
     {
         match line {
             Line::Image { .. } => unreachable!(),
@@ -68,6 +69,7 @@ impl Session {
         requires short { length bytes.now ≤ PAGE_SIZE }
         ensures memory { OnOk result (self.new.session ≡ record self.old.session { memory = brought self.old.session.memory page (page_of bytes.now) }) }
         ensures staging { self.new.staging ≡ self.old.staging }
+        ensures unchanged { OnErr result (self.new.session ≡ self.old.session) }
     {
         self.engine
             .bring(page, &page_content(bytes))

@@ -19,7 +19,7 @@ fn fault_of(rt: &impl Abort, alloc: Global, text: &[u8]) -> Option<(u32, Kind)> 
 fn lines_of(alloc: Global, script: &Script<'_>) -> Result<Vec<Line>, AllocError> {
     let mut lines = Vec::new(alloc);
     let mut left = script.lines(alloc);
-    for _ in 0..=4_194_304 {
+    for _ in 0..=MAX_SCRIPT {
         let Some(line) = left.next_line(alloc)? else {
             break;
         };
@@ -122,24 +122,31 @@ fn each_kind_of_fault(rt: HostRuntime) {
     }
 }
 
+/// A `raw` line of a compare, whose lines are not read yet.
+const LATER_DESCRIPTOR: &str =
+    "raw 00000000000000050000000000000000000000000000000000000000000000000000000000000000000000000000000000000000000000000000000000000000";
+
 #[test]
 fn the_first_of_two_faults_on_a_line(rt: HostRuntime) {
     for (text, line, kind) in [
         ("im\u{e9}ge 1", 1, Kind::NotAscii),
-        ("noop\u{e9}", 1, Kind::NotAscii),
+        ("noop \u{e9}", 1, Kind::NotAscii),
         ("compare 0 0 0", 1, Kind::UnknownWord),
         ("move 0 0", 1, Kind::MissingImage),
         ("noop 1", 1, Kind::MissingImage),
         ("image 1\nimage", 2, Kind::SecondImage),
         ("image 1\nimage 0", 2, Kind::SecondImage),
+        ("image 1\nimage x", 2, Kind::SecondImage),
         ("image 1\nfill x 0", 2, Kind::WrongWords),
         ("image 1\npage x 0 0", 2, Kind::WrongWords),
+        ("image 1\nshow 0 0 0", 2, Kind::WrongWords),
         ("image 1\npage x 0", 2, Kind::BadNumber),
         ("image 1\nshow 0x 0", 2, Kind::BadNumber),
         ("image 1\npage 7 0", 2, Kind::BadHex),
         ("image 1\npoke 0 0", 2, Kind::BadHex),
         ("image 1\npage 1\nmove", 2, Kind::BadRange),
         ("image 1\ncompare\npage 1", 2, Kind::UnknownWord),
+        (LATER_DESCRIPTOR, 1, Kind::MissingImage),
     ] {
         assert_eq!(rt;
             fault_of(&rt, rt.alloc(), text.as_bytes()),
@@ -223,7 +230,7 @@ fn number_forms(rt: HostRuntime) -> Result<(), Fail> {
 }
 
 /// A front, a byte, its copies and a back of scripts at the limits, and their faults.
-const LONG_SCRIPTS: [(&str, u8, usize, &str, Option<(u32, Kind)>); 15] = [
+const LONG_SCRIPTS: [(&str, u8, usize, &str, Option<(u32, Kind)>); 18] = [
     ("image 1\nnoop", b' ', 16_380, "", None),
     ("image 1\nnoop", b' ', 16_380, "\r\n", None),
     ("image 1\nnoop", b' ', 16_381, "", Some((2, Kind::LongLine))),
@@ -246,6 +253,15 @@ const LONG_SCRIPTS: [(&str, u8, usize, &str, Option<(u32, Kind)>); 15] = [
         b' ',
         16_380,
         "\r",
+        Some((2, Kind::LongLine)),
+    ),
+    ("frob", b' ', 16_381, "", Some((1, Kind::LongLine))),
+    ("noop", b' ', 16_381, "", Some((1, Kind::LongLine))),
+    (
+        "image 1\nimage",
+        b' ',
+        16_380,
+        "",
         Some((2, Kind::LongLine)),
     ),
     ("image 1\n", b' ', 20_000, "", None),
@@ -356,6 +372,50 @@ fn raw_lines(rt: HostRuntime) -> Result<(), Fail> {
             fault,
             "at {opcode} {digits}"
         );
+    }
+    Ok(())
+}
+
+#[test]
+fn error_texts(rt: HostRuntime) -> Result<(), Fail> {
+    let fault = ScriptFault {
+        line: 7,
+        kind: Kind::BadHex,
+    };
+    let bad_hex = "line 7: not hexadecimal text of the right length";
+    for (error, text) in [
+        (ScriptError::Fault(fault), bad_hex),
+        (ScriptError::NoMemory, "out of memory"),
+    ] {
+        assert_eq!(rt; format!(in rt.alloc(); "{error}")?.as_str(), text);
+    }
+    for (error, text) in [
+        (RunFault::Script(fault), bad_hex),
+        (RunFault::Read, "cannot read the script"),
+        (RunFault::TooLong, "the script is too long"),
+        (RunFault::NoMemory, "out of memory"),
+        (RunFault::Write, "cannot write the answer"),
+    ] {
+        assert_eq!(rt; format!(in rt.alloc(); "{error}")?.as_str(), text);
+    }
+    let error = TextError::NoMemory;
+    assert_eq!(rt;
+        format!(in rt.alloc(); "{error}")?.as_str(),
+        "out of memory"
+    );
+    Ok(())
+}
+
+/// Behind its last line a script has none, however often it is asked.
+#[test]
+fn no_line_behind_the_last(rt: HostRuntime) -> Result<(), Fail> {
+    let Ok(script) = read_script(rt.alloc(), b"image 1\n# none\n\n") else {
+        panic!(rt; "not read");
+    };
+    let mut lines = script.lines(rt.alloc());
+    assert!(rt; lines.next_line(rt.alloc())?.is_some());
+    for _ in 0..3 {
+        assert!(rt; lines.next_line(rt.alloc())?.is_none());
     }
     Ok(())
 }

@@ -34,7 +34,7 @@ loop-lines-preserved g c =
     subst (λ (item : Option Item). Appends before now (text_if item)) (c.in_ok-item.ensures.item ∙ same) c.in_ok-write_item.ensures.ok in
     record {
       staging = c.take.ensures.staging ∙ c.loop-lines.invariant.staging;
-      passed = c.in_ok-write_item.ensures.passed;
+      passed = c.in_ok-write_item.ensures.passed (λ e. cc);
       turn =
           subst (λ (session : Session). Turn size session rest old now whole) (sym (c.in_ok-item.ensures.after ∙ after))
           (record { fits = turn.fits; counted = turn.counted; written = written_more _ _ _ _ _ _ turn.written text });

@@ -1,10 +1,9 @@
 -- A script's lines fit the memory that they meet.
-use Rattle.std.proofs.Common.{◌≡◌, ◌≢◌, ℕ, zero, suc, ◌+◌, ◌/◌, ◌^◌, ◌<◌, ◌≤◌, List, [], ◌∷◌, ◌++◌, length, get_or, set, replicate, refl, sym, ◌∙◌, ap, subst, arith, eq-eqb, Bool, true, false, not, ◌||◌, Result, Ok, Err, inl, inr, nat_eq, append_assoc}
+use Rattle.std.proofs.Common.{◌≡◌, ℕ, suc, ◌+◌, ◌/◌, ◌^◌, ◌<◌, ◌≤◌, List, [], ◌∷◌, ◌++◌, length, refl, sym, ◌∙◌, ap, subst, arith, eq-eqb, Bool, false, not, Result, Ok, Err, inl, inr, nat_eq, append_assoc}
 use Rattle.std.specs.Str.Lines.{lines, lines_of_parts}
 use Rattle.std.specs.List.{slice_split}
-use Rattle.std.proofs.lemmas.Bool.{cases_Bool, eqb-true, eqb-false}
-use Rattle.std.proofs.lemmas.List.{append-nil, get_or-set_same, get_or-set_other, length-append, length-replicate, length-set}
-use Rattle.std.proofs.lemmas.List.Folds.{list_any-append}
+use Rattle.std.proofs.lemmas.Bool.{cases_Bool, eqb-true}
+use Rattle.std.proofs.lemmas.List.{append-nil, length-append}
 use Rattle.std.proofs.lemmas.List.Splits.{length-slice_split}
 use Rattle.std.proofs.lemmas.List.Sums.{count_by-le-length}
 use Rattle.dml_types.specs.Memory.{has}
@@ -13,7 +12,7 @@ use Rattle.dml_types.proofs.StepLemmas.{step_present}
 use Rattle.dml_script.specs.declared.faults.ScriptFault.{ScriptFault}
 use Rattle.dml_script.specs.declared.lines.Line.{Line}
 use Rattle.dml_script.specs.declared.lines.Line.TheVariants as line
-use Rattle.dml_script.specs.Grammar.{Skipped, Faulty, Fine, brings, is_present, pages_of, parse, parse_from, verdict, fault_at}
+use Rattle.dml_script.specs.Grammar.{Skipped, Faulty, Fine, parse, parse_from, verdict, fault_at}
 use Rattle.dml_script.specs.Run.{Session, after_line, opening}
 use Rattle.dml_script.specs.Pages.{Tracks}
 use Rattle.dml_script.specs.Runnable.{AllFit, Fits, IsRunnable}

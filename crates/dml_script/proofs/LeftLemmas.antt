@@ -1,5 +1,5 @@
 -- What a text has still to give: it depends on the pages of the lines before it alone, and of a whole text it is `parse`.
-use Rattle.std.proofs.Common.{◌≡◌, ℕ, zero, suc, ◌+◌, ◌/◌, ◌<◌, List, [], ◌∷◌, ◌++◌, length, map, get_or, refl, sym, ◌∙◌, ap, ap₂, arith, Bool, true, false, not, ◌&&◌, Option, Some, None, Result, Ok, Err, nat_eq, nat_lt, nat_le, append_assoc, inl, inr, cond}
+use Rattle.std.proofs.Common.{◌≡◌, ℕ, zero, suc, ◌+◌, ◌/◌, List, [], ◌∷◌, ◌++◌, length, map, refl, sym, ◌∙◌, ap, ap₂, arith, Bool, not, ◌&&◌, Option, Some, None, Result, Ok, Err, nat_eq, nat_lt, append_assoc, inl, inr, cond}
 use Rattle.std.specs.List.{list_all, range_with_len}
 use Rattle.std.specs.Str.Lines.{lines}
 use Rattle.std.proofs.lemmas.Bool.{cases_Bool, lt-ltb, ne_eqb}
@@ -8,7 +8,6 @@ use Rattle.dml_script.specs.declared.faults.Kind.{Kind}
 use Rattle.dml_script.specs.declared.faults.Kind.TheVariants.{LongLine, NotAscii, MissingImage, SecondImage, BadRange, UnknownWord}
 use Rattle.dml_script.specs.declared.faults.ScriptFault.{ScriptFault}
 use Rattle.dml_script.specs.declared.lines.Line.{Line}
-use Rattle.dml_script.specs.declared.lines.Line.TheVariants as line
 use Rattle.dml_script.specs.declared.table.Word.{Word}
 use Rattle.dml_script.specs.declared.table.Word.TheVariants as word
 use Rattle.dml_script.specs.Grammar as grammar

@@ -1,3 +1,5 @@
+//! The lines of a script's answer.
+
 use dml_types::{BatchRecord, Record};
 use std::marker::Model;
 

@@ -1,3 +1,5 @@
+//! The run of a script from a reader to a writer.
+
 ghost use Rattle.std.specs.Prelude.{◌≡◌, ◌≢◌, ◌+◌, ◌^◌, ◌<◌, ◌≤◌, false, true, length, Ok, Err, OnOk, OnErr, IsErrOf, IsOk, IfSome, vec_len};
 ghost use Rattle.std.specs.Io.KnownBytes.{Appends, IsAtEnd};
 ghost use Rattle.dml_types.specs.Refusal.{IsValid};

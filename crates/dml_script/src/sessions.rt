@@ -1,3 +1,5 @@
+//! A script's lines carried out on an engine, one after another.
+
 ghost use Rattle.std.specs.Prelude.{◌≡◌, ◌+◌, ◌-◌, ◌%◌, ◌^◌, ◌<◌, ◌≤◌, ◌++◌, true, false, length, map, None, Some, IfOk, OnOk, OnErr};
 ghost use Rattle.dml_types.specs.Memory.{has};
 ghost use Rattle.dml_image.specs.Brought.{brought};
@@ -131,10 +133,7 @@ fn push_present(
     requires present { has image.now addr ≡ true }
     ensures { OnOk result (list.new.items ≡ list.old.items ++ shown_bytes image.now addr len) }
 {
-    let mut page = [0; PAGE_SIZE];
-    let (bytes, _) = page.split_at_mut(len);
-    image.read_into(addr, bytes);
-    push_bytes(list, bytes)
+    push_bytes(list, image.part(addr, len as u32))
 }
 
 /// Adds bytes.

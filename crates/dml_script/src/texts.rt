@@ -1,3 +1,5 @@
+//! The text of an answer, and of a job.
+
 ghost use Rattle.std.specs.Prelude.{◌≡◌, ◌<◌, ◌++◌, codes, false, OnOk, IfOk, string_bytes};
 ghost use Rattle.std.specs.Fmt.{digit_glyph};
 ghost use Rattle.std.specs.List.{flat_map};

@@ -1,3 +1,5 @@
+//! Writing all of some bytes.
+
 ghost use Rattle.std.specs.Prelude.{◌≡◌, false, true, OnOk, OnErr};
 ghost use Rattle.std.specs.Io.KnownBytes.{Appends};
 ghost use Rattle.dml_script.specs.Watching.{inner_of, has_failed, AppendsFront};

@@ -1,7 +1,3 @@
-use Rattle.std.proofs.Common.{List, subst}
-use Rattle.dml_script.specs.declared.lines.Line.{Line}
-use Rattle.dml_script.specs.Pages.{Alike}
-use Rattle.dml_script.specs.Reads.{IsNext}
 use Rattle.dml_script.proofs.PageLemmas.{noted_image, noted_page}
 use Rattle.dml_script.proofs.reading.Reading.note.Goals as goal
 

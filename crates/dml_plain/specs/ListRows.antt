@@ -1,6 +1,5 @@
 -- Worked rows of lists and batches of jobs: staging, conflicts and levels, and a batch's own record.
-use Rattle.std.specs.Prelude.{◌≡◌, ℕ, true, false, [], ◌∷◌, ◌++◌, List, length, replicate}
-use Rattle.dml_types.specs.declared.jobs.Job.{Job}
+use Rattle.std.specs.Prelude.{◌≡◌, true, false, [], ◌∷◌, ◌++◌, replicate}
 use Rattle.dml_types.specs.declared.statuses.Status.TheVariants.{Success, BatchFailed, BadOpcode, BadFlags, BadSize, StagingRefused}
 use Rattle.dml_types.specs.Memory.{put}
 use Rattle.dml_types.specs.Job.{no_op_job, move_job, fill_job}

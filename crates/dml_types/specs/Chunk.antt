@@ -1,7 +1,7 @@
 -- What one chunk of a job gives, over an image: of the job's offsets, blocks or entries, those at least `from` and below `to`.
--- A scan's chunk has the operation's equation on them alone. One of create looks neither at the maximum nor at the record's
--- pages: both are judged when the chunks are joined. One of apply judges the rise between two of its own entries only, and
--- tells the offset of its first entry where all bytes of that are present, even if the entry is bad.
+-- A scan's chunk has the operation's equation on them alone, in the job's direction. One of create looks neither at the maximum
+-- nor at the record's pages: both are judged when the chunks are joined. One of apply judges the rise between two of its own
+-- entries only, and tells the offset of its first entry where all bytes of that are present, even if the entry is bad.
 use Rattle.std.specs.Prelude.{ℕ, ◌+◌, ◌-◌, ◌*◌, not, ◌&&◌, List, [], flat_map, Option, None, Some, option_map, if◌then◌else◌, ◌==◌}
 use Rattle.dml_types.specs.declared.findings.Found.{Found}
 use Rattle.dml_types.specs.declared.findings.Found.TheVariants.{All, Differs, Fault as Faults}

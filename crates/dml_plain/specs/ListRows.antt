@@ -1,16 +1,12 @@
 -- Worked rows of lists and batches of jobs: staging, conflicts and levels, and a batch's own record.
-use Rattle.std.specs.Prelude.{◌≡◌, ℕ, true, false, [], ◌∷◌, ◌++◌, List, length, replicate}
-use Rattle.dml_types.specs.declared.jobs.Job.{Job}
+use Rattle.std.specs.Prelude.{◌≡◌, true, false, [], ◌∷◌, ◌++◌, replicate}
 use Rattle.dml_types.specs.declared.statuses.Status.TheVariants.{Success, BatchFailed, BadOpcode, BadFlags, BadSize, StagingRefused}
 use Rattle.dml_types.specs.Memory.{put}
 use Rattle.dml_types.specs.Job.{no_op_job, move_job, fill_job}
-use Rattle.dml_types.specs.Conflict.{clash_of, levels_of}
+use Rattle.dml_types.specs.Conflict.{levels}
 use Rattle.dml_desc.specs.Descriptor.{decoded}
 use Rattle.dml_types.specs.Step.{records_of}
 use Rattle.dml_plain.specs.Row.{hex, image, flagged, answer, Answers, AnswersBatch, Shows, after}
-
-abbrev pub levels : List Job → List ℕ
-levels jobs = levels_of (clash_of jobs) (length jobs)
 
 unfoldable pub batch_with_bad_opcode : Type 0
 batch_with_bad_opcode =

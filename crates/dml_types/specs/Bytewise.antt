@@ -21,7 +21,7 @@ abbrev pub result_of : Direction → ℕ
 result_of Forward = 0
 result_of Backward = 1
 
--- where the first k of n offsets in a direction begin
+-- the lowest of the k offsets that come first where n offsets are worked on in a direction
 abbrev pub done_from : Direction → ℕ → ℕ → ℕ
 done_from Forward n k = 0
 done_from Backward n k = n - k

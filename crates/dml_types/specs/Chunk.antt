@@ -1,4 +1,7 @@
--- What one chunk of a job gives, over an image: the operation's equation on that chunk alone.
+-- What one chunk of a job gives, over an image: of the job's offsets, blocks or entries, those at least `from` and below `to`.
+-- A scan's chunk has the operation's equation on them alone, in the job's direction. One of create looks neither at the maximum
+-- nor at the record's pages: both are judged when the chunks are joined. One of apply judges the rise between two of its own
+-- entries only, and tells the offset of its first entry where all bytes of that are present, even if the entry is bad.
 use Rattle.std.specs.Prelude.{ℕ, ◌+◌, ◌-◌, ◌*◌, not, ◌&&◌, List, [], flat_map, Option, None, Some, option_map, if◌then◌else◌, ◌==◌}
 use Rattle.dml_types.specs.declared.findings.Found.{Found}
 use Rattle.dml_types.specs.declared.findings.Found.TheVariants.{All, Differs, Fault as Faults}
@@ -8,7 +11,7 @@ use Rattle.dml_types.specs.Effect.{code_of, Fault, is_clear, first_fault}
 use Rattle.dml_types.specs.Bytewise.{direction_by, done_from, faults_at, passes}
 use Rattle.dml_types.specs.Delta.{readable_blocks, differing, entry_for, block_fault, offset_at, entry_fault, good_entries}
 
--- Scans: move, fill, dualcast and both compares, by the offsets from up to to.
+-- Scans: move, fill, dualcast and both compares, by offsets.
 -- the offset that comes i-th in the order of work
 abbrev pub scan_offset : Op → Job → ℕ → ℕ → ℕ → ℕ
 scan_offset op job from to i = from + offset_in (direction_by op job) (to - from) i
@@ -44,7 +47,7 @@ create_fault memory job from to =
     let b = from + readable_blocks memory job from to in
     if b == to then None else Some (b, (block_fault memory job b).address)
 
--- Apply, by entries: the rise is judged between two entries of the chunk.
+-- Apply, by entries: those before the first bad one, and that one with its fault.
 unfoldable pub apply_staged : Memory → Job → ℕ → ℕ → List ℕ
 apply_staged memory job from to = bytes_at memory (job.source + 10 * from) (10 * good_entries memory job from to)
 
@@ -53,7 +56,7 @@ apply_bad memory job from to =
     let x = from + good_entries memory job from to in
     if x == to then None else option_map (λ fault. (x, fault)) (entry_fault from memory job x)
 
--- the offset of the chunk's first entry where all its bytes are present, and of its last good one
+-- the offset of the chunk's first entry, good or bad, where all its bytes are present; and that of its last good one
 unfoldable pub apply_first : Memory → Job → ℕ → ℕ → Option ℕ
 apply_first memory job from to =
     if not (from == to) && has_all memory (job.source + 10 * from) 10 then Some (offset_at memory job from) else None

@@ -1,5 +1,5 @@
 -- Which jobs of a list have to wait for earlier ones.
-use Rattle.std.specs.Prelude.{fold, unwrap_or, option_map, ℕ, zero, suc, ◌+◌, max, Bool, ◌||◌, List, [], ◌∷◌, ◌++◌, map, filter, slice_index, slice_index_or}
+use Rattle.std.specs.Prelude.{fold, unwrap_or, option_map, ℕ, zero, suc, ◌+◌, max, Bool, ◌||◌, List, [], ◌∷◌, ◌++◌, length, map, filter, slice_index, slice_index_or}
 use Rattle.dml_types.specs.Types.{Job, Op, Span, range_with_len}
 use Rattle.dml_types.specs.Job.{op_of, no_op_job, any_shares, reads, writes}
 
@@ -13,11 +13,11 @@ conflict a b =
     any_shares (ranges_of writes a) (ranges_of reads b) || any_shares (ranges_of writes a) (ranges_of writes b)
     || any_shares (ranges_of reads a) (ranges_of writes b)
 
--- the jobs of a list are named by their places
+-- the jobs at two places of a list clash where they conflict
 abbrev pub clash_of : List Job → ℕ → ℕ → Bool
 clash_of jobs i k = conflict (slice_index_or jobs i no_op_job) (slice_index_or jobs k no_op_job)
 
--- one more than the greatest level of an earlier job that job i clashes with, and 0 where there is none
+-- for any `clash` of places: one more than the greatest level of an earlier job that clashes with job i, 0 where none does
 abbrev pub level_over : (ℕ → ℕ → Bool) → List ℕ → ℕ → ℕ
 level_over clash levels i = fold max 0 (map (λ k. slice_index levels k + 1) (filter (λ k. clash k i) (range_with_len 0 i)))
 
@@ -25,3 +25,7 @@ level_over clash levels i = fold max 0 (map (λ k. slice_index levels k + 1) (fi
 abbrev pub levels_of : (ℕ → ℕ → Bool) → ℕ → List ℕ
 levels_of clash zero = []
 levels_of clash (suc n) = levels_of clash n ++ level_over clash (levels_of clash n) n ∷ []
+
+-- the levels of a list's jobs: those clash that conflict
+abbrev pub levels : List Job → List ℕ
+levels jobs = levels_of (clash_of jobs) (length jobs)

@@ -1,4 +1,4 @@
--- Create and apply a delta record: a list of entries of 10 bytes, a 2-byte block number and the block's 8 bytes.
+-- Create and apply. A delta record's entry: a block's number (the entry's offset) in 2 bytes, low byte first, and the block's 8.
 use Rattle.std.specs.Prelude.{ℕ, ◌+◌, ◌-◌, ◌*◌, ◌/◌, ◌%◌, ◌^◌, Bool, not, ◌&&◌, List, [], ◌∷◌, ◌++◌, map, length, take, filter, flat_map, find, Option, None, Some, is_some, option_map, if◌then◌else◌, ◌==◌, nat_lt, nat_le, slice_index, bytes_eq}
 use Rattle.dml_types.specs.Types.{Job, Record, Success, NotRising, OffsetRange, range_with_len, from_le_bytes, to_le_bytes, w16}
 use Rattle.dml_types.specs.Memory.{first, Memory, Put, put_of, present_bytes, has_all, bytes_at}
@@ -14,15 +14,14 @@ has_block memory address b = has_all memory (address + 8 * b) 8
 abbrev pub block_at : Memory → ℕ → ℕ → List ℕ
 block_at memory address b = bytes_at memory (address + 8 * b) 8
 
--- Create.
--- a block with all its bytes in both sources, and one whose two contents differ
+-- Create. A block with all its bytes in both sources, and one whose two contents differ
 abbrev pub is_readable : Memory → Job → ℕ → Bool
 is_readable memory job b = has_block memory job.source b && has_block memory job.target b
 
 abbrev pub differs : Memory → Job → ℕ → Bool
 differs memory job b = not (bytes_eq (block_at memory job.source b) (block_at memory job.target b))
 
--- how many blocks, of those from one up to another, come before the first that is not readable
+-- how many of the blocks that are at least `from` and below `to` come before the first that is not readable
 abbrev pub readable_blocks : Memory → Job → ℕ → ℕ → ℕ
 readable_blocks memory job from to = first (to - from) (λ i. not (is_readable memory job (from + i)))
 
@@ -30,7 +29,7 @@ readable_blocks memory job from to = first (to - from) (λ i. not (is_readable m
 abbrev pub differing : Memory → Job → ℕ → ℕ → List ℕ
 differing memory job from to = filter (differs memory job) (range_with_len from (readable_blocks memory job from to))
 
--- how many entries come before the first that has an absent byte
+-- how many entries' places in the record range, of those up to the maximum, come before the first with an absent byte
 abbrev pub entry_room : Memory → Job → ℕ
 entry_room memory job = first (job.delta_size / 10) (λ x. not (has_all memory (job.extra + 10 * x) 10))
 
@@ -47,13 +46,13 @@ block_fault memory job b =
     let address = (if has_block memory job.source b then job.target else job.source) in
     read_fault (first_absent memory (address + 8 * b) 8)
 
--- the record where the entry for a block has no room: overflow at the maximum, else a write fault
+-- the completion record where the entry for a block has no room: overflow at the maximum, else a write fault
 abbrev pub crowded : Memory → Job → ℕ → ℕ → Record
 crowded memory job room b =
     if room == job.delta_size / 10 then ended (judged job (expects job 2)) 2 (8 * b) (10 * room)
     else faulted (write_fault (first_absent memory (job.extra + 10 * room) 10)) 0 (8 * b) (10 * room)
 
--- the record where all entries were written: a read fault at the first block that is not readable, else the end
+-- the completion record where all entries were written: a read fault at the first block that is not readable, else the end
 abbrev pub written_out : Memory → Job → ℕ → Record
 written_out memory job entries =
     let s = readable_blocks memory job 0 (job.size / 8) in
@@ -69,11 +68,12 @@ created memory job =
     (if nat_lt room (length blocks) then crowded memory job room (slice_index blocks room)
     else written_out memory job (length blocks))
 
--- Apply.
+-- Apply. The offset of entry x
 abbrev pub offset_at : Memory → Job → ℕ → ℕ
 offset_at memory job x = from_le_bytes w16 (bytes_at memory (job.source + 10 * x) 2)
 
--- the fault for which entry x is bad: of the causes, in order, the first that holds; the rise is judged behind an entry
+-- the fault for which entry x is bad: of the causes, in order, the first that holds. The offsets of the entries after the one
+-- named `behind` have to rise: a whole job says 0, a chunk its first entry
 abbrev pub entry_fault : ℕ → Memory → Job → ℕ → Option Fault
 entry_fault behind memory job x =
     let offset = offset_at memory job x in
@@ -84,7 +84,7 @@ entry_fault behind memory job x =
     ∷ (not (has_block memory job.target offset), write_fault (first_absent memory (job.target + 8 * offset) 8)) ∷ [] in
     option_map (λ cause. cause.1) (find (λ cause. cause.0) causes)
 
--- how many entries, of those from one up to another, come before the first bad one
+-- how many of the entries that are at least `from` and below `to` come before the first bad one
 abbrev pub good_entries : Memory → Job → ℕ → ℕ → ℕ
 good_entries memory job from to = first (to - from) (λ i. is_some (entry_fault from memory job (from + i)))
 

@@ -1,4 +1,4 @@
--- What a job does, found on the image as it stood before the job: bytes that are put, and its completion record.
+-- The statuses' codes, and what a job does, found on the image as it stood before: its puts and its record.
 use Rattle.std.specs.Prelude.{ℕ, Bool, not, ◌||◌, List, [], ◌∷◌, Option, find, unwrap_or, if◌then◌else◌, ◌==◌, nat_eq, bit_and}
 use Rattle.dml_types.specs.Types.{Job, Record, Status, Success, FalsePredicate, ReadFault, BatchFailed, NotRising, OffsetRange, BadOpcode, BadFlags, BadSize, BadDeltaSize, Overlap, DualcastBits, Misaligned, RangePast, StagingRefused, WriteFault, list_all}
 use Rattle.dml_types.specs.Memory.{Memory, Put, has}
@@ -36,7 +36,7 @@ pub record Effect : Type 0 where
 abbrev pub effect_of : List Put → Record → Effect
 effect_of puts answer = record { puts = puts; answer = answer }
 
--- the record of a job that was done to an end, with its status; and that of one that a fault stopped
+-- the record of a job that no fault stopped, with its status
 abbrev pub ended : Status → ℕ → ℕ → ℕ → Record
 ended status outcome completed delta = record { status = status; result = outcome; completed = completed; fault = 0; delta_size = delta }
 
@@ -51,11 +51,12 @@ read_fault address = record { status = ReadFault; address = address }
 abbrev pub write_fault : ℕ → Fault
 write_fault address = record { status = WriteFault; address = address }
 
+-- the record of a job that a fault stopped
 abbrev pub faulted : Fault → ℕ → ℕ → ℕ → Record
 faulted fault outcome completed delta =
     record { status = fault.status; result = outcome; completed = completed; fault = fault.address; delta_size = delta }
 
--- of the faults that may come, in their order: whether none does, and the first that does
+-- of the faults that may come, in their order: whether none does, and the first that does; `read_fault 0` is for totality alone
 abbrev pub is_clear : Memory → List Fault → Bool
 is_clear memory faults = list_all (λ fault. has memory fault.address) faults
 

@@ -13,7 +13,7 @@ pub record Memory : Type 0 where
   pub present : List Bool
   pub bytes : List ℕ
 
--- it has each byte of each of its pages
+-- there are as many bytes as the pages have, present and absent pages alike
 pub record IsWhole (memory : Memory) : Type 0 where
   pub each_page : length memory.bytes ≡ page_size * length memory.present
 

@@ -19,8 +19,8 @@ pub fn law_of_first()
     ensures in_back { (m n : ℕ) (test : ℕ → Bool) → first m test ≡ m → first (m + n) test ≡ m + first n (λ i. test (m + i)) }
 {}
 
-/// Puts: what was written is read, a read beside it is as before, disjoint puts commute, and puts side by side are
-/// one put.
+/// Puts: what was written is read, a read beside it is as before, disjoint puts commute, puts side by side are one
+/// put, and an empty put changes nothing, wherever it stands.
 pub fn law_of_puts()
     ensures written { (memory : Memory) (address : ℕ) (bytes : List ℕ) → address + length bytes ≤ length memory.bytes →
         bytes_at (put memory address bytes) address (length bytes) ≡ bytes }
@@ -31,6 +31,7 @@ pub fn law_of_puts()
         b + length ys ≤ length memory.bytes → put (put memory a xs) b ys ≡ put (put memory b ys) a xs }
     ensures side_by_side { (memory : Memory) (a : ℕ) (xs ys : List ℕ) → a + (length xs + length ys) ≤ length memory.bytes →
         put (put memory a xs) (a + length xs) ys ≡ put memory a (xs ++ ys) }
+    ensures empty { (memory : Memory) (address : ℕ) → put memory address [] ≡ memory }
 {}
 
 /// Steps: presence never changes, a refused job leaves the image and answers its status alone, and a no-op leaves

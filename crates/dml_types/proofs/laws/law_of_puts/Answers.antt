@@ -1,4 +1,4 @@
-use Rattle.dml_types.proofs.MemoryLemmas.{read_written, read_beside, put_comm, put_append}
+use Rattle.dml_types.proofs.MemoryLemmas.{read_written, read_beside, put_comm, put_append, put_nil}
 use Rattle.dml_types.proofs.laws.law_of_puts.Goals as goal
 
 pub returns-clause-written : goal.returns-clause-written
@@ -12,3 +12,6 @@ returns-clause-commute c = put_comm
 
 pub returns-clause-side_by_side : goal.returns-clause-side_by_side
 returns-clause-side_by_side c = put_append
+
+pub returns-clause-empty : goal.returns-clause-empty
+returns-clause-empty c = put_nil

@@ -9,6 +9,7 @@ ghost use Rattle.dml_script.specs.declared.faults.ScriptError.TheVariants as err
 ghost use Rattle.dml_script.specs.declared.faults.ScriptFault.{ScriptFault as TheFault};
 
 use crate::faults::{Kind, ReadError, ScriptError, ScriptFault};
+use crate::input::MAX_SCRIPT;
 use crate::judge::judge;
 use crate::lines::Line;
 use crate::reading::Reading;
@@ -41,10 +42,10 @@ impl<'a> LineReader<'a> {
     ghost use Rattle.std.specs.Prelude.{◌≡◌, ◌≤◌, length};
     ghost use Rattle.dml_script.specs.Left.{Gives, left_in};
 
-    /// Before the first line of a text of at most 4,194,304 bytes.
+    /// Before the first line of a text of at most `MAX_SCRIPT` bytes.
     #[tactic(auto, unfolding(crate::specs::Left::left_from))]
     pub fn new(alloc: Global, text: &'a [u8]) -> LineReader<'a>
-        requires { length text.now ≤ 4_194_304 }
+        requires { length text.now ≤ MAX_SCRIPT }
         ensures { result ≡ left_in text.now }
     {
         LineReader {

@@ -4,7 +4,7 @@ ghost use Rattle.std.specs.Prelude.{◌≡◌, ◌≢◌, ◌+◌, ◌^◌, ◌<
 ghost use Rattle.std.specs.Io.KnownBytes.{Appends, IsAtEnd};
 ghost use Rattle.dml_types.specs.Refusal.{IsValid};
 ghost use Rattle.dml_script.specs.Grammar.{parse};
-ghost use Rattle.dml_script.specs.Run.{answer, answer_from, opening, text_if};
+ghost use Rattle.dml_script.specs.Run.{answer, answer_from, longest_script, opening, text_if};
 ghost use Rattle.dml_script.specs.Runnable.{AllFit, IsRunnable};
 ghost use Rattle.dml_script.specs.Watching.{inner_of, has_failed, is_flushed, AppendsFront};
 ghost use Rattle.dml_script.specs.declared.faults.ScriptFault.{ScriptFault as TheFault};
@@ -62,7 +62,7 @@ pub fn run_script<R: Read, W: Write>(
     // The answer of the whole input is written, and nothing else.
     ensures answered { OnOk result (IfSome (R.remaining (inner_of reader.old)) (λ bytes.
         Appends (W.contents (inner_of writer.old)) (W.contents (inner_of writer.new)) (answer bytes settings.staging))) }
-    ensures is_script { OnOk result (IfSome (R.remaining (inner_of reader.old)) (λ bytes. (length bytes ≤ 4194304) × IsOk (parse bytes))) }
+    ensures is_script { OnOk result (IfSome (R.remaining (inner_of reader.old)) (λ bytes. (length bytes ≤ longest_script) × IsOk (parse bytes))) }
     ensures all_read { OnOk result (IsAtEnd (R.remaining (inner_of reader.new))) }
     ensures flushed { OnOk result (is_flushed writer.new ≡ true) }
 
@@ -75,12 +75,12 @@ pub fn run_script<R: Read, W: Write>(
     ensures front { OnErr result (IfSome (R.remaining (inner_of reader.old)) (λ bytes.
         AppendsFront (W.contents (inner_of writer.old)) (W.contents (inner_of writer.new)) (answer bytes settings.staging))) }
     ensures script { (fault : TheFault) → IsErrOf result (faults.Script fault) → (writer.new ≡ writer.old)
-        × IfSome (R.remaining (inner_of reader.old)) (λ bytes. (length bytes ≤ 4194304) × (parse bytes ≡ Err fault)) }
+        × IfSome (R.remaining (inner_of reader.old)) (λ bytes. (length bytes ≤ longest_script) × (parse bytes ≡ Err fault)) }
     ensures too_long { IsErrOf result faults.TooLong → (writer.new ≡ writer.old)
-        × IfSome (R.remaining (inner_of reader.old)) (λ bytes. 4194304 < length bytes) }
+        × IfSome (R.remaining (inner_of reader.old)) (λ bytes. longest_script < length bytes) }
     ensures read { IsErrOf result faults.Read → (writer.new ≡ writer.old) × (has_failed reader.new ≡ true) }
     ensures write { IsErrOf result faults.Write → (has_failed writer.new ≡ true)
-        × IfSome (R.remaining (inner_of reader.old)) (λ bytes. (length bytes ≤ 4194304) × IsOk (parse bytes)) }
+        × IfSome (R.remaining (inner_of reader.old)) (λ bytes. (length bytes ≤ longest_script) × IsOk (parse bytes)) }
 {
     match read_all(alloc, reader) {
         Ok(bytes) => answer_input(alloc, bytes, writer, settings),

@@ -1,0 +1,69 @@
+#!/bin/sh
+# Tries ./check with a stand-in for `rt` and scripts of its own, in a folder of its own: what it says, its last line and
+# its status. Proves nothing. Usage: tools/try_check.sh
+top=$(cd "$(dirname "$0")/.." && pwd) || exit 2
+room=$(mktemp -d) || exit 2
+trap 'rm -rf "$room"' EXIT
+mkdir "$room/bin" "$room/top" "$room/top/tools" "$room/top/tests"
+cp "$top/check" "$room/top/"
+cp "$top/tools/timed_gate.py" "$room/top/tools/"
+scripts=$(sed -n "s/^scripts='\(.*\)'$/\1/p" "$top/check")
+number=$(set -- $scripts && echo $#)
+tried=0
+wrong=0
+
+# gate STATUS LINE [COMMAND]: the stand-in says some lines, and at last LINE, and ends with STATUS
+gate() {
+    printf '#!/bin/sh\necho "rt: dml_one proved"\n%s\necho "%s"\nexit %s\n' "${3:-:}" "$2" "$1" >"$room/bin/rt"
+    chmod +x "$room/bin/rt"
+}
+
+# all_scripts STATUS: each listed script, and no other, ends with STATUS
+all_scripts() {
+    rm -f "$room/top/tests/"*
+    for script in $scripts; do
+        printf 'echo "%s ran"\nexit %s\n' "$script" "$1" >"$room/top/$script"
+    done
+}
+
+# ends STATUS LINE [TEXT..]: what check ends with, and the lines that it says before
+ends() {
+    status=$1 line=$2
+    shift 2
+    PATH=$room/bin:$PATH "$room/top/check" >"$room/said" 2>&1
+    got=$?
+    tried=$((tried + 1))
+    [ "$got" = "$status" ] || { echo "try_check: status $got, not $status, before: $line"; wrong=1; }
+    [ "$(tail -n 1 "$room/said")" = "$line" ] || { echo "try_check: the last line is not: $line"; wrong=1; }
+    for text in "$@"; do
+        grep -qxF -e "$text" "$room/said" || { echo "try_check: does not say: $text"; wrong=1; }
+    done
+}
+
+all_scripts 0
+gate 0 '9 passed, 0 failed' "(exec python3 -c 'import time; time.sleep(2)' --crate-name dml_one)"
+ends 0 "$((9 + number)) passed, 0 failed" 'rt: dml_one proved' '9 passed, 0 failed' 'tests/cli.sh ran'
+grep -q '^ *[23] *[01]  dml_one: its proof$' "$room/said" || { echo 'try_check: no time of the prover'; wrong=1; }
+gate 1 '8 passed, 1 failed'
+ends 1 "$((8 + number)) passed, 1 failed"
+gate 1 '9 passed, 0 failed'
+ends 1 "$((9 + number)) passed, 1 failed" 'check: the gate ended with status 1'
+gate 1 'rt: killed'
+ends 1 "$number passed, 1 failed" 'check: the gate ended with no count, with status 1'
+gate 0 'rt: nothing'
+ends 1 "$number passed, 1 failed" 'check: the gate ended with no count, with status 0'
+
+gate 0 '9 passed, 0 failed'
+echo 'exit 3' >"$room/top/tests/cli.sh"
+ends 1 "$((8 + number)) passed, 1 failed" 'check: tests/cli.sh failed' 'tests/released.sh ran'
+rm "$room/top/tests/cli.sh"
+ends 1 "$((8 + number)) passed, 1 failed" 'check: tests/cli.sh is missing' 'tests/released.sh ran'
+all_scripts 0
+echo 'exit 0' >"$room/top/tests/other.sh"
+ends 1 "$((9 + number)) passed, 1 failed" 'check: tests/other.sh is not in the list of scripts'
+all_scripts 1
+gate 1 '8 passed, 1 failed'
+ends 1 "8 passed, $((1 + number)) failed"
+
+[ "$wrong" = 0 ] && echo "try_check: $tried runs of check"
+exit "$wrong"

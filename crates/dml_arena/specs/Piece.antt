@@ -13,6 +13,12 @@ pub record Piece : Type 0 where
   pub bytes : List ℕ
   pub tie : GName
 
+-- the region keeps its place: its opening, its start and its room
+pub record SamePlace (old new : Piece) : Type 0 where
+  pub opening : new.opening ≡ old.opening
+  pub start : new.start ≡ old.start
+  pub room : new.room ≡ old.room
+
 abbrev pub piece_of : Inside → Piece
 piece_of r = record { opening = block_of r.span.ptr; start = r.start; room = r.room; bytes = r.span.bytes; tie = r.span.tie }
 

@@ -12,7 +12,7 @@ use std::marker::{Model, PhantomData};
 use thiserror::Error;
 
 /// Why no arena was made.
-#[derive(Debug, Drop, Error)]
+#[derive(Clone, Copy, PartialEq, Eq, Debug, Error)]
 pub enum ArenaError {
     /// The allocator has no memory left for the block.
     #[error("out of memory")]

@@ -29,6 +29,8 @@ impl<'a> Model for Region<'a> {
 }
 
 impl<'a> Region<'a> {
+    ghost use Rattle.dml_arena.specs.Piece.{SamePlace};
+
     /// Returns the place of its first byte in the block.
     pub fn start(&self) -> u32
         ensures { result ≡ self.now.start }
@@ -86,7 +88,7 @@ impl<'a> Region<'a> {
     /// Puts `bytes` behind those that it holds.
     pub fn push(&mut self, bytes: &[u8])
         requires { length self.old.bytes + length bytes.now ≤ self.old.room }
-        ensures place { (self.new.opening ≡ self.old.opening) × (self.new.start ≡ self.old.start) × (self.new.room ≡ self.old.room) }
+        ensures place { SamePlace self.old self.new }
         ensures bytes { self.new.bytes ≡ self.old.bytes ++ bytes.now }
     {
         self.span.extend(self.len as usize, bytes);
@@ -96,7 +98,7 @@ impl<'a> Region<'a> {
     /// Keeps the first `len` bytes that it holds. The others become room again.
     pub fn shorten(&mut self, len: u32)
         requires { len ≤ length self.old.bytes }
-        ensures place { (self.new.opening ≡ self.old.opening) × (self.new.start ≡ self.old.start) × (self.new.room ≡ self.old.room) }
+        ensures place { SamePlace self.old self.new }
         ensures bytes { self.new.bytes ≡ take len self.old.bytes }
     {
         self.span.shorten(len as usize);

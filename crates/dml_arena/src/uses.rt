@@ -1,5 +1,6 @@
 //! What callers rest on. Each function is proved from the contracts alone.
 ghost use Rattle.std.specs.Prelude.{◌≡◌, ◌+◌, ◌<◌, ◌≤◌, [], ◌∷◌, ◌++◌, length};
+ghost use Rattle.dml_arena.specs.Piece.{SamePlace};
 
 use crate::{Arena, Region};
 use std::thread::{self, Threads};
@@ -22,7 +23,7 @@ fn opened_twice(arena: &mut Arena, bytes: &[u8]) -> u32
 fn staged<'a>(mut region: Region<'a>, bytes: &[u8]) -> Region<'a>
     requires empty { region.bytes ≡ [] }
     requires fits { length bytes.now ≤ region.room }
-    ensures place { (result.opening ≡ region.entry.opening) × (result.start ≡ region.entry.start) × (result.room ≡ region.entry.room) }
+    ensures place { SamePlace region.entry result }
     ensures bytes { result.bytes ≡ bytes.now }
 {
     region.push(bytes);
@@ -94,7 +95,7 @@ pub(crate) struct Task<'a> {
 impl<'a> Task<'a> {
     fn run(mut self) -> Task<'a>
         requires { length self.staged.bytes < self.staged.room }
-        ensures place { (result.staged.opening ≡ self.entry.staged.opening) × (result.staged.start ≡ self.entry.staged.start) × (result.staged.room ≡ self.entry.staged.room) }
+        ensures place { SamePlace self.entry.staged result.staged }
         ensures bytes { result.staged.bytes ≡ self.entry.staged.bytes ++ self.entry.byte ∷ [] }
     {
         let byte = self.byte;

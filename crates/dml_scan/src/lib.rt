@@ -9,6 +9,7 @@ mod scans;
 mod staging;
 
 pub use dml_types::Found;
+pub use reach::work_direction;
 pub use scans::{ScanPiece, scan_dualcast, scan_fill, scan_move};
 
 #[cfg(test)]

@@ -7,10 +7,11 @@ ghost use Rattle.dml_types.specs.Bytewise.{direction_by};
 ghost use Rattle.dml_types.specs.Memory.{offset_in, present_toward};
 ghost use Rattle.dml_types.specs.Chunk.{scan_found};
 ghost use Rattle.dml_scan.specs.Found.{done_of};
+ghost use Rattle.dml_scan.specs.Work.{IsWorkDirection};
 
 use dml_desc::Checked;
 use dml_image::Image;
-use dml_types::{Direction, Found, Job};
+use dml_types::{Direction, Found, Job, Op};
 
 /// The bytes of a range before its first absent one, in the order of a direction.
 fn present_bytes(image: &Image, addr: u64, len: u32, direction: Direction) -> u32
@@ -74,11 +75,20 @@ pub fn fill_found(image: &Image, job: &Checked, from: u32, to: u32) -> Found
     write_fault(done, addr + u64::from(done))
 }
 
-/// The direction of a move: backward where its destination begins inside its source, behind the first byte.
-pub fn move_direction(job: &Job) -> Direction
-    ensures { result ≡ direction_by Move job.now }
+/// The order in which a job's offsets are worked on.
+pub fn work_direction(job: &Checked) -> Direction
+    ensures { IsWorkDirection job.now result }
 {
-    if job.source < job.target && job.target - job.source < u64::from(job.size) {
+    direction_of(job.op(), job.job())
+}
+
+/// The order in which an operation works on a job's offsets: downwards in a move whose destination begins inside its
+/// source, behind the first byte, and else upwards.
+pub fn direction_of(op: Op, job: &Job) -> Direction
+    ensures { result ≡ direction_by op job.now }
+{
+    let begins_inside = job.source < job.target && job.target - job.source < u64::from(job.size);
+    if op == Op::Move && begins_inside {
         Direction::Backward
     } else {
         Direction::Forward
@@ -110,7 +120,7 @@ pub fn move_found(image: &Image, job: &Checked, from: u32, to: u32) -> Found
     }
     let job = job.job();
     let len = to - from;
-    let direction = move_direction(job);
+    let direction = direction_of(Op::Move, job);
     let source = job.source + u64::from(from);
     let target = job.target + u64::from(from);
     let readable = present_bytes(image, source, len, direction);

@@ -4,13 +4,14 @@ ghost use Rattle.dml_types.specs.Job.{op_of};
 ghost use Rattle.dml_types.specs.Bytewise.{done_from};
 ghost use Rattle.dml_types.specs.Memory.{bytes_at, has_all};
 ghost use Rattle.dml_types.specs.Chunk.{scan_found, scan_staged};
+ghost use Rattle.dml_arena.specs.Piece.{SamePlace};
 
-use crate::reach::{done_in, dualcast_found, fill_found, move_direction, move_found};
+use crate::reach::{direction_of, done_in, dualcast_found, fill_found, move_found};
 use crate::staging::stage;
 use dml_arena::Region;
 use dml_desc::Checked;
 use dml_image::Image;
-use dml_types::{Direction, Found, Job};
+use dml_types::{Direction, Found, Job, Op};
 
 /// What the scan of one chunk of a job gives.
 #[derive(Drop)]
@@ -44,12 +45,12 @@ pub fn scan_move<'a>(
     ensures chunk { (result.from ≡ from) × (result.to ≡ to) }
     ensures found { result.found ≡ scan_found Move image.now job.now from to }
     ensures staged { result.staged.bytes ≡ scan_staged Move image.now job.now from to }
-    ensures place { (result.staged.opening ≡ room.entry.opening) × (result.staged.start ≡ room.entry.start) × (result.staged.room ≡ room.entry.room) }
+    ensures place { SamePlace room.entry result.staged }
 {
     let mut staged = room;
     let found = move_found(image, job, from, to);
     let done = done_in(found, to - from);
-    let first = first_done(move_direction(job.job()), from, to, done);
+    let first = first_done(direction_of(Op::Move, job.job()), from, to, done);
     stage_source(image, job.job(), first, done, &mut staged);
     ScanPiece {
         from,
@@ -76,7 +77,7 @@ pub fn scan_fill<'a>(
     ensures chunk { (result.from ≡ from) × (result.to ≡ to) }
     ensures found { result.found ≡ scan_found Fill image.now job.now from to }
     ensures staged { result.staged.bytes ≡ scan_staged Fill image.now job.now from to }
-    ensures place { (result.staged.opening ≡ room.entry.opening) × (result.staged.start ≡ room.entry.start) × (result.staged.room ≡ room.entry.room) }
+    ensures place { SamePlace room.entry result.staged }
 {
     ScanPiece {
         from,
@@ -105,7 +106,7 @@ pub fn scan_dualcast<'a>(
     ensures chunk { (result.from ≡ from) × (result.to ≡ to) }
     ensures found { result.found ≡ scan_found Dualcast image.now job.now from to }
     ensures staged { result.staged.bytes ≡ scan_staged Dualcast image.now job.now from to }
-    ensures place { (result.staged.opening ≡ room.entry.opening) × (result.staged.start ≡ room.entry.start) × (result.staged.room ≡ room.entry.room) }
+    ensures place { SamePlace room.entry result.staged }
 {
     let mut staged = room;
     let found = dualcast_found(image, job, from, to);
@@ -138,7 +139,7 @@ fn stage_source(image: &Image, job: &Job, first: u32, done: u32, room: &mut Regi
     requires within { first + done ≤ job.now.size }
     requires present { IsTrue (has_all image.now (job.now.source + first) done) }
     requires fits { length room.old.bytes + done ≤ room.old.room }
-    ensures place { (room.new.opening ≡ room.old.opening) × (room.new.start ≡ room.old.start) × (room.new.room ≡ room.old.room) }
+    ensures place { SamePlace room.old room.new }
     ensures bytes { room.new.bytes ≡ room.old.bytes ++ bytes_at image.now (job.now.source + first) done }
 {
     if done == 0 {

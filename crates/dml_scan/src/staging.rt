@@ -2,6 +2,7 @@
 
 ghost use Rattle.std.specs.Prelude.{◌≡◌, ◌+◌, ◌++◌, ◌≤◌, length, IsTrue};
 ghost use Rattle.dml_types.specs.Memory.{has_all, bytes_at};
+ghost use Rattle.dml_arena.specs.Piece.{SamePlace};
 
 use dml_arena::Region;
 use dml_image::Image;
@@ -10,7 +11,7 @@ use dml_image::Image;
 pub fn stage(image: &Image, addr: u64, len: u32, room: &mut Region<'_>)
     requires present { IsTrue (has_all image.now addr len) }
     requires fits { length room.old.bytes + len ≤ room.old.room }
-    ensures place { (room.new.opening ≡ room.old.opening) × (room.new.start ≡ room.old.start) × (room.new.room ≡ room.old.room) }
+    ensures place { SamePlace room.old room.new }
     ensures bytes { room.new.bytes ≡ room.old.bytes ++ bytes_at image.now addr len }
 {
     let mut place = addr;

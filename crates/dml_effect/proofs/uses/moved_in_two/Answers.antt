@@ -37,7 +37,7 @@ join_found-requires c =
               yields = array_yields array_into_iter_items c.into_iter.result pieces items;
               values = (
                 record { begins = below.chunk.0; order = omega arith; found = rw below.chunk.1 below.found; staged = rw below.chunk.1 below.staged },
-                (cc, omega (arith, below.place.1, below.place.2, above.place.1, cut.front.0, cut.front.1, cut.back.0)),
+                (cc, omega (arith, below.place.start, below.place.room, above.place.start, cut.front.0, cut.front.1, cut.back.0)),
                 (record { begins = cc; order = omega (arith, below.chunk.1, above.chunk.1, size); found = rw (below.chunk.1, above.chunk.1) above.found; staged = rw (below.chunk.1, above.chunk.1) above.staged }, tt, above.chunk.1 ∙ size),
               );
             },

@@ -19,7 +19,7 @@ stage_source-requires-clause-present c =
     let done = done_told Move c.args.image.now c.args.job.now c.args.from c.args.to _ _ c.move_found-found.ensures c.done_in-done.ensures in
     let k = c.done_in-done.result in
     let n = c.args.to - c.args.from in
-    let direction : c.move_direction.result ≡ direction_by Move c.args.job.now = c.move_direction.ensures ∙ ap (direction_by Move) c.job.ensures.job in
+    let direction : c.direction_of.result ≡ direction_by Move c.args.job.now = c.direction_of.ensures ∙ ap (direction_by Move) c.job.ensures.job in
     let first : c.first_done-first.result ≡ c.args.from + done_from (direction_by Move c.args.job.now) n k =
     c.first_done-first.ensures.value ∙ ap (λ (d : Direction). c.args.from + done_from d n k) direction in
     ap₂ (λ (job : Job) (place : ℕ). has_all c.args.image.now (job.source + place) k) c.job-2.ensures.job first
@@ -31,7 +31,7 @@ returns-clause-staged c =
     let done = done_told Move c.args.image.now c.args.job.now c.args.from c.args.to _ _ c.move_found-found.ensures c.done_in-done.ensures in
     let k = c.done_in-done.result in
     let n = c.args.to - c.args.from in
-    let direction : c.move_direction.result ≡ direction_by Move c.args.job.now = c.move_direction.ensures ∙ ap (direction_by Move) c.job.ensures.job in
+    let direction : c.direction_of.result ≡ direction_by Move c.args.job.now = c.direction_of.ensures ∙ ap (direction_by Move) c.job.ensures.job in
     let first : c.first_done-first.result ≡ c.args.from + done_from (direction_by Move c.args.job.now) n k =
     c.first_done-first.ensures.value ∙ ap (λ (d : Direction). c.args.from + done_from d n k) direction in
     c.stage_source.ensures.bytes

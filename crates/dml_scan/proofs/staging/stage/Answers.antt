@@ -29,9 +29,11 @@ loop-left-preserved c =
     record {
       within = omega (arith, short, c.loop-left.invariant.within);
       at = omega (arith, next, c.loop-left.invariant.at);
-      opening = c.push.ensures.place.0 ∙ c.loop-left.invariant.opening;
-      start = c.push.ensures.place.1 ∙ c.loop-left.invariant.start;
-      room = c.push.ensures.place.2 ∙ c.loop-left.invariant.room;
+      place = record {
+        opening = c.push.ensures.place.opening ∙ c.loop-left.invariant.place.opening;
+        start = c.push.ensures.place.start ∙ c.loop-left.invariant.place.start;
+        room = c.push.ensures.place.room ∙ c.loop-left.invariant.place.room;
+      };
       bytes =
           let old : List ℕ = c.args.room.now.bytes in
           let before : List ℕ = bytes_at c.args.image.now c.args.addr done in

@@ -115,7 +115,7 @@ program /dev/null decode 00
 program /dev/null
 # Each of these tests has to be there.
 for wanted in 'dml_arena refused_new' 'dml_image refused_new' 'dml_image refused_bring' 'dml_engine refused_new' \
-    'dml_engine refused_submit' 'dml_script refused_read_script' 'dml_script refused_out_text' \
+    'dml_engine refused_submit' 'dml_grammar refused_read_script' 'dml_script refused_out_text' \
     'dml_script refused_job_text' 'dml_script refused_run_script' 'dmljob refused_command_of' 'dmljob refused_description'; do
     binary=crates/${wanted% *}/out/${wanted% *}_tests
     if ! "$binary" --list 2>/dev/null | grep -q "${wanted#* }:"; then

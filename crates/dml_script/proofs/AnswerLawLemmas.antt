@@ -2,7 +2,7 @@
 use Rattle.std.proofs.Common.{[], ◌∷◌, ◌++◌, refl, sym, ap, ◌∙◌, append_assoc}
 use Rattle.dml_types.specs.Step.{step}
 use Rattle.dml_script.specs.AnswerLaws.{AnswersInParts, AnswersJobs, after_lines}
-use Rattle.dml_script.specs.declared.lines.Line.TheVariants as line
+use Rattle.dml_grammar.specs.declared.lines.Line.TheVariants as line
 use Rattle.dml_script.specs.Output.{job_line}
 use Rattle.dml_script.specs.Run.{after_line, answer_from, item_of, text_if}
 

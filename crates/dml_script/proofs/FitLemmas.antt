@@ -9,16 +9,16 @@ use Rattle.std.proofs.lemmas.List.Sums.{count_by-le-length}
 use Rattle.dml_types.specs.Memory.{has}
 use Rattle.dml_types.proofs.FirstLemmas.{first_none}
 use Rattle.dml_types.proofs.StepLemmas.{step_present}
-use Rattle.dml_script.specs.declared.faults.ScriptFault.{ScriptFault}
-use Rattle.dml_script.specs.declared.lines.Line.{Line}
-use Rattle.dml_script.specs.declared.lines.Line.TheVariants as line
-use Rattle.dml_script.specs.Grammar.{Skipped, Faulty, Fine, parse, parse_from, verdict, fault_at}
+use Rattle.dml_grammar.specs.declared.faults.ScriptFault.{ScriptFault}
+use Rattle.dml_grammar.specs.declared.lines.Line.{Line}
+use Rattle.dml_grammar.specs.declared.lines.Line.TheVariants as line
+use Rattle.dml_grammar.specs.Grammar.{Skipped, Faulty, Fine, parse, parse_from, verdict, fault_at}
 use Rattle.dml_script.specs.Run.{Session, after_line, opening}
-use Rattle.dml_script.specs.Pages.{Tracks}
+use Rattle.dml_grammar.specs.Pages.{Tracks}
 use Rattle.dml_script.specs.Runnable.{AllFit, Fits, IsRunnable}
 use Rattle.dml_script.proofs.FollowLemmas.{MayFollow, follows}
-use Rattle.dml_script.proofs.PageLemmas.{tracks_image, tracks_page, tracks_same}
-use Rattle.dml_script.proofs.PresenceLemmas.{byte_present}
+use Rattle.dml_grammar.proofs.PageLemmas.{tracks_image, tracks_page, tracks_same}
+use Rattle.dml_grammar.proofs.PresenceLemmas.{byte_present}
 
 not_first : (before : List Line) → 0 < length before → before ≡ [] → ⊥
 not_first before some none = let nothing : length before ≡ 0 = ap length none in omega arith

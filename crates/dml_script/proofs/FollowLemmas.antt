@@ -7,19 +7,19 @@ use Rattle.dml_types.specs.Job.{operations}
 use Rattle.std.specs.Option.{option_map}
 use Rattle.std.proofs.lemmas.Bool.{cases_Bool, leb-true, ltb-true, ltb-false, and_parts, not-false, or_parts}
 use Rattle.std.proofs.lemmas.List.{nil_from_length}
-use Rattle.dml_script.specs.declared.faults.Kind.{Kind}
-use Rattle.dml_script.specs.declared.faults.Kind.TheVariants.{BadRange, LongLine, MissingImage, NotAscii, SecondImage, UnknownWord, WrongWords}
-use Rattle.dml_script.specs.declared.lines.Line.{Line}
-use Rattle.dml_script.specs.declared.lines.Line.TheVariants as line
-use Rattle.dml_script.specs.declared.table.Word.{Word}
-use Rattle.dml_script.specs.declared.table.Word.TheVariants as word
-use Rattle.dml_script.specs.declared.table.Slot.{Slot}
-use Rattle.dml_script.specs.Grammar as grammar
-use Rattle.dml_script.specs.Grammar.{Verdict, Skipped, Faulty, Fine, verdict, verdict_of, judged, longest_line, first_of, place_faults, entry_faults, faults_of, word_faults}
+use Rattle.dml_grammar.specs.declared.faults.Kind.{Kind}
+use Rattle.dml_grammar.specs.declared.faults.Kind.TheVariants.{BadRange, LongLine, MissingImage, NotAscii, SecondImage, UnknownWord, WrongWords}
+use Rattle.dml_grammar.specs.declared.lines.Line.{Line}
+use Rattle.dml_grammar.specs.declared.lines.Line.TheVariants as line
+use Rattle.dml_grammar.specs.declared.table.Word.{Word}
+use Rattle.dml_grammar.specs.declared.table.Word.TheVariants as word
+use Rattle.dml_grammar.specs.declared.table.Slot.{Slot}
+use Rattle.dml_grammar.specs.Grammar as grammar
+use Rattle.dml_grammar.specs.Grammar.{Verdict, Skipped, Faulty, Fine, verdict, verdict_of, judged, longest_line, first_of, place_faults, entry_faults, faults_of, word_faults}
 use Rattle.dml_script.specs.Runnable.{IsCarried, IsCarriedBy}
-use Rattle.dml_script.specs.Table.{word_with, parts_in}
-use Rattle.dml_script.specs.Text.{is_text, words}
-use Rattle.dml_script.proofs.LineLemmas.{Entries, fitted_slots, bytes_of_slots, all_bytes_fit}
+use Rattle.dml_grammar.specs.Table.{word_with, parts_in}
+use Rattle.dml_grammar.specs.Text.{is_text, words}
+use Rattle.dml_grammar.proofs.LineLemmas.{Entries, fitted_slots, bytes_of_slots, all_bytes_fit}
 
 -- whether a line may follow others: the image line alone is the first, its pages are 1 to 4,096, a brought page is one
 -- of them and its bytes are no more than it has, poked bytes are present, and a shown range ends at or below 2^64

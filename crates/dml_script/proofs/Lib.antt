@@ -1,16 +1,7 @@
 pub mod AnswerLawLemmas
 pub mod BytesLemmas
-pub mod EntryLemmas
-pub mod FirstFaultLemmas
 pub mod FitLemmas
 pub mod FollowLemmas
-pub mod LeftLemmas
-pub mod LineLemmas
-pub mod NumberLemmas
-pub mod PageLemmas
-pub mod PresenceLemmas
-pub mod Rows
 pub mod RunLemmas
 pub mod SessionLemmas
 pub mod TextLemmas
-pub mod WordLemmas

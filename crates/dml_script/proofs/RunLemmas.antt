@@ -1,9 +1,9 @@
 -- The run of a script's lines, one after another.
 use Rattle.std.proofs.lemmas.Bool.{le-leb}
 use Rattle.std.proofs.Common.{◌≡◌, ℕ, ◌+◌, ◌^◌, ◌<◌, ◌≤◌, List, [], ◌∷◌, ◌++◌, length, Option, Some, None, IfSome, MatchOption, Result, Ok, Err, OnErr, sym, ap, subst, ◌∙◌, arith}
-use Rattle.dml_script.specs.declared.lines.Line.{Line}
-use Rattle.dml_script.specs.declared.lines.Line.TheVariants as line
-use Rattle.dml_script.specs.Grammar.{parse}
+use Rattle.dml_grammar.specs.declared.lines.Line.{Line}
+use Rattle.dml_grammar.specs.declared.lines.Line.TheVariants as line
+use Rattle.dml_grammar.specs.Grammar.{parse}
 use Rattle.dml_script.specs.Run.{Session, after_line, answer, answer_from, answer_if, item_of, longest_script, opening, text_if}
 use Rattle.dml_script.specs.Runnable.{AllFit}
 use Rattle.dml_script.proofs.BytesLemmas.{IsWritten}

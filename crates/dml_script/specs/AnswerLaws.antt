@@ -3,8 +3,8 @@ use Rattle.std.specs.Prelude.{◌≡◌, ℕ, ◌+◌, List, [], ◌∷◌, ◌+
 use Rattle.dml_types.specs.declared.jobs.Job.{Job}
 use Rattle.dml_types.specs.declared.records.Record.{Record}
 use Rattle.dml_types.specs.Step.{records_of}
-use Rattle.dml_script.specs.declared.lines.Line.{Line}
-use Rattle.dml_script.specs.declared.lines.Line.TheVariants as line
+use Rattle.dml_grammar.specs.declared.lines.Line.{Line}
+use Rattle.dml_grammar.specs.declared.lines.Line.TheVariants as line
 use Rattle.dml_script.specs.Output.{job_line}
 use Rattle.dml_script.specs.Run.{Session, after_line, answer_from}
 

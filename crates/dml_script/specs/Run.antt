@@ -4,12 +4,12 @@ use Rattle.std.specs.List.{range_with_len}
 use Rattle.dml_types.specs.Memory.{Memory, page_size, has, byte_at, put}
 use Rattle.dml_types.specs.Step.{step}
 use Rattle.dml_image.specs.Brought.{all_absent, brought}
-use Rattle.dml_script.specs.declared.faults.ScriptFault.{ScriptFault}
+use Rattle.dml_grammar.specs.declared.faults.ScriptFault.{ScriptFault}
 use Rattle.dml_script.specs.declared.items.Item.{Item}
 use Rattle.dml_script.specs.declared.items.Item.TheVariants as item
-use Rattle.dml_script.specs.declared.lines.Line.{Line}
-use Rattle.dml_script.specs.declared.lines.Line.TheVariants as line
-use Rattle.dml_script.specs.Grammar.{parse}
+use Rattle.dml_grammar.specs.declared.lines.Line.{Line}
+use Rattle.dml_grammar.specs.declared.lines.Line.TheVariants as line
+use Rattle.dml_grammar.specs.Grammar.{parse}
 use Rattle.dml_script.specs.Output.{text_of}
 
 -- the memory so far, and the number of jobs so far

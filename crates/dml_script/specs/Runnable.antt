@@ -6,8 +6,8 @@ use Rattle.dml_types.specs.declared.operations.Op.{Op}
 use Rattle.dml_types.specs.declared.operations.Op.TheVariants.{NoOp, Move, Fill, Compare, ComparePattern, CreateDelta, ApplyDelta, Dualcast}
 use Rattle.dml_types.specs.Job.{op_of}
 use Rattle.dml_types.specs.Memory.{page_size, has_all}
-use Rattle.dml_script.specs.declared.lines.Line.{Line}
-use Rattle.dml_script.specs.declared.lines.Line.TheVariants as line
+use Rattle.dml_grammar.specs.declared.lines.Line.{Line}
+use Rattle.dml_grammar.specs.declared.lines.Line.TheVariants as line
 use Rattle.dml_script.specs.Run.{Session, after_line, opening}
 
 -- the operations that a script's jobs can have for now

@@ -5,11 +5,9 @@ ghost use Rattle.std.specs.Io.KnownBytes.{IsAtEnd};
 ghost use Rattle.dml_script.specs.Watching.{inner_of, has_failed};
 
 use crate::watching::Watched;
+use dml_grammar::MAX_SCRIPT;
 use std::alloc::Global;
 use std::io::Read;
-
-/// The most bytes of a script: 4 MiB.
-pub const MAX_SCRIPT: usize = 4_194_304;
 
 /// Why an input was not read.
 #[derive(Clone, Copy, PartialEq, Eq, Debug)]

@@ -1,37 +1,25 @@
-//! Scripts of data mover jobs: the reader of their text, the text of their answer, and their run over a reader and a
-//! writer.
+//! Scripts of data mover jobs: the text of their answer, and their run over a reader and a writer. Their reader is
+//! `dml_grammar`, whose names are handed on.
 #![tactic(auto)]
 
-mod entries;
-mod faults;
 mod input;
 mod items;
-mod judge;
 mod laws;
-mod lines;
-mod numbers;
-mod reader;
-mod reading;
 mod running;
-mod script;
 mod sessions;
-mod table;
 mod texts;
 mod watching;
-mod words;
 mod writing;
 
-pub use faults::{Kind, ScriptError, ScriptFault, fault_text};
-pub use input::MAX_SCRIPT;
+pub use dml_grammar::{
+    Bytes, Kind, Line, MAX_SCRIPT, Script, ScriptError, ScriptFault, ScriptLines, fault_text,
+    law_of_first_fault, read_script,
+};
 pub use items::{Item, Shown};
-pub use laws::{law_of_answers, law_of_first_fault};
-pub use lines::{Bytes, Line};
+pub use laws::law_of_answers;
 pub use running::{RunFault, run_script};
-pub use script::{Script, ScriptLines, read_script};
 pub use texts::{TextError, job_text, out_text};
 pub use watching::Watched;
 
-#[cfg(test)]
-mod run_tests;
 #[cfg(test)]
 mod tests;

@@ -3,23 +3,23 @@
 ghost use Rattle.std.specs.Prelude.{◌≡◌, ◌≢◌, ◌+◌, ◌^◌, ◌<◌, ◌≤◌, false, true, length, Ok, Err, OnOk, OnErr, IsErrOf, IsOk, IfSome, vec_len};
 ghost use Rattle.std.specs.Io.KnownBytes.{Appends, IsAtEnd};
 ghost use Rattle.dml_types.specs.Refusal.{IsValid};
-ghost use Rattle.dml_script.specs.Grammar.{parse};
+ghost use Rattle.dml_grammar.specs.Grammar.{parse};
 ghost use Rattle.dml_script.specs.Run.{answer, answer_from, longest_script, opening, text_if};
 ghost use Rattle.dml_script.specs.Runnable.{AllFit, IsRunnable};
 ghost use Rattle.dml_script.specs.Watching.{inner_of, has_failed, is_flushed, AppendsFront};
-ghost use Rattle.dml_script.specs.declared.faults.ScriptFault.{ScriptFault as TheFault};
+ghost use Rattle.dml_grammar.specs.declared.faults.ScriptFault.{ScriptFault as TheFault};
 ghost use Rattle.dml_script.specs.declared.running.RunFault.TheVariants as faults;
 
-use crate::faults::{ScriptError, ScriptFault, fault_text};
-use crate::input::{InputError, MAX_SCRIPT, read_all};
+use crate::input::{InputError, read_all};
 use crate::items::Item;
-use crate::lines::Line;
-use crate::script::{ScriptLines, read_script};
 use crate::sessions::Session;
 use crate::texts::out_text;
 use crate::watching::Watched;
 use crate::writing::write_all;
 use dml_engine::{Engine, EngineError};
+use dml_grammar::{
+    Line, MAX_SCRIPT, ScriptError, ScriptFault, ScriptLines, fault_text, read_script,
+};
 use dml_image::Image;
 use dml_types::Settings;
 use std::alloc::{AllocError, Global};

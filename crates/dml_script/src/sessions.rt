@@ -7,8 +7,8 @@ ghost use Rattle.dml_script.specs.Run.{after_line, item_of, page_of, shown_bytes
 ghost use Rattle.dml_script.specs.Runnable.{Fits};
 
 use crate::items::{Item, Shown};
-use crate::lines::Line;
 use dml_engine::Engine;
+use dml_grammar::Line;
 use dml_image::Image;
 use std::alloc::{AllocError, Global};
 use std::marker::Model;

@@ -1,377 +1,562 @@
-//! Scripts and their faults. The expected values are the format's.
+//! Runs of scripts over readers and writers that give, take and fail as told. The expected answers are the format's.
 
 use super::*;
+use dml_types::{BatchRecord, Job, Record, Settings, Status};
 use std::alloc::{AllocError, Global};
+use std::io;
+use std::io::{ErrorKind, Read, Write};
 use std::process::Abort;
 use std::test::Fail;
 
-/// The line and the kind of a text's first fault; None where it is a script.
-fn fault_of(rt: &impl Abort, alloc: Global, text: &[u8]) -> Option<(u32, Kind)> {
-    assert!(rt; text.len() <= 4_194_304);
-    match read_script(alloc, text) {
-        Ok(_) => None,
-        Err(ScriptError::Fault(fault)) => Some((fault.line, fault.kind)),
-        Err(ScriptError::NoMemory) => panic!(rt; "out of memory"),
-    }
+const DEFAULTS: Settings = Settings {
+    staging: 1_048_576,
+    chunk: 4096,
+    workers: 4,
+};
+
+const OF_EIGHT: Settings = Settings {
+    chunk: 8,
+    workers: 16,
+    ..DEFAULTS
+};
+
+const NARROW: Settings = Settings {
+    staging: 64,
+    ..DEFAULTS
+};
+
+const FILL: &str = "image 2\npage 0\nfill 0x0807060504030201 4090 12\nshow 4088 10\n";
+
+const FILL_ANSWER: &str =
+    "job 0 status 83 result 0 completed 6 fault 4096 delta 0\nshow 4088 0000010203040506----\n";
+
+/// What a script's run answers, and what it writes.
+fn run(rt: &impl Abort, alloc: Global, script: &[u8]) -> (Result<(), RunFault>, Vec<u8>) {
+    run_at(rt, alloc, script, DEFAULTS)
 }
 
-/// The lines of a script.
-fn lines_of(alloc: Global, script: &Script<'_>) -> Result<Vec<Line>, AllocError> {
-    let mut lines = Vec::new(alloc);
-    let mut left = script.lines(alloc);
-    for _ in 0..=MAX_SCRIPT {
-        let Some(line) = left.next_line(alloc)? else {
-            break;
-        };
-        lines.push(line)?;
-    }
-    Ok(lines)
-}
-
-/// A text with so many copies of a byte between a front and a back.
-fn padded(
+/// What a script's run answers at some settings, and what it writes.
+fn run_at(
+    rt: &impl Abort,
     alloc: Global,
-    front: &str,
-    byte: u8,
-    copies: usize,
-    back: &str,
-) -> Result<Vec<u8>, AllocError> {
-    let mut text = vec![in alloc]?;
-    text.extend_from_slice(front.as_bytes())?;
-    for _ in 0..copies {
-        text.push(byte)?;
-    }
-    text.extend_from_slice(back.as_bytes())?;
-    Ok(text)
+    script: &[u8],
+    settings: Settings,
+) -> (Result<(), RunFault>, Vec<u8>) {
+    assert!(rt; settings.is_valid());
+    let mut reader = Watched::new(script);
+    let mut writer = Watched::new(Vec::new(alloc));
+    let outcome = run_script(alloc, &mut reader, &mut writer, settings);
+    assert!(rt; !reader.failed());
+    assert!(rt; !writer.failed());
+    (outcome, writer.into_inner())
 }
 
-/// Scripts with one fault, the line and the kind of it.
-const FAULTS: [(&str, u32, Kind); 54] = [
-    ("image 1\nnoop\u{e9}", 2, Kind::NotAscii),
-    ("image 1\nnoop\u{7f}", 2, Kind::NotAscii),
-    ("image 1\ncompare 0 0 0", 2, Kind::UnknownWord),
-    ("image 1\nNOOP", 2, Kind::UnknownWord),
-    ("image 1\nfil 0 0 0", 2, Kind::UnknownWord),
-    ("image 1\nfills 0 0 0", 2, Kind::UnknownWord),
-    ("image 1\nbatch", 2, Kind::UnknownWord),
-    ("image 1\nend", 2, Kind::UnknownWord),
-    ("noop", 1, Kind::MissingImage),
-    ("# first\n\n \t\npage 0\nimage 1", 4, Kind::MissingImage),
-    ("image 1\nnoop\nimage 1", 3, Kind::SecondImage),
-    ("image 1\npage", 2, Kind::WrongWords),
-    ("image 1\npage 0 00 00", 2, Kind::WrongWords),
-    ("image 1\npoke 0", 2, Kind::WrongWords),
-    ("image 1\nnoop flag 1", 2, Kind::WrongWords),
-    ("image 1\nnoop flags", 2, Kind::WrongWords),
-    ("image 1\nnoop flags 1 flags 2", 2, Kind::WrongWords),
-    ("image 1\nfill 0 0 0 0", 2, Kind::WrongWords),
-    ("image 1\nfill 0 0 0 check 1", 2, Kind::WrongWords),
-    ("image 1\nmove 0 0", 2, Kind::WrongWords),
-    ("image 1\nmove 0 0 0 0", 2, Kind::WrongWords),
-    ("image 1\ndualcast 0 0 0", 2, Kind::WrongWords),
-    ("image 1\ndualcast 0 0 0 0 0", 2, Kind::WrongWords),
-    ("image 1\nmove 0 0 4294967296", 2, Kind::BadNumber),
-    ("image 1\ndualcast 0 0 0 4294967296", 2, Kind::BadNumber),
+#[test]
+fn scripts_and_their_answers(rt: HostRuntime) {
+    for (name, script, answer) in [
+        ("bare_image", "image 1", ""),
+        ("fill_into_absent_page", FILL, FILL_ANSWER),
+        (
+            "fill_refusals",
+            "image 1\npage 0\nfill 0 0 1048577\nnoop flags 0x10\nfill 0 0xfffffffffffffff8 9\nfill 0 0xfffffffffffffff8 8",
+            "job 0 status 13 result 0 completed 0 fault 0 delta 0\n\
+             job 1 status 11 result 0 completed 0 fault 0 delta 0\n\
+             job 2 status 7d result 0 completed 0 fault 0 delta 0\n\
+             job 3 status 83 result 0 completed 0 fault 18446744073709551608 delta 0\n",
+        ),
+        (
+            "a no-op, and a fill of a whole range",
+            "image 1\npage 0 ff\nnoop flags 0x8e\nfill 0xf0e0d0c0b0a09080 1 0\nfill 0xf0e0d0c0b0a09080 1 10\nshow 0 12",
+            "job 0 status 01 result 0 completed 0 fault 0 delta 0\n\
+             job 1 status 01 result 0 completed 0 fault 0 delta 0\n\
+             job 2 status 01 result 0 completed 10 fault 0 delta 0\n\
+             show 0 ff8090a0b0c0d0e0f0809000\n",
+        ),
+        (
+            "bad_opcode_descriptor, and a descriptor of zeros",
+            "image 1\nraw 00000000000000100000000000000000000000000000000000000000000000000000000000000000000000000000000000000000000000000000000000000000\nraw 00000000000000000000000000000000000000000000000000000000000000000000000000000000000000000000000000000000000000000000000000000000",
+            "job 0 status 10 result 0 completed 0 fault 0 delta 0\n\
+             job 1 status 01 result 0 completed 0 fault 0 delta 0\n",
+        ),
+        (
+            "bytes over a page's edge, a page brought again, and addresses past the last page",
+            "image 3\npage 0\npage 1 0a0b\npoke 4094 01020304\nshow 4093 6\npage 0\nshow 4093 6\nshow 8190 4\nshow 18446744073709551615 1",
+            "show 4093 000102030400\nshow 4093 000000030400\nshow 8190 0000----\nshow 18446744073709551615 --\n",
+        ),
+    ] {
+        let (outcome, written) = run(&rt, rt.alloc(), script.as_bytes());
+        assert_eq!(rt; outcome, Ok(()), "at {name}");
+        assert_eq!(rt; written.as_slice(), answer.as_bytes(), "at {name}");
+    }
+}
+
+/// Rows of moves and dualcasts: their names, settings, scripts and answers.
+const MOVES: [(&str, Settings, &str, &str); 8] = [
     (
-        "image 1\ndualcast 0 0 0 0 flags 0x1000000",
-        2,
-        Kind::BadNumber,
+        "backward_move_into_absent_page",
+        DEFAULTS,
+        "image 2\npage 0 0102030405\nmove 0 4 4096\nshow 0 8",
+        "job 0 status 83 result 1 completed 0 fault 4099 delta 0\nshow 0 0102030405000000\n",
     ),
-    ("image 1\nfill 1 0 flags", 2, Kind::BadNumber),
-    ("image 1\nfill 1 flags 2", 2, Kind::BadNumber),
-    ("image 1\nfill 0 0 4294967296", 2, Kind::BadNumber),
-    ("image 1\nnoop flags 0x1000000", 2, Kind::BadNumber),
-    ("image 1\npage 0 0", 2, Kind::BadHex),
-    ("image 1\npage 0 000", 2, Kind::BadHex),
-    ("image 1\npage 0 0g", 2, Kind::BadHex),
-    ("image 1\npage 0 0x00", 2, Kind::BadHex),
-    ("image 1\nraw", 2, Kind::WrongWords),
-    ("image 1\nraw 00 flags 1", 2, Kind::WrongWords),
-    ("image 1\nraw 00", 2, Kind::BadHex),
-    ("image 0", 1, Kind::BadRange),
-    ("image 4097", 1, Kind::BadRange),
-    ("image 18446744073709551615", 1, Kind::BadRange),
-    ("image 1\npage 1", 2, Kind::BadRange),
-    ("image 2\npoke 0 01", 2, Kind::BadRange),
-    ("image 2\npage 0\npoke 4095 0102", 3, Kind::BadRange),
-    ("image 2\npage 1\npoke 4095 0102", 3, Kind::BadRange),
-    ("image 2\npoke 0 01\npage 0", 2, Kind::BadRange),
     (
-        "image 1\npage 0\npoke 0xffffffffffffffff 0102",
-        3,
-        Kind::BadRange,
+        "forward_move_over_itself",
+        OF_EIGHT,
+        "image 1\npage 0 a0a1a2a3a4a5a6a7a8a9aaab\npoke 100 d0d1d2d3d4d5\nmove 4 0 100\nshow 0 10\nshow 94 12",
+        "job 0 status 01 result 0 completed 100 fault 0 delta 0\n\
+         show 0 a4a5a6a7a8a9aaab0000\nshow 94 0000d0d1d2d3d0d1d2d3d4d5\n",
     ),
-    ("image 1\nshow 0 0", 2, Kind::BadRange),
-    ("image 1\nshow 0 65537", 2, Kind::BadRange),
-    ("image 1\nshow 18446744073709551615 2", 2, Kind::BadRange),
-    ("", 1, Kind::MissingImage),
-    ("\n", 2, Kind::MissingImage),
-    ("\n\n", 3, Kind::MissingImage),
-    ("# a", 2, Kind::MissingImage),
-    ("#image 1\n", 2, Kind::MissingImage),
+    (
+        "dualcast_refusals",
+        DEFAULTS,
+        "image 4\npage 0\ndualcast 0 8 16 100\ndualcast 0 4096 8192 4097\ndualcast 0 4096 8192 4",
+        "job 0 status 17 result 0 completed 0 fault 0 delta 0\n\
+         job 1 status 16 result 0 completed 0 fault 0 delta 0\n\
+         job 2 status 83 result 0 completed 0 fault 4096 delta 0\n",
+    ),
+    (
+        "staging_refusal_and_two_waves",
+        NARROW,
+        "image 1\npage 0\nmove 0 256 64\nmove 0 512 65\nmove 0 1024 64",
+        "job 0 status 01 result 0 completed 64 fault 0 delta 0\n\
+         job 1 status 7e result 0 completed 0 fault 0 delta 0\n\
+         job 2 status 01 result 0 completed 64 fault 0 delta 0\n",
+    ),
+    (
+        "end_of_address_space",
+        DEFAULTS,
+        "image 1\npage 0\nmove 0xfffffffffffffff0 0 17\nmove 0xfffffffffffffff0 0 16",
+        "job 0 status 7d result 0 completed 0 fault 0 delta 0\n\
+         job 1 status 03 result 0 completed 0 fault 18446744073709551600 delta 0\n",
+    ),
+    (
+        "flags_before_size",
+        DEFAULTS,
+        "image 1\nmove 0 0 1048577 flags 0x10\nmove 0 0 1048577\nmove 0 0 0\nnoop flags 1",
+        "job 0 status 11 result 0 completed 0 fault 0 delta 0\n\
+         job 1 status 13 result 0 completed 0 fault 0 delta 0\n\
+         job 2 status 01 result 0 completed 0 fault 0 delta 0\n\
+         job 3 status 11 result 0 completed 0 fault 0 delta 0\n",
+    ),
+    (
+        "backward_move_stops_at_page_edge",
+        DEFAULTS,
+        "image 3\npage 0\npage 2 0102\nmove 0 8 12272\nshow 8192 12",
+        "job 0 status 03 result 1 completed 4080 fault 8191 delta 0\n\
+         show 8192 010200000000000001020000\n",
+    ),
+    (
+        "dualcast_write_fault",
+        DEFAULTS,
+        "image 4\npage 0 0102030405\npage 1\npage 3\ndualcast 0 8190 16382 5\nshow 8190 2\nshow 16382 2",
+        "job 0 status 83 result 0 completed 2 fault 8192 delta 0\n\
+         show 8190 0102\nshow 16382 0102\n",
+    ),
 ];
 
 #[test]
-fn each_kind_of_fault(rt: HostRuntime) {
-    for (text, line, kind) in FAULTS {
-        assert_eq!(rt;
-            fault_of(&rt, rt.alloc(), text.as_bytes()),
-            Some((line, kind)),
-            "at {text:?}"
-        );
-    }
-}
-
-/// A `raw` line of a compare, whose lines are not read yet.
-const LATER_DESCRIPTOR: &str =
-    "raw 00000000000000050000000000000000000000000000000000000000000000000000000000000000000000000000000000000000000000000000000000000000";
-
-#[test]
-fn the_first_of_two_faults_on_a_line(rt: HostRuntime) {
-    for (text, line, kind) in [
-        ("im\u{e9}ge 1", 1, Kind::NotAscii),
-        ("noop \u{e9}", 1, Kind::NotAscii),
-        ("compare 0 0 0", 1, Kind::UnknownWord),
-        ("move 0 0", 1, Kind::MissingImage),
-        ("noop 1", 1, Kind::MissingImage),
-        ("image 1\nimage", 2, Kind::SecondImage),
-        ("image 1\nimage 0", 2, Kind::SecondImage),
-        ("image 1\nimage x", 2, Kind::SecondImage),
-        ("image 1\nfill x 0", 2, Kind::WrongWords),
-        ("image 1\npage x 0 0", 2, Kind::WrongWords),
-        ("image 1\nshow 0 0 0", 2, Kind::WrongWords),
-        ("image 1\npage x 0", 2, Kind::BadNumber),
-        ("image 1\nshow 0x 0", 2, Kind::BadNumber),
-        ("image 1\npage 7 0", 2, Kind::BadHex),
-        ("image 1\npoke 0 0", 2, Kind::BadHex),
-        ("image 1\npage 1\nmove", 2, Kind::BadRange),
-        ("image 1\ncompare\npage 1", 2, Kind::UnknownWord),
-        (LATER_DESCRIPTOR, 1, Kind::MissingImage),
-    ] {
-        assert_eq!(rt;
-            fault_of(&rt, rt.alloc(), text.as_bytes()),
-            Some((line, kind)),
-            "at {text:?}"
-        );
+fn moves_and_dualcasts(rt: HostRuntime) {
+    for (name, settings, script, answer) in MOVES {
+        let (outcome, written) = run_at(&rt, rt.alloc(), script.as_bytes(), settings);
+        assert_eq!(rt; outcome, Ok(()), "at {name}");
+        assert_eq!(rt; written.as_slice(), answer.as_bytes(), "at {name}");
     }
 }
 
 #[test]
-fn lines_and_words(rt: HostRuntime) {
-    for (text, fault) in [
-        ("image 1\r\nnoop\r\n", None),
-        ("image\t1\n\tnoop \t\n \n#\n # x\n", None),
-        ("\r\nimage 1", None),
-        ("# \u{e9}\nimage 1\n#noop \u{7f}", None),
-        ("image 1\r", Some((1, Kind::NotAscii))),
-        ("image 1\r\r\n", Some((1, Kind::NotAscii))),
-        ("image 1\n\r", Some((2, Kind::NotAscii))),
-        ("image 1\nno\rop\n", Some((2, Kind::NotAscii))),
-        ("image 1\n\u{b}", Some((2, Kind::NotAscii))),
-    ] {
-        assert_eq!(rt;
-            fault_of(&rt, rt.alloc(), text.as_bytes()),
-            fault,
-            "at {text:?}"
-        );
-    }
-}
-
-/// Words, and the numbers that they write.
-const NUMBERS: [(&str, Option<u64>); 16] = [
-    ("0", Some(0)),
-    ("18446744073709551615", Some(18_446_744_073_709_551_615)),
-    ("00000000000000000007", Some(7)),
-    ("0xAbCdEf", Some(0xabc_def)),
-    ("0x0000000000000001", Some(1)),
-    ("0xffffffffffffffff", Some(18_446_744_073_709_551_615)),
-    ("18446744073709551616", None),
-    ("000000000000000000007", None),
-    ("0x00000000000000001", None),
-    ("0x", None),
-    ("0X10", None),
-    ("+1", None),
-    ("-1", None),
-    ("1_000", None),
-    ("a", None),
-    ("0xg", None),
-];
-
-#[test]
-fn number_forms(rt: HostRuntime) -> Result<(), Fail> {
-    for (number, value) in NUMBERS {
-        let text = format!(in rt.alloc(); "image 1\nfill {number} 0 4294967295 flags 16777215")?;
-        let bytes = text.as_bytes();
-        assert!(rt; bytes.len() <= 4_194_304);
-        let read = match read_script(rt.alloc(), bytes) {
-            Ok(script) => match lines_of(rt.alloc(), &script)?.get(1) {
-                Some(Line::Job(job)) => {
-                    assert_eq!(rt;
-                        (job.opcode, job.flags, job.size),
-                        (0x04, 0xff_ffff, 0xffff_ffff)
-                    );
-                    Some(job.source)
-                }
-                _ => None,
-            },
-            Err(ScriptError::Fault(fault)) => {
-                assert_eq!(rt;
-                    (fault.line, fault.kind),
-                    (2, Kind::BadNumber),
-                    "at {number}"
-                );
-                None
-            }
-            Err(ScriptError::NoMemory) => panic!(rt; "out of memory"),
+fn conflict_chain(rt: HostRuntime) {
+    let script =
+        "image 1\npage 0 0102030405060708\nmove 0 64 16\nmove 64 128 16\nfill 0xffffffffffffffff 0 16\nshow 0 8\nshow 64 8\nshow 128 8";
+    let answer = "job 0 status 01 result 0 completed 16 fault 0 delta 0\n\
+         job 1 status 01 result 0 completed 16 fault 0 delta 0\n\
+         job 2 status 01 result 0 completed 16 fault 0 delta 0\n\
+         show 0 ffffffffffffffff\nshow 64 0102030405060708\nshow 128 0102030405060708\n";
+    for (chunk, workers) in [(8, 1), (8, 16), (4096, 1), (4096, 16)] {
+        let settings = Settings {
+            chunk,
+            workers,
+            ..DEFAULTS
         };
-        assert_eq!(rt; read, value, "at {number}");
-    }
-    Ok(())
-}
-
-/// A front, a byte, its copies and a back of scripts at the limits, and their faults.
-const LONG_SCRIPTS: [(&str, u8, usize, &str, Option<(u32, Kind)>); 18] = [
-    ("image 1\nnoop", b' ', 16_380, "", None),
-    ("image 1\nnoop", b' ', 16_380, "\r\n", None),
-    ("image 1\nnoop", b' ', 16_381, "", Some((2, Kind::LongLine))),
-    (
-        "image 1\nnoop\u{e9}",
-        b' ',
-        16_380,
-        "",
-        Some((2, Kind::LongLine)),
-    ),
-    (
-        "image 1\nmove ",
-        b' ',
-        16_380,
-        "",
-        Some((2, Kind::LongLine)),
-    ),
-    (
-        "image 1\nnoop",
-        b' ',
-        16_380,
-        "\r",
-        Some((2, Kind::LongLine)),
-    ),
-    ("frob", b' ', 16_381, "", Some((1, Kind::LongLine))),
-    ("noop", b' ', 16_381, "", Some((1, Kind::LongLine))),
-    (
-        "image 1\nimage",
-        b' ',
-        16_380,
-        "",
-        Some((2, Kind::LongLine)),
-    ),
-    ("image 1\n", b' ', 20_000, "", None),
-    ("image 1\n#", b'\xff', 20_000, "\n", None),
-    ("image 1\npage 0 ", b'a', 8192, "", None),
-    ("image 1\npage 0 ", b'a', 8194, "", Some((2, Kind::BadHex))),
-    ("image 1\npage 0\npoke 0 ", b'a', 8192, "", None),
-    (
-        "image 1\npage 0\npoke 1 ",
-        b'a',
-        8192,
-        "",
-        Some((3, Kind::BadRange)),
-    ),
-    (
-        "image 1\npage 0\npoke 0 ",
-        b'a',
-        8194,
-        "",
-        Some((3, Kind::BadHex)),
-    ),
-    ("image 2\npage 1\npage 0\npoke 4095 ", b'a', 8192, "", None),
-    (
-        "image 3\npage 0\npage 2\npoke 4095 ",
-        b'a',
-        4,
-        "",
-        Some((4, Kind::BadRange)),
-    ),
-];
-
-#[test]
-fn longest_lines_and_words(rt: HostRuntime) -> Result<(), Fail> {
-    for (front, byte, copies, back, fault) in LONG_SCRIPTS {
-        let text = padded(rt.alloc(), front, byte, copies, back)?;
+        let (outcome, written) = run_at(&rt, rt.alloc(), script.as_bytes(), settings);
+        assert_eq!(rt; outcome, Ok(()), "at {chunk} {workers}");
         assert_eq!(rt;
-            fault_of(&rt, rt.alloc(), text.as_slice()),
-            fault,
-            "at {front:?}"
+            written.as_slice(),
+            answer.as_bytes(),
+            "at {chunk} {workers}"
         );
     }
-    Ok(())
 }
 
 #[test]
-fn each_line_is_read(rt: HostRuntime) -> Result<(), Fail> {
-    let text =
-        b"image 4096\npage 4095 00fF\npage 0\npoke 4094 0102\nnoop flags 0x10\nfill 0x0807 4090 12\nshow 4088 65536\nraw 000000000C0000040000000000000000001000000000000000200000000000006400000000000000000000000000000000000000000000000000000000000000\nmove 1 2 3 flags 4\ndualcast 1 2 0xffffffffffffffff 0xffffffff flags 0xffffff\ndualcast 4 3 2 1\n";
-    let lines = [
-        "Image { pages: 4096 }",
-        "Page { page: 4095, bytes: Bytes { list: [0, 255] } }",
-        "Page { page: 0, bytes: Bytes { list: [] } }",
-        "Poke { addr: 4094, bytes: Bytes { list: [1, 2] } }",
-        "Job(Job { opcode: 0, flags: 16, source: 0, target: 0, size: 0, extra: 0, delta_size: 0, expected: 0 })",
-        "Job(Job { opcode: 4, flags: 0, source: 2055, target: 4090, size: 12, extra: 0, delta_size: 0, expected: 0 })",
-        "Show { addr: 4088, len: 65536 }",
-        "Job(Job { opcode: 4, flags: 12, source: 4096, target: 8192, size: 100, extra: 0, delta_size: 0, expected: 0 })",
-        "Job(Job { opcode: 3, flags: 4, source: 1, target: 2, size: 3, extra: 0, delta_size: 0, expected: 0 })",
-        "Job(Job { opcode: 9, flags: 16777215, source: 1, target: 2, size: 4294967295, extra: 18446744073709551615, delta_size: 0, expected: 0 })",
-        "Job(Job { opcode: 9, flags: 0, source: 4, target: 3, size: 1, extra: 2, delta_size: 0, expected: 0 })",
-    ];
-    let Ok(script) = read_script(rt.alloc(), text) else {
-        panic!(rt; "not read");
-    };
-    let found = lines_of(rt.alloc(), &script)?;
-    assert_eq!(rt; found.len(), lines.len());
-    for (line, expected) in found.iter().zip(lines) {
-        let shown = format!(in rt.alloc(); "{line:?}")?;
-        assert_eq!(rt; shown.as_str(), expected);
-    }
-    Ok(())
-}
-
-/// A `raw` line after an `image` line: so many zeros, an opcode of two digits, and zeros up to a length.
-fn raw_script(alloc: Global, opcode: &str, digits: usize) -> Result<Vec<u8>, AllocError> {
-    let mut text = Vec::from_slice(alloc, b"image 1\nraw 00000000000000")?;
-    text.extend_from_slice(opcode.as_bytes())?;
-    for _ in 16..digits {
-        text.push(b'0')?;
-    }
-    Ok(text)
-}
-
-#[test]
-fn raw_lines(rt: HostRuntime) -> Result<(), Fail> {
-    for (opcode, digits, fault) in [
-        ("00", 128, None),
-        ("04", 128, None),
-        ("0a", 128, None),
-        ("10", 128, None),
-        ("fF", 128, None),
-        ("03", 128, None),
-        ("05", 128, Some((2, Kind::UnknownWord))),
-        ("06", 128, Some((2, Kind::UnknownWord))),
-        ("07", 128, Some((2, Kind::UnknownWord))),
-        ("08", 128, Some((2, Kind::UnknownWord))),
-        ("09", 128, None),
-        // short_raw_line
-        ("00", 126, Some((2, Kind::BadHex))),
-        ("05", 127, Some((2, Kind::BadHex))),
-        ("05", 129, Some((2, Kind::BadHex))),
-        ("00", 130, Some((2, Kind::BadHex))),
-        ("0x", 128, Some((2, Kind::BadHex))),
+fn a_fault_writes_nothing(rt: HostRuntime) {
+    for (name, script, line, kind, text) in [
+        (
+            "poke_absent",
+            "image 2\npoke 0 01",
+            2,
+            Kind::BadRange,
+            "out of range",
+        ),
+        (
+            "empty_script",
+            "",
+            1,
+            Kind::MissingImage,
+            "the script must begin with an image line",
+        ),
+        (
+            "a fault behind a show",
+            "image 1\nshow 0 1\nshow 0",
+            3,
+            Kind::WrongWords,
+            "wrong number or kind of words",
+        ),
     ] {
-        let text = raw_script(rt.alloc(), opcode, digits)?;
+        let (outcome, written) = run(&rt, rt.alloc(), script.as_bytes());
         assert_eq!(rt;
-            fault_of(&rt, rt.alloc(), text.as_slice()),
-            fault,
-            "at {opcode} {digits}"
+            outcome,
+            Err(RunFault::Script(ScriptFault { line, kind })),
+            "at {name}"
         );
+        assert!(rt; written.is_empty(), "at {name}");
+        assert_eq!(rt; fault_text(kind), text, "at {name}");
+    }
+}
+
+/// An input of exactly so many bytes: one image line, and comments.
+fn long_input(alloc: Global, len: usize) -> Result<Vec<u8>, AllocError> {
+    let mut input = Vec::with_capacity(alloc, len)?;
+    input.extend_from_slice(b"image 1\nshow 0 1\n")?;
+    for place in 17..len {
+        input.push(if place % 64 == 0 { b'\n' } else { b'#' })?;
+    }
+    Ok(input)
+}
+
+#[test]
+fn the_longest_input(rt: HostRuntime) -> Result<(), Fail> {
+    for (len, outcome, answer) in [
+        (MAX_SCRIPT, Ok(()), "show 0 --\n"),
+        (MAX_SCRIPT + 1, Err(RunFault::TooLong), ""),
+    ] {
+        let input = long_input(rt.alloc(), len)?;
+        let (found, written) = run(&rt, rt.alloc(), &input);
+        assert_eq!(rt; found, outcome, "at {len}");
+        assert_eq!(rt; written.as_slice(), answer.as_bytes(), "at {len}");
+    }
+    Ok(())
+}
+
+/// Gives bytes, at most so many a call, and fails at one call.
+#[derive(Drop)]
+struct Steps<'a> {
+    bytes: &'a [u8],
+    step: usize,
+    calls: usize,
+    fails_at: usize,
+}
+
+impl Read for Steps<'_> {
+    fn read(&mut self, buf: &mut [u8]) -> io::Result<usize> {
+        let call = self.calls;
+        self.calls = self.calls.saturating_add(1);
+        if call == self.fails_at {
+            return Err(io::Error::from(ErrorKind::Interrupted));
+        }
+        let count = self.step.min(buf.len()).min(self.bytes.len());
+        let (now, after) = self.bytes.split_at(count);
+        buf[..count].copy_from_slice(now);
+        self.bytes = after;
+        Ok(count)
+    }
+}
+
+#[test]
+fn one_byte_a_call(rt: HostRuntime) {
+    let mut reader = Watched::new(Steps {
+        bytes: FILL.as_bytes(),
+        step: 1,
+        calls: 0,
+        fails_at: usize::MAX,
+    });
+    let mut writer = Watched::new(Vec::new(rt.alloc()));
+    assert_eq!(rt;
+        run_script(rt.alloc(), &mut reader, &mut writer, DEFAULTS),
+        Ok(())
+    );
+    assert_eq!(rt; writer.into_inner().as_slice(), FILL_ANSWER.as_bytes());
+    assert_eq!(rt; reader.into_inner().calls, FILL.len() + 1);
+}
+
+#[test]
+fn a_reader_fails_at_each_call(rt: HostRuntime) {
+    for fails_at in 0..FILL.len() + 1 {
+        let mut reader = Watched::new(Steps {
+            bytes: FILL.as_bytes(),
+            step: 1,
+            calls: 0,
+            fails_at,
+        });
+        let mut writer = Watched::new(Vec::new(rt.alloc()));
+        assert_eq!(rt;
+            run_script(rt.alloc(), &mut reader, &mut writer, DEFAULTS),
+            Err(RunFault::Read),
+            "at {fails_at}"
+        );
+        assert!(rt; reader.failed());
+        assert_eq!(rt; reader.into_inner().calls, fails_at + 1);
+        assert!(rt; writer.into_inner().is_empty(), "at {fails_at}");
+    }
+}
+
+/// Gives one line feed a call, for ever.
+#[derive(Drop)]
+struct Endless {
+    calls: u64,
+}
+
+impl Read for Endless {
+    fn read(&mut self, buf: &mut [u8]) -> io::Result<usize> {
+        self.calls = self.calls.saturating_add(1);
+        if buf.is_empty() {
+            return Ok(0);
+        }
+        buf[0] = b'\n';
+        Ok(1)
+    }
+}
+
+#[test]
+fn a_reader_without_end(rt: HostRuntime) {
+    let mut reader = Watched::new(Endless { calls: 0 });
+    let mut writer = Watched::new(Vec::new(rt.alloc()));
+    assert_eq!(rt;
+        run_script(rt.alloc(), &mut reader, &mut writer, DEFAULTS),
+        Err(RunFault::TooLong)
+    );
+    assert!(rt; !reader.failed());
+    assert_eq!(rt; reader.into_inner().calls, 4_194_305);
+    assert!(rt; writer.into_inner().is_empty());
+}
+
+/// Room for so many bytes: then one call fails, or takes none, and there is room again. It takes at most seven bytes
+/// a call.
+#[derive(Drop)]
+struct Paper {
+    bytes: [u8; 256],
+    len: usize,
+    room: usize,
+    fails: bool,
+}
+
+impl Paper {
+    fn new(room: usize, fails: bool) -> Paper {
+        Paper {
+            bytes: [0; 256],
+            len: 0,
+            room,
+            fails,
+        }
+    }
+
+    /// Whether these bytes are written, and no other.
+    fn holds(&self, bytes: &[u8]) -> bool {
+        self.bytes.get(..self.len) == Some(bytes)
+    }
+}
+
+impl Write for Paper {
+    fn write(&mut self, buf: &[u8]) -> io::Result<usize> {
+        let most = self.room.min(256);
+        if self.len >= most {
+            self.room = 256;
+            return if self.fails {
+                Err(io::Error::from(ErrorKind::Other))
+            } else {
+                Ok(0)
+            };
+        }
+        let count = buf.len().min(7).min(most - self.len);
+        self.bytes[self.len..self.len + count].copy_from_slice(&buf[..count]);
+        self.len += count;
+        Ok(count)
+    }
+
+    fn flush(&mut self) -> io::Result<()> {
+        Ok(())
+    }
+}
+
+#[test]
+fn a_writer_fails_at_each_byte(rt: HostRuntime) {
+    let answer = FILL_ANSWER.as_bytes();
+    for fails in [true, false] {
+        for room in 0..answer.len() {
+            let mut reader = Watched::new(FILL.as_bytes());
+            let mut writer = Watched::new(Paper::new(room, fails));
+            assert_eq!(rt;
+                run_script(rt.alloc(), &mut reader, &mut writer, DEFAULTS),
+                Err(RunFault::Write),
+                "at {room}"
+            );
+            assert!(rt; writer.failed());
+            assert!(rt; writer.into_inner().holds(&answer[..room]), "at {room}");
+        }
+        let mut reader = Watched::new(FILL.as_bytes());
+        let mut writer = Watched::new(Paper::new(answer.len(), fails));
+        assert_eq!(rt;
+            run_script(rt.alloc(), &mut reader, &mut writer, DEFAULTS),
+            Ok(())
+        );
+        assert!(rt; !writer.failed());
+        assert!(rt; writer.into_inner().holds(answer));
+    }
+}
+
+/// Takes all bytes, and fails at the first flush.
+#[derive(Drop)]
+struct Stuck {
+    flushes: u32,
+}
+
+impl Write for Stuck {
+    fn write(&mut self, buf: &[u8]) -> io::Result<usize> {
+        Ok(buf.len())
+    }
+
+    fn flush(&mut self) -> io::Result<()> {
+        self.flushes = self.flushes.saturating_add(1);
+        if self.flushes == 1 {
+            return Err(io::Error::from(ErrorKind::Other));
+        }
+        Ok(())
+    }
+}
+
+#[test]
+fn a_flush_that_fails(rt: HostRuntime) {
+    let mut reader = Watched::new(FILL.as_bytes());
+    let mut writer = Watched::new(Stuck { flushes: 0 });
+    assert_eq!(rt;
+        run_script(rt.alloc(), &mut reader, &mut writer, DEFAULTS),
+        Err(RunFault::Write)
+    );
+    assert!(rt; writer.failed());
+    assert!(rt; !writer.flushed());
+    assert_eq!(rt; writer.into_inner().flushes, 1);
+}
+
+/// Each call is passed on once, also after one that failed, and the failure is kept.
+#[test]
+fn watched_calls(rt: HostRuntime) {
+    let mut reader = Watched::new(Steps {
+        bytes: b"ab",
+        step: 1,
+        calls: 0,
+        fails_at: 0,
+    });
+    let mut buf = [0; 2];
+    assert!(rt; reader.read(&mut buf).is_err());
+    assert!(rt; reader.failed());
+    assert_eq!(rt; reader.read(&mut buf).ok(), Some(1));
+    assert!(rt; reader.failed());
+    assert_eq!(rt; reader.into_inner().calls, 2);
+    for fails in [true, false] {
+        let mut writer = Watched::new(Paper::new(0, fails));
+        assert_eq!(rt; writer.write(b"").is_err(), fails);
+        assert_eq!(rt; writer.failed(), fails);
+        let mut writer = Watched::new(Paper::new(0, fails));
+        assert_eq!(rt; writer.write(b"ab").is_err(), fails);
+        assert!(rt; writer.failed());
+        assert!(rt; writer.flushed());
+        assert_eq!(rt; writer.write(b"ab").ok(), Some(2));
+        assert!(rt; !writer.flushed());
+        assert!(rt; writer.flush().is_ok());
+        assert!(rt; writer.flushed());
+        assert!(rt; writer.into_inner().holds(b"ab"));
+    }
+    let mut writer = Watched::new(Stuck { flushes: 0 });
+    assert!(rt; writer.flush().is_err());
+    assert!(rt; writer.failed());
+    assert!(rt; writer.flush().is_ok());
+    assert_eq!(rt; writer.into_inner().flushes, 2);
+}
+
+#[test]
+fn lines_of_an_answer(rt: HostRuntime) -> Result<(), Fail> {
+    let record = Record {
+        status: Status::RangePast,
+        result: 2,
+        completed: 4_294_967_295,
+        fault: 18_446_744_073_709_551_615,
+        delta_size: 20,
+    };
+    let mut list = Vec::new(rt.alloc());
+    for byte in [Some(0x00), None, Some(0x9a), Some(0xff)] {
+        list.push(byte)?;
+    }
+    for (item, line) in [
+        (
+            Item::Job {
+                number: 1023,
+                answer: record,
+            },
+            "job 1023 status 7d result 2 completed 4294967295 fault 18446744073709551615 delta 20\n",
+        ),
+        (
+            Item::Batch {
+                answer: BatchRecord {
+                    status: Status::BatchFailed,
+                    completed: 3,
+                },
+            },
+            "batch status 05 completed 3\n",
+        ),
+        (
+            Item::Show {
+                addr: 4088,
+                bytes: Shown { list },
+            },
+            "show 4088 00--9aff\n",
+        ),
+    ] {
+        assert_eq!(rt; out_text(rt.alloc(), &item)?.as_str(), line);
+    }
+    Ok(())
+}
+
+#[test]
+fn fields_of_jobs(rt: HostRuntime) -> Result<(), Fail> {
+    let wide = Job {
+        opcode: 0xff,
+        flags: 0x1234_5678,
+        source: 1,
+        target: 18_446_744_073_709_551_615,
+        size: 4_294_967_295,
+        extra: 2,
+        delta_size: 3,
+        expected: 255,
+    };
+    for (name, job, line) in [
+        (
+            "move_descriptor",
+            Job::move_bytes(4096, 8192, 100).with_flags(0x0c),
+            "opcode 03 flags 00000c source 4096 target 8192 size 100 extra 0 delta 0 expected 0",
+        ),
+        (
+            "bad_opcode_descriptor",
+            Job {
+                opcode: 0x10,
+                ..Job::no_op()
+            },
+            "opcode 10 flags 000000 source 0 target 0 size 0 extra 0 delta 0 expected 0",
+        ),
+        (
+            "a job whose flags are wider than a descriptor's",
+            wide,
+            "opcode ff flags 12345678 source 1 target 18446744073709551615 size 4294967295 extra 2 delta 3 expected 255",
+        ),
+    ] {
+        assert_eq!(rt; job_text(rt.alloc(), &job)?.as_str(), line, "at {name}");
     }
     Ok(())
 }
@@ -383,12 +568,6 @@ fn error_texts(rt: HostRuntime) -> Result<(), Fail> {
         kind: Kind::BadHex,
     };
     let bad_hex = "line 7: not hexadecimal text of the right length";
-    for (error, text) in [
-        (ScriptError::Fault(fault), bad_hex),
-        (ScriptError::NoMemory, "out of memory"),
-    ] {
-        assert_eq!(rt; format!(in rt.alloc(); "{error}")?.as_str(), text);
-    }
     for (error, text) in [
         (RunFault::Script(fault), bad_hex),
         (RunFault::Read, "cannot read the script"),
@@ -406,36 +585,51 @@ fn error_texts(rt: HostRuntime) -> Result<(), Fail> {
     Ok(())
 }
 
-/// Behind its last line a script has none, however often it is asked.
+// The tests below hold whichever growth is refused: the answer is the right one, or want of memory with what that
+// leaves.
+
 #[test]
-fn no_line_behind_the_last(rt: HostRuntime) -> Result<(), Fail> {
-    let Ok(script) = read_script(rt.alloc(), b"image 1\n# none\n\n") else {
-        panic!(rt; "not read");
-    };
-    let mut lines = script.lines(rt.alloc());
-    assert!(rt; lines.next_line(rt.alloc())?.is_some());
-    for _ in 0..3 {
-        assert!(rt; lines.next_line(rt.alloc())?.is_none());
+fn refused_out_text(rt: HostRuntime) {
+    let mut list = Vec::new(rt.alloc());
+    for byte in [Some(0x5a), None, Some(0xc3)] {
+        if list.push(byte).is_err() {
+            return;
+        }
     }
-    Ok(())
+    match out_text(
+        rt.alloc(),
+        &Item::Show {
+            addr: 7,
+            bytes: Shown { list },
+        },
+    ) {
+        Ok(text) => assert_eq!(rt; text.as_str(), "show 7 5a--c3\n"),
+        Err(error) => assert_eq!(rt; error, TextError::NoMemory),
+    }
 }
 
 #[test]
-fn fault_texts(rt: HostRuntime) {
-    for (kind, text) in [
-        (Kind::LongLine, "the line is too long"),
-        (Kind::NotAscii, "the line is not ASCII text"),
-        (Kind::UnknownWord, "unknown word"),
-        (
-            Kind::MissingImage,
-            "the script must begin with an image line",
+fn refused_job_text(rt: HostRuntime) {
+    match job_text(rt.alloc(), &Job::fill(1, 2, 3)) {
+        Ok(text) => assert_eq!(rt;
+            text.as_str(),
+            "opcode 04 flags 000000 source 1 target 2 size 3 extra 0 delta 0 expected 0"
         ),
-        (Kind::SecondImage, "a second image line"),
-        (Kind::WrongWords, "wrong number or kind of words"),
-        (Kind::BadNumber, "not a number of the right size"),
-        (Kind::BadHex, "not hexadecimal text of the right length"),
-        (Kind::BadRange, "out of range"),
-    ] {
-        assert_eq!(rt; fault_text(kind), text);
+        Err(error) => assert_eq!(rt; error, TextError::NoMemory),
+    }
+}
+
+#[test]
+fn refused_run_script(rt: HostRuntime) {
+    let mut reader = Watched::new(FILL.as_bytes());
+    let mut writer = Watched::new(Paper::new(256, true));
+    match run_script(rt.alloc(), &mut reader, &mut writer, DEFAULTS) {
+        Ok(()) => assert!(rt; writer.into_inner().holds(FILL_ANSWER.as_bytes())),
+        Err(fault) => {
+            assert_eq!(rt; fault, RunFault::NoMemory);
+            let paper = writer.into_inner();
+            let front = FILL_ANSWER.as_bytes().get(..paper.len).unwrap_or(b"none");
+            assert!(rt; paper.holds(front));
+        }
     }
 }

@@ -1,6 +1,6 @@
 use Rattle.std.proofs.Common.{◌≡◌, List, ℕ, Ok, subst, arith}
 use Rattle.std.specs.Io.KnownBytes.{Appends}
-use Rattle.dml_script.specs.Grammar.{parse}
+use Rattle.dml_grammar.specs.Grammar.{parse}
 use Rattle.dml_script.specs.Watching.{inner_of, AppendsFront}
 use Rattle.dml_script.proofs.FitLemmas.{runnable}
 use Rattle.dml_script.proofs.RunLemmas.{answer_is, parsed_lines}

@@ -1,0 +1,9 @@
+pub mod EntryLemmas
+pub mod FirstFaultLemmas
+pub mod LeftLemmas
+pub mod LineLemmas
+pub mod NumberLemmas
+pub mod PageLemmas
+pub mod PresenceLemmas
+pub mod Rows
+pub mod WordLemmas

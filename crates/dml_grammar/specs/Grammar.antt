@@ -1,0 +1,234 @@
+-- The grammar of scripts: from the bytes of a script to its lines, or to its first fault.
+use Rattle.std.specs.Prelude.{ℕ, ◌+◌, ◌/◌, ◌^◌, Bool, true, false, not, ◌&&◌, ◌||◌, if◌then◌else◌, List, [], ◌∷◌, ◌++◌, length, map, nat_eq, nat_lt, nat_le, bytes_eq, find, Option, Some, None, is_none, unwrap_or, slice_index, slice_index_or, Result, Ok, Err}
+use Rattle.std.specs.List.{flat_map, list_all, list_any, range_with_len}
+use Rattle.std.specs.Option.{option_map, option_and_then}
+use Rattle.std.specs.Str.Lines.{lines}
+use Rattle.dml_desc.specs.Descriptor.{decoded, u8_at}
+use Rattle.dml_types.specs.Job.{no_op_job, move_job, fill_job, dualcast_job}
+use Rattle.dml_types.specs.Memory.{page_size}
+use Rattle.dml_grammar.specs.declared.faults.Kind.{Kind}
+use Rattle.dml_grammar.specs.declared.faults.Kind.TheVariants.{LongLine, NotAscii, UnknownWord, MissingImage, SecondImage, WrongWords, BadNumber, BadHex, BadRange}
+use Rattle.dml_grammar.specs.declared.faults.ScriptFault.{ScriptFault}
+use Rattle.dml_grammar.specs.declared.lines.Line.{Line}
+use Rattle.dml_grammar.specs.declared.lines.Line.TheVariants as line
+use Rattle.dml_grammar.specs.declared.table.Word.{Word}
+use Rattle.dml_grammar.specs.declared.table.Word.TheVariants as word
+use Rattle.dml_grammar.specs.declared.table.Slot.{Slot}
+use Rattle.dml_grammar.specs.declared.table.Slot.TheVariants.{Number, Digits}
+use Rattle.dml_grammar.specs.declared.table.Part.{Part}
+use Rattle.dml_grammar.specs.declared.table.Part.TheVariants.{One, Maybe, Named}
+use Rattle.dml_grammar.specs.Number.{number_of, at_most, bytes_in}
+use Rattle.dml_grammar.specs.Table.{word_with, parts_in, suffix_text}
+use Rattle.dml_grammar.specs.Text.{words, is_text}
+
+-- the longest line
+abbrev pub longest_line : ℕ
+longest_line = 16384
+
+-- Words and parts. Each part of a line has one entry: what it is, and the word that stands there, if any.
+
+abbrev pub word_after : List (List ℕ) → Option (Option (List ℕ) × List (List ℕ))
+word_after [] = None
+word_after (w ∷ ws) = Some (Some w, ws)
+
+abbrev pub named_after : List ℕ → List (List ℕ) → Option (Option (List ℕ) × List (List ℕ))
+named_after name [] = Some (None, [])
+named_after name (w ∷ ws) = if bytes_eq w name then word_after ws else Some (None, w ∷ ws)
+
+-- what a part takes of the words, and the words that are left; None where its word is missing
+abbrev pub taken : Part → List (List ℕ) → Option (Option (List ℕ) × List (List ℕ))
+taken (One slot) ws = word_after ws
+taken (Maybe slot) [] = Some (None, [])
+taken (Maybe slot) (w ∷ ws) = Some (Some w, ws)
+taken (Named name slot) ws = named_after (suffix_text name) ws
+
+abbrev pub slot_of : Part → Slot
+slot_of (One slot) = slot
+slot_of (Maybe slot) = slot
+slot_of (Named name slot) = slot
+
+abbrev pub with_first : Slot × Option (List ℕ) → Option (List (Slot × Option (List ℕ))) → Option (List (Slot × Option (List ℕ)))
+with_first entry entries = option_map (λ more. entry ∷ more) entries
+
+-- the entries of all parts, or None where a word is missing or left over
+abbrev pub fitted : List Part → List (List ℕ) → Option (List (Slot × Option (List ℕ)))
+fitted [] [] = Some []
+fitted [] (w ∷ ws) = None
+fitted (part ∷ parts) ws = option_and_then (λ t. with_first (slot_of part, t.0) (fitted parts t.1)) (taken part ws)
+
+-- Values of words: the number of each entry, and the bytes of the hexadecimal one.
+
+pub record Values : Type 0 where
+  pub numbers : List (Option ℕ)
+  pub bytes : List ℕ
+
+abbrev pub slot_number : Slot → Option (List ℕ) → Option ℕ
+slot_number slot None = None
+slot_number (Number largest) (Some w) = at_most largest (number_of w)
+slot_number (Digits least most) (Some w) = None
+
+abbrev pub slot_bytes : Slot → Option (List ℕ) → List ℕ
+slot_bytes slot None = []
+slot_bytes (Number largest) (Some w) = []
+slot_bytes (Digits least most) (Some w) = unwrap_or (bytes_in least most w) []
+
+abbrev pub values_of : List (Slot × Option (List ℕ)) → Values
+values_of entries =
+    record { numbers = map (λ e. slot_number e.0 e.1) entries; bytes = flat_map (λ e. slot_bytes e.0 e.1) entries }
+
+-- the number of an entry; 0 where its word was left out
+abbrev pub number_at : Values → ℕ → ℕ
+number_at values place = unwrap_or (slice_index_or values.numbers place None) 0
+
+-- The lines before, which say what the image has.
+
+abbrev pub pages_of : List Line → ℕ
+pages_of (line.Image pages ∷ after) = pages
+pages_of other = 0
+
+abbrev pub brings : ℕ → Line → Bool
+brings page (line.Image pages) = false
+brings page (line.Page number bytes) = nat_eq number page
+brings page (line.Poke address bytes) = false
+brings page (line.Job job) = false
+brings page (line.Show address len) = false
+
+abbrev pub is_present : List Line → ℕ → Bool
+is_present before page = list_any (brings page) before
+
+abbrev pub has_bytes : List Line → ℕ → ℕ → Bool
+has_bytes before address n = list_all (λ i. is_present before ((address + i) / page_size)) (range_with_len 0 n)
+
+-- Lines.
+
+abbrev pub line_of : Word → Values → Line
+line_of word.Image v = line.Image (number_at v 0)
+line_of word.Page v = line.Page (number_at v 0) v.bytes
+line_of word.Poke v = line.Poke (number_at v 0) v.bytes
+line_of word.NoOp v = line.Job (record no_op_job { flags = number_at v 0 })
+line_of word.Move v = line.Job (record (move_job (number_at v 0) (number_at v 1) (number_at v 2)) { flags = number_at v 3 })
+line_of word.Fill v = line.Job (record (fill_job (number_at v 0) (number_at v 1) (number_at v 2)) { flags = number_at v 3 })
+line_of word.Dualcast v =
+    line.Job (record (dualcast_job (number_at v 0) (number_at v 1) (number_at v 2) (number_at v 3)) { flags = number_at v 4 })
+line_of word.Raw v = line.Job (decoded v.bytes)
+line_of word.Show v = line.Show (number_at v 0) (number_at v 1)
+
+-- whether a line's numbers are out of range: pages 1 to 4,096, a page of the image, present bytes, 1 to 65,536 bytes to show
+abbrev pub is_out_of_range : Word → Values → List Line → Bool
+is_out_of_range word.Image v before = not (nat_le 1 (number_at v 0) && nat_le (number_at v 0) 4096)
+is_out_of_range word.Page v before = not (nat_lt (number_at v 0) (pages_of before))
+is_out_of_range word.Poke v before = not (has_bytes before (number_at v 0) (length v.bytes))
+is_out_of_range word.NoOp v before = false
+is_out_of_range word.Move v before = false
+is_out_of_range word.Fill v before = false
+is_out_of_range word.Dualcast v before = false
+is_out_of_range word.Raw v before = false
+is_out_of_range word.Show v before =
+    not (nat_le 1 (number_at v 1) && nat_le (number_at v 1) 65536) || nat_lt (2 ^ 64) (number_at v 0 + number_at v 1)
+
+-- the opcodes whose lines are not read yet: both compares, create and apply
+abbrev pub later_opcodes : List ℕ
+later_opcodes = 0x05 ∷ 0x06 ∷ 0x07 ∷ 0x08 ∷ []
+
+-- whether a descriptor has one of these; its opcode is byte 7
+abbrev pub has_later_opcode : Word → Values → Bool
+has_later_opcode word.Image v = false
+has_later_opcode word.Page v = false
+has_later_opcode word.Poke v = false
+has_later_opcode word.NoOp v = false
+has_later_opcode word.Move v = false
+has_later_opcode word.Fill v = false
+has_later_opcode word.Dualcast v = false
+has_later_opcode word.Raw v = list_any (λ opcode. nat_eq (u8_at v.bytes 7) opcode) later_opcodes
+has_later_opcode word.Show v = false
+
+-- Faults: in their order, each with what to look for.
+
+abbrev pub slot_fault : Slot → Option (List ℕ) → Bool × Kind
+slot_fault slot None = (false, BadNumber)
+slot_fault (Number largest) (Some w) = (is_none (at_most largest (number_of w)), BadNumber)
+slot_fault (Digits least most) (Some w) = (is_none (bytes_in least most w), BadHex)
+
+abbrev pub entry_faults : Word → Option (List (Slot × Option (List ℕ))) → List Line → List (Bool × Kind)
+entry_faults first None before = (true, WrongWords) ∷ []
+entry_faults first (Some entries) before =
+    map (λ e. slot_fault e.0 e.1) entries
+    ++ (has_later_opcode first (values_of entries), UnknownWord) ∷ (is_out_of_range first (values_of entries) before, BadRange) ∷ []
+
+abbrev pub rest_faults : Word → List (List ℕ) → List Line → List (Bool × Kind)
+rest_faults first after before = entry_faults first (fitted (parts_in first) after) before
+
+abbrev pub is_image : Word → Bool
+is_image word.Image = true
+is_image word.Page = false
+is_image word.Poke = false
+is_image word.NoOp = false
+is_image word.Move = false
+is_image word.Fill = false
+is_image word.Dualcast = false
+is_image word.Raw = false
+is_image word.Show = false
+
+-- the first line is the `image` line, and the only one
+abbrev pub place_faults : Word → List Line → List (Bool × Kind)
+place_faults first before =
+    (nat_eq (length before) 0 && not (is_image first), MissingImage)
+    ∷ (nat_lt 0 (length before) && is_image first, SecondImage) ∷ []
+
+abbrev pub word_faults : Option Word → List (List ℕ) → List Line → List (Bool × Kind)
+word_faults None after before = (true, UnknownWord) ∷ []
+word_faults (Some first) after before =
+    place_faults first before ++ rest_faults first after before
+
+abbrev pub faults_of : List ℕ → List ℕ → List (List ℕ) → List Line → List (Bool × Kind)
+faults_of text first after before =
+    (nat_lt longest_line (length text), LongLine) ∷ (not (list_all is_text text), NotAscii)
+    ∷ word_faults (word_with first) after before
+
+abbrev pub first_of : List (Bool × Kind) → Option Kind
+first_of faults = option_map (λ fault. fault.1) (find (λ fault. fault.0) faults)
+
+-- What a line of text is, after the lines before it.
+
+pub data Verdict : Type 0 where
+  Skipped : Verdict
+  Faulty : (kind : Kind) → Verdict
+  Fine : (line : Line) → Verdict
+
+-- the line of words that have no fault; an unknown word and words that do not fit have one
+abbrev pub line_in : Option Word → List (List ℕ) → Verdict
+line_in None after = Skipped
+line_in (Some first) after = Fine (line_of first (values_of (unwrap_or (fitted (parts_in first) after) [])))
+
+abbrev pub judged : Option Kind → Option Word → List (List ℕ) → Verdict
+judged (Some kind) first after = Faulty kind
+judged None first after = line_in first after
+
+abbrev pub is_comment : List ℕ → Bool
+is_comment first = nat_eq (slice_index first 0) 35
+
+-- a line is skipped that has no word, or whose first word begins with `#`
+abbrev pub verdict_of : List (List ℕ) → List ℕ → List Line → Verdict
+verdict_of [] text before = Skipped
+verdict_of (first ∷ after) text before =
+    if is_comment first then Skipped else judged (first_of (faults_of text first after before)) (word_with first) after
+
+abbrev pub verdict : List ℕ → List Line → Verdict
+verdict text before = verdict_of (words text) text before
+
+-- The lines of a script, or its first fault with the number of its line.
+
+abbrev pub fault_at : ℕ → Kind → ScriptFault
+fault_at number kind = record { line = number; kind = kind }
+
+-- the texts from a line's number on, after the lines before
+unfoldable pub parse_from : ℕ → List Line → List (List ℕ) → Result (List Line) ScriptFault
+parse_from number before [] = if nat_eq (length before) 0 then Err (fault_at number MissingImage) else Ok before
+parse_from number before (text ∷ texts) = elim (verdict text before) [
+  | Skipped ↦ parse_from (number + 1) before texts
+  | Faulty kind ↦ Err (fault_at number kind)
+  | Fine found ↦ parse_from (number + 1) (before ++ found ∷ []) texts
+]
+
+unfoldable pub parse : List ℕ → Result (List Line) ScriptFault
+parse bytes = parse_from 1 [] (lines bytes)

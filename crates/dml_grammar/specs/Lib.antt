@@ -1,0 +1,9 @@
+pub mod Faults
+pub mod FirstFault
+pub mod Grammar
+pub mod Left
+pub mod Number
+pub mod Pages
+pub mod Reads
+pub mod Table
+pub mod Text

@@ -1,0 +1,27 @@
+-- What a line may ask of the lines before it, and the shortest lines that answer alike: the reader keeps no others.
+use Rattle.std.specs.Prelude.{◌≡◌, ℕ, ◌+◌, Bool, true, false, List, [], ◌∷◌, length, nat_eq, slice_index_or}
+use Rattle.dml_grammar.specs.declared.lines.Line.{Line}
+use Rattle.dml_grammar.specs.declared.lines.Line.TheVariants as line
+use Rattle.dml_grammar.specs.Grammar.{pages_of, is_present}
+
+-- the image of lines has these pages, each present or not
+pub record Tracks (present : List Bool) (before : List Line) : Type 0 where
+  pub pages : length present ≡ pages_of before
+  pub marks : (page : ℕ) → slice_index_or present page false ≡ is_present before page
+
+-- what may be asked has one answer after these lines and after those
+pub record Alike (these those : List Line) : Type 0 where
+  pub none : nat_eq (length these) 0 ≡ nat_eq (length those) 0
+  pub pages : pages_of these ≡ pages_of those
+  pub marks : (page : ℕ) → is_present these page ≡ is_present those page
+
+-- lines that bring the marked pages, numbered from a number on
+abbrev pub bringing : ℕ → List Bool → List Line
+bringing number [] = []
+bringing number (true ∷ present) = line.Page number [] ∷ bringing (number + 1) present
+bringing number (false ∷ present) = bringing (number + 1) present
+
+-- the lines that make an image of these pages; none where there is no image yet
+abbrev pub lines_for : List Bool → List Line
+lines_for [] = []
+lines_for (first ∷ present) = line.Image (length (first ∷ present)) ∷ bringing 0 (first ∷ present)

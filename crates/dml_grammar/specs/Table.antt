@@ -1,0 +1,64 @@
+-- The table of lines: which words may come after a first word, and what each of them is.
+use Rattle.std.specs.Prelude.{ℕ, List, [], ◌∷◌, Option, codes, bytes_eq, find, map}
+use Rattle.std.specs.Borrow.{Bor}
+use Rattle.std.specs.Option.{option_map}
+use Rattle.dml_grammar.specs.declared.table.Word.{Word}
+use Rattle.dml_grammar.specs.declared.table.Word.TheVariants as word
+use Rattle.dml_grammar.specs.declared.table.Slot.{Slot}
+use Rattle.dml_grammar.specs.declared.table.Slot.TheVariants.{Number, Digits}
+use Rattle.dml_grammar.specs.declared.table.Suffix.{Suffix}
+use Rattle.dml_grammar.specs.declared.table.Suffix.TheVariants.{Flags}
+use Rattle.dml_grammar.specs.declared.table.Part.{Part}
+use Rattle.dml_grammar.specs.declared.table.Part.TheVariants.{One, Maybe, Named}
+
+-- the first words of lines
+abbrev pub first_words : List (List ℕ × Word)
+first_words =
+    (codes "image", word.Image) ∷ (codes "page", word.Page) ∷ (codes "poke", word.Poke) ∷ (codes "noop", word.NoOp)
+    ∷ (codes "move", word.Move) ∷ (codes "fill", word.Fill) ∷ (codes "dualcast", word.Dualcast) ∷ (codes "raw", word.Raw)
+    ∷ (codes "show", word.Show) ∷ []
+
+abbrev pub word_in : List (List ℕ × Word) → List ℕ → Option Word
+word_in rows text = option_map (λ row. row.1) (find (λ row. bytes_eq text row.0) rows)
+
+-- the rows of a table, behind their references
+abbrev pub rows_seen : List (Bor (List ℕ) × Word) → List (List ℕ × Word)
+rows_seen rows = map (λ row. (row.0.now, row.1)) rows
+
+abbrev pub word_with : List ℕ → Option Word
+word_with text = word_in first_words text
+
+-- an address, a pattern or a number whose range is looked for later: 64 bits; and a size of 32 bits
+abbrev pub long : Part
+long = One (Number 0xffff_ffff_ffff_ffff)
+
+abbrev pub short : Part
+short = One (Number 0xffff_ffff)
+
+-- `flags F`, which may be left out
+abbrev pub flags : Part
+flags = Named Flags (Number 0xffffff)
+
+-- 1 to 4,096 bytes in hexadecimal
+abbrev pub page_digits : Slot
+page_digits = Digits 2 8192
+
+-- the 64 bytes of a descriptor in hexadecimal
+abbrev pub descriptor_digits : Slot
+descriptor_digits = Digits 128 128
+
+-- what comes after a first word, in this order
+abbrev pub parts_in : Word → List Part
+parts_in word.Image = long ∷ []
+parts_in word.Page = long ∷ Maybe page_digits ∷ []
+parts_in word.Poke = long ∷ One page_digits ∷ []
+parts_in word.NoOp = flags ∷ []
+parts_in word.Move = long ∷ long ∷ short ∷ flags ∷ []
+parts_in word.Fill = long ∷ long ∷ short ∷ flags ∷ []
+parts_in word.Dualcast = long ∷ long ∷ long ∷ short ∷ flags ∷ []
+parts_in word.Raw = One descriptor_digits ∷ []
+parts_in word.Show = long ∷ long ∷ []
+
+-- the word that a suffix begins with
+abbrev pub suffix_text : Suffix → List ℕ
+suffix_text Flags = codes "flags"

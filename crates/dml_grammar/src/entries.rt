@@ -1,0 +1,132 @@
+//! The words of a line, fitted to the parts that its first word has, and what they write.
+
+ghost use Rattle.std.specs.Prelude.{◌≡◌, ◌≤◌, ◌∷◌, ◌++◌, [], length, IfOk, IfErr, OnOk, Some, None, false};
+ghost use Rattle.std.specs.Option.{option_map};
+ghost use Rattle.dml_grammar.specs.Grammar as grammar;
+ghost use Rattle.dml_grammar.specs.Reads.{word_seen, entries_seen, values_seen, faults_in, Fails};
+ghost use Rattle.dml_grammar.specs.Text.{words};
+
+use crate::faults::{Kind, ReadError};
+use crate::numbers::{bytes_of, number_of};
+use crate::table::{MOST_PARTS, Part, Slot, name_of};
+use crate::words::next_word;
+use arrayvec::ArrayVec;
+use std::alloc::{AllocError, Global};
+
+/// What a part of a line is, and the word that stands there, if any.
+pub type Entry<'a> = (Slot, Option<&'a [u8]>);
+
+/// What a part is.
+fn slot_of(part: Part) -> Slot
+    ensures { result ≡ grammar.slot_of part }
+{
+    match part {
+        Part::One(slot) | Part::Maybe(slot) | Part::Named(_, slot) => slot,
+    }
+}
+
+/// The word that has to come next, and what follows it.
+fn word_after(line: &[u8]) -> Option<(Option<&[u8]>, &[u8])>
+    ensures { option_map (λ t. (word_seen t.0, words t.1.now)) result ≡ grammar.word_after (words line.now) }
+{
+    let (word, rest) = next_word(line)?;
+    Some((Some(word), rest))
+}
+
+/// What a part takes of a line's words, and what follows; None where its word is missing.
+fn taken(part: Part, line: &[u8]) -> Option<(Option<&[u8]>, &[u8])>
+    ensures { option_map (λ t. (word_seen t.0, words t.1.now)) result ≡ grammar.taken part (words line.now) }
+{
+    let Some((word, rest)) = next_word(line) else {
+        return match part {
+            Part::One(_) => None,
+            Part::Maybe(_) | Part::Named(..) => Some((None, line)),
+        };
+    };
+    match part {
+        Part::One(_) | Part::Maybe(_) => Some((Some(word), rest)),
+        Part::Named(suffix, _) if word == name_of(suffix) => word_after(rest),
+        Part::Named(..) => Some((None, line)),
+    }
+}
+
+/// The words of a line, fitted to its parts; None where a word is missing or left over.
+pub fn fit<'a>(parts: &[Part], line: &'a [u8]) -> Option<ArrayVec<Entry<'a>, MOST_PARTS>>
+    requires { length parts.now ≤ MOST_PARTS }
+    ensures { option_map (λ v. entries_seen v.items) result ≡ grammar.fitted parts.now (words line.now) }
+{
+    let mut entries = ArrayVec::new();
+    let mut rest = line;
+    for part in parts {
+        let (word, after) = taken(*part, rest)?;
+        entries.push((slot_of(*part), word));
+        rest = after;
+    }
+    match next_word(rest) {
+        Some(_) => None,
+        None => Some(entries),
+    }
+}
+
+/// What the words of a line write: the number of each entry, and the bytes of the hexadecimal one.
+#[derive(Drop)]
+pub struct Values {
+    pub numbers: ArrayVec<Option<u64>, MOST_PARTS>,
+    pub bytes: Vec<u8>,
+}
+
+/// What a word writes, as its slot says: a number, or bytes.
+fn read_word(alloc: Global, slot: Slot, word: &[u8]) -> Result<(Option<u64>, Vec<u8>), ReadError>
+    ensures number { IfOk result (λ v. v.0 ≡ grammar.slot_number slot (Some word.now)) }
+    ensures bytes { IfOk result (λ v. v.1.items ≡ grammar.slot_bytes slot (Some word.now)) }
+    ensures fine { OnOk result ((grammar.slot_fault slot (Some word.now)).0 ≡ false) }
+    ensures err { IfErr result (λ e. Fails e (grammar.first_of (grammar.slot_fault slot (Some word.now) ∷ []))) }
+{
+    match slot {
+        Slot::Number(largest) => {
+            let Some(number) = number_of(largest, word) else {
+                return Err(ReadError::Fault(Kind::BadNumber));
+            };
+            Ok((Some(number), Vec::new(alloc)))
+        }
+        Slot::Digits(least, most) => {
+            let Some(bytes) = bytes_of(alloc, least, most, word)? else {
+                return Err(ReadError::Fault(Kind::BadHex));
+            };
+            Ok((None, bytes))
+        }
+    }
+}
+
+/// Some bytes, and more after them.
+fn joined(mut bytes: Vec<u8>, more: Vec<u8>) -> Result<Vec<u8>, AllocError>
+    ensures { IfOk result (λ all. all.items ≡ bytes.items ++ more.items) }
+{
+    if bytes.is_empty() {
+        return Ok(more);
+    }
+    bytes.extend_from_slice(more.as_slice())?;
+    Ok(bytes)
+}
+
+/// What the words of a line write.
+pub fn read_entries(alloc: Global, entries: &[Entry]) -> Result<Values, ReadError>
+    requires { length entries.now ≤ MOST_PARTS }
+    ensures values { IfOk result (λ v. values_seen v ≡ grammar.values_of (entries_seen entries.now)) }
+    ensures fine { OnOk result (grammar.first_of (faults_in entries.now) ≡ None) }
+    ensures err { IfErr result (λ e. Fails e (grammar.first_of (faults_in entries.now))) }
+{
+    let mut numbers = ArrayVec::new();
+    let mut bytes = Vec::new(alloc);
+    for (slot, word) in entries {
+        match *word {
+            None => numbers.push(None),
+            Some(word) => {
+                let (number, more) = read_word(alloc, *slot, word)?;
+                numbers.push(number);
+                bytes = joined(bytes, more)?;
+            }
+        }
+    }
+    Ok(Values { numbers, bytes })
+}

@@ -1,0 +1,22 @@
+//! Scripts of data mover jobs: the grammar of their text, and its reader.
+#![tactic(auto)]
+
+mod entries;
+mod faults;
+mod judge;
+mod laws;
+mod lines;
+mod numbers;
+mod reader;
+mod reading;
+mod script;
+mod table;
+mod words;
+
+pub use faults::{Kind, ScriptError, ScriptFault, fault_text};
+pub use laws::law_of_first_fault;
+pub use lines::{Bytes, Line};
+pub use script::{MAX_SCRIPT, Script, ScriptLines, read_script};
+
+#[cfg(test)]
+mod tests;

@@ -1,0 +1,122 @@
+//! The reader of a script's lines.
+
+ghost use Rattle.std.specs.Prelude.{◌≡◌, ◌+◌, ◌≤◌, ◌∷◌, ◌++◌, [], length, None, Some, IfOk, IfSome, IsErrOf, MatchOption};
+ghost use Rattle.std.specs.Str.Lines.{lines};
+ghost use Rattle.dml_grammar.specs.Grammar as grammar;
+ghost use Rattle.dml_grammar.specs.Left.{left_from, nothing_but, with_line};
+ghost use Rattle.dml_grammar.specs.Reads.{IsNext};
+ghost use Rattle.dml_grammar.specs.declared.faults.ScriptError.TheVariants as errors;
+ghost use Rattle.dml_grammar.specs.declared.faults.ScriptFault.{ScriptFault as TheFault};
+
+use crate::faults::{Kind, ReadError, ScriptError, ScriptFault};
+use crate::judge::judge;
+use crate::lines::Line;
+use crate::reading::Reading;
+use crate::script::MAX_SCRIPT;
+use crate::words::next_line;
+use std::alloc::Global;
+use std::marker::Model;
+
+/// Reads a text line by line. It keeps the text that is left and what the lines so far say of the image's pages, and
+/// no line.
+#[derive(Drop)]
+pub struct LineReader<'a> {
+    rest: &'a [u8],
+    number: u32,
+    reading: Reading,
+}
+
+impl<'a> Model for LineReader<'a> {
+    ghost use Rattle.std.specs.Prelude.{◌+◌, ◌≤◌, length};
+    ghost use Rattle.std.specs.Str.Lines.{lines};
+    ghost use Rattle.dml_grammar.specs.Left.{Left, left_from};
+
+    ghost Value = { Left };
+
+    ghost view = { λ reader. left_from reader.number reader.reading (lines reader.rest.now) };
+
+    ghost invariant = { λ reader. reader.number + length reader.rest.now ≤ 4194305 };
+}
+
+impl<'a> LineReader<'a> {
+    ghost use Rattle.std.specs.Prelude.{◌≡◌, ◌≤◌, length};
+    ghost use Rattle.dml_grammar.specs.Left.{Gives, left_in};
+
+    /// Before the first line of a text of at most `MAX_SCRIPT` bytes.
+    #[tactic(auto, unfolding(crate::specs::Left::left_from))]
+    pub fn new(alloc: Global, text: &'a [u8]) -> LineReader<'a>
+        requires { length text.now ≤ MAX_SCRIPT }
+        ensures { result ≡ left_in text.now }
+    {
+        LineReader {
+            rest: text,
+            number: 1,
+            reading: Reading::new(alloc),
+        }
+    }
+
+    /// The next line that is not skipped, None behind the last one, or the text's first fault. Where memory is
+    /// refused, the same line is still the next.
+    #[tactic(auto, using(crate::proofs::LeftLemmas::left_alike))]
+    pub fn next(&mut self, alloc: Global) -> Result<Option<Line>, ScriptError>
+        ensures { Gives result self.old self.new }
+    {
+        let Some(found) = find_line(alloc, &self.reading, self.rest, self.number)? else {
+            return Ok(None);
+        };
+        self.reading.note(alloc, &found.line)?;
+        self.rest = found.rest;
+        self.number = found.number;
+        Ok(Some(found.line))
+    }
+}
+
+/// A line, the text behind it and the number of that text's first line.
+#[derive(Drop)]
+struct FoundLine<'a> {
+    line: Line,
+    rest: &'a [u8],
+    number: u32,
+}
+
+/// The first line of a text that is not skipped, None where there is no more line, or its fault. The text begins at
+/// the line of this number.
+#[tactic(auto, unfolding(crate::specs::Left::left_from))]
+fn find_line<'a>(
+    alloc: Global,
+    reading: &Reading,
+    text: &'a [u8],
+    number: u32,
+) -> Result<Option<FoundLine<'a>>, ScriptError>
+    requires { number + length text.now ≤ 4194305 }
+    ensures line { IfOk result (λ found. MatchOption found (left_from number reading.now (lines text.now) ≡ nothing_but None)
+        (λ f. left_from number reading.now (lines text.now) ≡ with_line f.line (left_from f.number (reading.now ++ f.line ∷ []) (lines f.rest.now)))) }
+    ensures next { IfOk result (λ found. IfSome found (λ f. IsNext reading.now f.line)) }
+    ensures count { IfOk result (λ found. IfSome found (λ f. f.number + length f.rest.now ≤ 4194305)) }
+    ensures fault { (fault : TheFault) → IsErrOf result (errors.Fault fault) → left_from number reading.now (lines text.now) ≡ nothing_but (Some fault) }
+{
+    let mut rest = text;
+    let mut number = number;
+    while !rest.is_empty() {
+        let (text, after) = next_line(rest);
+        number += 1;
+        rest = after;
+        match judge(alloc, reading, text) {
+            Ok(None) => {}
+            Ok(Some(line)) => return Ok(Some(FoundLine { line, rest, number })),
+            Err(ReadError::NoMemory) => return Err(ScriptError::NoMemory),
+            Err(ReadError::Fault(kind)) => return Err(fault_at(number - 1, kind)),
+        }
+    }
+    if reading.is_empty() {
+        return Err(fault_at(number, Kind::MissingImage));
+    }
+    Ok(None)
+}
+
+/// The fault of a line.
+fn fault_at(line: u32, kind: Kind) -> ScriptError
+    ensures { result ≡ errors.Fault (grammar.fault_at line kind) }
+{
+    ScriptError::Fault(ScriptFault { line, kind })
+}

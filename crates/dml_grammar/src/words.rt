@@ -1,0 +1,88 @@
+//! The lines of a text, and the words of a line.
+
+ghost use Rattle.std.specs.Prelude.{◌≡◌, ◌==◌, ◌<◌, ◌≤◌, ◌∷◌, [], MatchOption, length};
+ghost use Rattle.std.specs.List.{position_or_len, prefix_len};
+ghost use Rattle.std.specs.Str.Lines.{lines, strip_carriage_return};
+ghost use Rattle.dml_grammar.specs.Text as text_spec;
+
+use memchr::memchr;
+
+/// The length of the text before its first line feed.
+#[tactic(auto, using(crate::proofs::WordLemmas::first_byte_at))]
+fn line_len(text: &[u8]) -> usize
+    ensures place { result ≡ position_or_len (λ b. b == 10) text.now }
+    ensures within { result ≤ length text.now }
+{
+    memchr(b'\n', text).unwrap_or(text.len())
+}
+
+/// A line without the one carriage return at its end, if it has one.
+fn without_return(line: &[u8]) -> &[u8]
+    ensures { result.now ≡ strip_carriage_return line.now }
+{
+    match line {
+        [front @ .., b'\r'] => front,
+        _ => line,
+    }
+}
+
+/// The first line of a text, and what follows it.
+#[tactic(auto, using(crate::proofs::WordLemmas::lines_at, crate::proofs::WordLemmas::lines_last))]
+pub fn next_line(text: &[u8]) -> (&[u8], &[u8])
+    requires { 0 < length text.now }
+    ensures lines { lines text.now ≡ result.0.now ∷ lines result.1.now }
+    ensures shorter { length result.1.now < length text.now }
+{
+    let end = line_len(text);
+    let (line, rest) = text.split_at(end);
+    if rest.is_empty() {
+        return (line, rest);
+    }
+    let (_, after) = rest.split_at(1);
+    (without_return(line), after)
+}
+
+/// Whether a byte is a space or a tab.
+fn is_blank(byte: u8) -> bool
+    ensures { result ≡ text_spec.is_blank byte }
+{
+    byte == b' ' || byte == b'\t'
+}
+
+/// How many blanks a text begins with.
+#[tactic(auto, using(crate::proofs::WordLemmas::prefix_len_at))]
+fn blank_len(text: &[u8]) -> usize
+    ensures count { result ≡ prefix_len text_spec.is_blank text.now }
+    ensures within { result ≤ length text.now }
+{
+    let mut n = 0;
+    while n < text.len() && is_blank(text[n]) {
+        n += 1;
+    }
+    n
+}
+
+/// How many bytes a text begins with that are no blanks.
+#[tactic(auto, using(crate::proofs::WordLemmas::position_or_len_at))]
+fn word_len(text: &[u8]) -> usize
+    ensures count { result ≡ position_or_len text_spec.is_blank text.now }
+    ensures within { result ≤ length text.now }
+{
+    let mut n = 0;
+    while n < text.len() && !is_blank(text[n]) {
+        n += 1;
+    }
+    n
+}
+
+/// The first word of a line, and what follows it; None where the line has no word.
+#[tactic(auto, using(crate::proofs::WordLemmas::words_none, crate::proofs::WordLemmas::words_at))]
+pub fn next_word(line: &[u8]) -> Option<(&[u8], &[u8])>
+    ensures { MatchOption result (text_spec.words line.now ≡ []) (λ r. text_spec.words line.now ≡ r.0.now ∷ text_spec.words r.1.now) }
+{
+    let (_, text) = line.split_at(blank_len(line));
+    if text.is_empty() {
+        return None;
+    }
+    Some(text.split_at(word_len(text)))
+}

@@ -1,5 +1,5 @@
 -- Writes to the bytes of an image, as its fields hold them: `now` is what contracts see of them.
-use Rattle.std.proofs.Common.{◌≡◌, ℕ, ◌+◌, ◌-◌, ◌*◌, ◌/◌, ◌%◌, ◌<◌, ◌≤◌, List, [], Vec, Bool, length, get_or, set, true, false, rules, refl, sym, ◌∙◌, ap, subst, arith, ⊎_elim}
+use Rattle.std.proofs.Common.{◌≡◌, ℕ, ◌+◌, ◌-◌, ◌*◌, ◌/◌, ◌%◌, ◌<◌, ◌≤◌, List, [], Vec, Bool, length, get_or, set, true, false, None, rules, refl, sym, ◌∙◌, ap, subst, arith, ⊎_elim}
 use Rattle.std.specs.Vec.{with_item, with_items}
 use Rattle.std.proofs.lemmas.List.{places, with_items_is, nil_from_length, length-set, get_or-set_other, get_or-set_same}
 use Rattle.std.proofs.lemmas.Bool.{cases_lt, cases_eq, false≢true}
@@ -8,7 +8,7 @@ use Rattle.dml_types.proofs.MemoryLemmas.{length_overwrite, overwrite_nil, overw
 use Rattle.dml_image.specs.Brought.{brought}
 
 abbrev of_fields : {Y Z : Type 0} → Vec Bool Y → Vec ℕ Z → Memory
-of_fields present content = record { present = present.items; bytes = content.items }
+of_fields present content = record { present = present.items; bytes = content.items; home = None }
 
 all_now : (inside now : Memory) (address n : ℕ) → inside ≡ now → has_all now address n ≡ true → has_all inside address n ≡ true
 all_now inside now address n is all = subst (λ (memory : Memory). has_all memory address n ≡ true) (sym is) all

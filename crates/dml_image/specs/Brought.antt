@@ -1,10 +1,10 @@
 -- A new image, and an image after a page was brought.
-use Rattle.std.specs.Prelude.{ℕ, ◌*◌, Bool, true, false, List, [], replicate, slice_index_or, slice_set}
+use Rattle.std.specs.Prelude.{ℕ, ◌*◌, Bool, true, false, List, [], None, replicate, slice_index_or, slice_set}
 use Rattle.dml_types.specs.Memory.{Memory, page_size, put}
 
 -- no page is present
 abbrev pub all_absent : ℕ → Memory
-all_absent pages = record { present = replicate pages false; bytes = replicate (page_size * pages) 0 }
+all_absent pages = record { present = replicate pages false; bytes = replicate (page_size * pages) 0; home = None }
 
 -- whether the page is present
 abbrev pub has_page : Memory → ℕ → Bool
@@ -16,4 +16,4 @@ brought memory page bytes = put (record memory { present = slice_set memory.pres
 
 -- an image of these pages, to speak of presence alone
 abbrev pub with_pages : List Bool → Memory
-with_pages present = record { present = present; bytes = [] }
+with_pages present = record { present = present; bytes = []; home = None }

@@ -24,13 +24,14 @@ pub struct Image {
 }
 
 impl Model for Image {
+    ghost use Rattle.std.specs.Prelude.{None};
     ghost use Rattle.dml_types.specs.Memory.{Memory, IsMemory};
 
     ghost Value = { Memory };
 
-    ghost view = { λ i. record { present = i.present.items; bytes = i.content.items } };
+    ghost view = { λ i. record { present = i.present.items; bytes = i.content.items; home = None } };
 
-    ghost invariant = { λ i. IsMemory (record { present = i.present.items; bytes = i.content.items }) };
+    ghost invariant = { λ i. IsMemory (record { present = i.present.items; bytes = i.content.items; home = None }) };
 }
 
 impl Image {

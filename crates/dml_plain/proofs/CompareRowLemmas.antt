@@ -1,6 +1,6 @@
 -- The rows of compares over whole pages: too many bytes to compute with, so the laws of the first index and of
 -- overwriting say which offset decides.
-use Rattle.std.proofs.Common.{◌≡◌, ℕ, ◌+◌, ◌/◌, ◌<◌, ◌≤◌, ◌&&◌, ◌==◌, List, [], ◌∷◌, Bool, true, false, length, get_or, replicate, refl, sym, ◌∙◌, ap, arith, ◌⊎◌, ⊎_elim, inl, inr}
+use Rattle.std.proofs.Common.{◌≡◌, ℕ, ◌+◌, ◌/◌, ◌<◌, ◌≤◌, ◌&&◌, ◌==◌, List, [], ◌∷◌, Bool, true, false, None, length, get_or, replicate, refl, sym, ◌∙◌, ap, arith, ◌⊎◌, ⊎_elim, inl, inr}
 use Rattle.std.proofs.lemmas.Bool.{cases_lt, eq-eqb, ne_eqb, and_from, and_right}
 use Rattle.std.proofs.lemmas.List.{get_or-replicate, get_or_past, length-replicate}
 use Rattle.dml_types.specs.declared.operations.Op.TheVariants.{Compare}
@@ -27,7 +27,7 @@ zeros_of n is = record {
 }
 
 abbrev pub four_pages : Bool → List ℕ → ℕ → Memory
-four_pages last zeros place = record { present = true ∷ false ∷ true ∷ last ∷ []; bytes = overwrite zeros place (1 ∷ []) }
+four_pages last zeros place = record { present = true ∷ false ∷ true ∷ last ∷ []; bytes = overwrite zeros place (1 ∷ []); home = None }
 
 has_front : (last : Bool) (zeros : List ℕ) (place i : ℕ) → i < 4096 → has (four_pages last zeros place) i ≡ true
 has_front last zeros place i below = let first_page : i / 4096 ≡ 0 = omega arith in rw first_page refl

@@ -1,5 +1,5 @@
 -- The plain program's bytes, as its fields hold them: `now` is what contracts see of them.
-use Rattle.std.proofs.Common.{◌≡◌, ℕ, ◌+◌, ◌*◌, ◌<◌, ◌≤◌, List, [], ◌∷◌, ◌++◌, Vec, Bool, true, false, not, length, get_or, set, take, sym, ◌∙◌, ap, subst, arith, rules}
+use Rattle.std.proofs.Common.{◌≡◌, ℕ, ◌+◌, ◌*◌, ◌<◌, ◌≤◌, List, [], ◌∷◌, ◌++◌, Vec, Bool, true, false, not, None, length, get_or, set, take, sym, ◌∙◌, ap, subst, arith, rules}
 use Rattle.std.specs.Vec.{with_item}
 use Rattle.std.proofs.lemmas.List.{places, same_lists, length-set, get_or-set_other, get_or-set_same}
 use Rattle.std.proofs.lemmas.Bool.{cases_eq, not-true}
@@ -8,7 +8,7 @@ use Rattle.dml_types.proofs.FirstLemmas.{first_is, passes_at}
 use Rattle.dml_types.proofs.MemoryLemmas.{has_within, put_append}
 
 abbrev of_fields : {Y Z : Type 0} → Vec Bool Y → Vec ℕ Z → Memory
-of_fields present bytes = record { present = present.items; bytes = bytes.items }
+of_fields present bytes = record { present = present.items; bytes = bytes.items; home = None }
 
 pub has_below : {Y Z : Type 0} (present : Vec Bool Y) (bytes : Vec ℕ Z) (now : Memory) (address : ℕ) → of_fields present bytes ≡ now → IsWhole (of_fields present bytes) → has now address ≡ true → address < length now.bytes
 has_below present bytes now address is whole here = has_within now address (subst IsWhole is whole) here
@@ -21,7 +21,7 @@ set_is_overwrite old place x within =
 pub set_is_put : {Y Z : Type 0} (present : Vec Bool Y) (bytes : Vec ℕ Z) (now : Memory) (address x : ℕ) → of_fields present bytes ≡ now → address < length now.bytes → of_fields present (with_item bytes address x) ≡ put now address (x ∷ [])
 set_is_put present bytes now address x is within =
     let below : address < length bytes.items = subst (λ (m : Memory). address < length m.bytes) (sym is) within in
-    ap (λ (items : List ℕ). record { present = present.items; bytes = items }) (set_is_overwrite bytes.items address x below)
+    ap (λ (items : List ℕ). record { present = present.items; bytes = items; home = None }) (set_is_overwrite bytes.items address x below)
     ∙ ap (λ (m : Memory). put m address (x ∷ [])) is
 
 pub set_whole : {Y Z : Type 0} (present : Vec Bool Y) (bytes : Vec ℕ Z) (address x : ℕ) → IsWhole (of_fields present bytes) → IsWhole (of_fields present (with_item bytes address x))

@@ -1,5 +1,5 @@
 -- Worked rows of apply.
-use Rattle.std.specs.Prelude.{◌≡◌, ℕ, ◌-◌, ◌*◌, true, false, List, [], ◌∷◌, ◌++◌, length, replicate}
+use Rattle.std.specs.Prelude.{◌≡◌, ℕ, ◌-◌, ◌*◌, true, false, None, List, [], ◌∷◌, ◌++◌, length, replicate}
 use Rattle.dml_types.specs.declared.statuses.Status.TheVariants.{Success, NotRising, OffsetRange}
 use Rattle.dml_types.specs.Memory.{Memory, put}
 use Rattle.dml_types.specs.Job.{apply_job}
@@ -25,6 +25,7 @@ apply_offset_range =
     record {
       present = true ∷ replicate 127 false ++ true ∷ [];
       bytes = hex 10 0xffffaaaaaaaaaaaaaaaa ++ replicate 6 0 ++ hex 10 0x0400bbbbbbbbbbbbbbbb ++ behind;
+      home = None;
     } in
     let jobs = apply_job 16 10 256 32 ∷ apply_job 0 10 4096 0x80000 ∷ [] in
     Answers memory jobs (answer OffsetRange 0 0 0 0 ∷ answer Success 0 10 0 0 ∷ [])

@@ -15,7 +15,7 @@ hex n digits = map (λ i. digits / 256 ^ (n - 1 - i) % 256) (range_with_len 0 n)
 
 -- an image whose present pages hold zeros
 abbrev pub image : List Bool → Memory
-image present = record { present = present; bytes = replicate (page_size * length present) 0 }
+image present = record { present = present; bytes = replicate (page_size * length present) 0; home = None }
 
 -- the bytes of a page: these first, and then zeros
 abbrev pub page_of : List ℕ → List ℕ

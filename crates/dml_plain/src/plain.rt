@@ -15,13 +15,14 @@ pub struct Plain {
 }
 
 impl Model for Plain {
+    ghost use Rattle.std.specs.Prelude.{None};
     ghost use Rattle.dml_types.specs.Memory.{Memory, IsWhole};
 
     ghost Value = { Memory };
 
-    ghost view = { λ p. record { present = p.present.items; bytes = p.bytes.items } };
+    ghost view = { λ p. record { present = p.present.items; bytes = p.bytes.items; home = None } };
 
-    ghost invariant = { λ p. IsWhole (record { present = p.present.items; bytes = p.bytes.items }) };
+    ghost invariant = { λ p. IsWhole (record { present = p.present.items; bytes = p.bytes.items; home = None }) };
 }
 
 impl Plain {

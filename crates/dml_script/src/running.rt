@@ -2,7 +2,7 @@
 
 ghost use Rattle.std.specs.Prelude.{◌≡◌, ◌≢◌, ◌+◌, ◌^◌, ◌<◌, ◌≤◌, false, true, length, Ok, Err, OnOk, OnErr, IsErrOf, IsOk, IfSome, vec_len};
 ghost use Rattle.std.specs.Io.KnownBytes.{Appends, IsAtEnd};
-ghost use Rattle.dml_types.specs.Refusal.{IsValid};
+ghost use Rattle.dml_types.specs.Limits.{IsValid};
 ghost use Rattle.dml_grammar.specs.Grammar.{parse};
 ghost use Rattle.dml_script.specs.Run.{answer, answer_from, longest_script, opening, text_if};
 ghost use Rattle.dml_script.specs.Runnable.{AllFit, IsRunnable};

@@ -1,4 +1,5 @@
 pub mod FirstLemmas
+pub mod HomeLemmas
 pub mod MemoryLemmas
 pub mod MoveLemmas
 pub mod StepLemmas

@@ -13,7 +13,8 @@ pattern_bytes pattern n = map (pattern_byte pattern) (range_with_len 0 n)
 
 -- a move goes backward exactly where its destination begins inside its source, behind the source's first byte
 abbrev pub direction_by : Op → Job → Direction
-direction_by Move job = if nat_lt job.source job.target && nat_lt job.target (job.source + job.size) then Backward else Forward
+direction_by Move job =
+    if nat_lt job.source job.target && nat_lt job.target (job.source + job.size) then Backward else Forward
 direction_by _ job = Forward
 
 -- the result of a move
@@ -32,20 +33,24 @@ faults_at Move job i = read_fault (job.source + i) ∷ write_fault (job.target +
 faults_at Fill job i = write_fault (job.target + i) ∷ []
 faults_at Compare job i = read_fault (job.source + i) ∷ read_fault (job.target + i) ∷ []
 faults_at ComparePattern job i = read_fault (job.source + i) ∷ []
-faults_at Dualcast job i = read_fault (job.source + i) ∷ write_fault (job.target + i) ∷ write_fault (job.extra + i) ∷ []
+faults_at Dualcast job i =
+    read_fault (job.source + i) ∷ write_fault (job.target + i) ∷ write_fault (job.extra + i) ∷ []
 faults_at _ job i = []
 
 -- whether no byte is absent at an offset and, in the compares, the two bytes are equal
 abbrev pub passes : Op → Memory → Job → ℕ → Bool
 passes Compare memory job i =
-    is_clear memory (faults_at Compare job i) && (byte_at memory (job.source + i) == byte_at memory (job.target + i))
+    is_clear memory (faults_at Compare job i)
+    && (byte_at memory (job.source + i) == byte_at memory (job.target + i))
 passes ComparePattern memory job i =
-    is_clear memory (faults_at ComparePattern job i) && (byte_at memory (job.source + i) == pattern_byte job.target i)
+    is_clear memory (faults_at ComparePattern job i)
+    && (byte_at memory (job.source + i) == pattern_byte job.target i)
 passes op memory job i = is_clear memory (faults_at op job i)
 
 -- how many offsets, in the order of work, come before the first that does not pass
 abbrev pub length_of : Op → Memory → Job → ℕ
-length_of op memory job = first job.size (λ i. not (passes op memory job (offset_in (direction_by op job) job.size i)))
+length_of op memory job =
+    first job.size (λ i. not (passes op memory job (offset_in (direction_by op job) job.size i)))
 
 unfoldable pub moved : Memory → Job → Effect
 moved memory job =
@@ -59,14 +64,17 @@ unfoldable pub dualcast : Memory → Job → Effect
 dualcast memory job =
     let k = length_of Dualcast memory job in
     let bytes = bytes_at memory job.source k in
-    effect_of (put_of job.target bytes ∷ put_of job.extra bytes ∷ []) (stopped_at memory job 0 k (faults_at Dualcast job k))
+    effect_of (put_of job.target bytes ∷ put_of job.extra bytes ∷ [])
+    (stopped_at memory job 0 k (faults_at Dualcast job k))
 
 unfoldable pub filled : Memory → Job → Effect
 filled memory job =
     let k = present_bytes memory job.target job.size in
-    effect_of (put_of job.target (pattern_bytes job.source k) ∷ []) (stopped_at memory job 0 k (faults_at Fill job k))
+    effect_of (put_of job.target (pattern_bytes job.source k) ∷ [])
+    (stopped_at memory job 0 k (faults_at Fill job k))
 
--- the record of a compare that came to offset k; the faults are those of that offset. The whole byte is expected
+-- the record of a compare that came to offset k; the faults are those of that offset. The whole byte is
+-- expected
 abbrev pub compare_answer : Memory → Job → ℕ → List Fault → Record
 compare_answer memory job k faults =
     if k == job.size then ended (judged job (job.expected == 0)) 0 k 0
@@ -75,4 +83,5 @@ compare_answer memory job k faults =
 
 -- either compare: the first offset at which a byte is absent or the two bytes differ decides
 unfoldable pub compared : Op → Memory → Job → Effect
-compared op memory job = let k = length_of op memory job in effect_of [] (compare_answer memory job k (faults_at op job k))
+compared op memory job =
+    let k = length_of op memory job in effect_of [] (compare_answer memory job k (faults_at op job k))

@@ -1,7 +1,8 @@
--- What one chunk of a job gives, over an image: of the job's offsets, blocks or entries, those at least `from` and below `to`.
--- A scan's chunk has the operation's equation on them alone, in the job's direction. One of create looks neither at the maximum
--- nor at the record's pages: both are judged when the chunks are joined. One of apply judges the rise between two of its own
--- entries only, and tells the offset of its first entry where all bytes of that are present, even if the entry is bad.
+-- What one chunk of a job gives, over an image: of the job's offsets, blocks or entries, those at least
+-- `from` and below `to`. A scan's chunk has the operation's equation on them alone, in the job's direction.
+-- One of create looks neither at the maximum nor at the record's pages: both are judged when the chunks are
+-- joined. One of apply judges the rise between two of its own entries only, and tells the offset of its first
+-- entry where all bytes of that are present, even if the entry is bad.
 use Rattle.std.specs.Prelude.{ℕ, ◌+◌, ◌-◌, ◌*◌, not, ◌&&◌, List, [], flat_map, Option, None, Some, option_map, if◌then◌else◌, ◌==◌}
 use Rattle.dml_types.specs.declared.findings.Found.{Found}
 use Rattle.dml_types.specs.declared.findings.Found.TheVariants.{All, Differs, Fault as Faults}
@@ -18,7 +19,8 @@ scan_offset op job from to i = from + offset_in (direction_by op job) (to - from
 
 -- how many offsets come before the first that does not pass
 abbrev pub scan_done : Op → Memory → Job → ℕ → ℕ → ℕ
-scan_done op memory job from to = first (to - from) (λ i. not (passes op memory job (scan_offset op job from to i)))
+scan_done op memory job from to =
+    first (to - from) (λ i. not (passes op memory job (scan_offset op job from to i)))
 
 abbrev pub fault_found : ℕ → Fault → Found
 fault_found done fault = Faults done fault.address (code_of fault.status == 0x83)
@@ -35,10 +37,12 @@ unfoldable pub scan_staged : Op → Memory → Job → ℕ → ℕ → List ℕ
 scan_staged Move memory job from to =
     let done = scan_done Move memory job from to in
     bytes_at memory (job.source + (from + done_from (direction_by Move job) (to - from) done)) done
-scan_staged Dualcast memory job from to = bytes_at memory (job.source + from) (scan_done Dualcast memory job from to)
+scan_staged Dualcast memory job from to =
+    bytes_at memory (job.source + from) (scan_done Dualcast memory job from to)
 scan_staged _ memory job from to = []
 
--- Create, by blocks: the entries of those that differ before the first that is not readable, and the fault of that one.
+-- Create, by blocks: the entries of those that differ before the first that is not readable, and the fault of
+-- that one.
 unfoldable pub create_staged : Memory → Job → ℕ → ℕ → List ℕ
 create_staged memory job from to = flat_map (entry_for memory job) (differing memory job from to)
 
@@ -49,17 +53,20 @@ create_fault memory job from to =
 
 -- Apply, by entries: those before the first bad one, and that one with its fault.
 unfoldable pub apply_staged : Memory → Job → ℕ → ℕ → List ℕ
-apply_staged memory job from to = bytes_at memory (job.source + 10 * from) (10 * good_entries memory job from to)
+apply_staged memory job from to =
+    bytes_at memory (job.source + 10 * from) (10 * good_entries memory job from to)
 
 unfoldable pub apply_bad : Memory → Job → ℕ → ℕ → Option (ℕ × Fault)
 apply_bad memory job from to =
     let x = from + good_entries memory job from to in
     if x == to then None else option_map (λ fault. (x, fault)) (entry_fault from memory job x)
 
--- the offset of the chunk's first entry, good or bad, where all its bytes are present; and that of its last good one
+-- the offset of the chunk's first entry, good or bad, where all its bytes are present; and that of its last
+-- good one
 unfoldable pub apply_first : Memory → Job → ℕ → ℕ → Option ℕ
 apply_first memory job from to =
-    if not (from == to) && has_all memory (job.source + 10 * from) 10 then Some (offset_at memory job from) else None
+    if not (from == to) && has_all memory (job.source + 10 * from) 10
+    then Some (offset_at memory job from) else None
 
 unfoldable pub apply_last : Memory → Job → ℕ → ℕ → Option ℕ
 apply_last memory job from to =

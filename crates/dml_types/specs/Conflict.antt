@@ -10,16 +10,19 @@ ranges_of table job = unwrap_or (option_map (λ op. table op job) (op_of job)) [
 -- a written range of one shares a byte with a range of the other
 abbrev pub conflict : Job → Job → Bool
 conflict a b =
-    any_shares (ranges_of writes a) (ranges_of reads b) || any_shares (ranges_of writes a) (ranges_of writes b)
+    any_shares (ranges_of writes a) (ranges_of reads b)
+    || any_shares (ranges_of writes a) (ranges_of writes b)
     || any_shares (ranges_of reads a) (ranges_of writes b)
 
 -- the jobs at two places of a list clash where they conflict
 abbrev pub clash_of : List Job → ℕ → ℕ → Bool
 clash_of jobs i k = conflict (slice_index_or jobs i no_op_job) (slice_index_or jobs k no_op_job)
 
--- for any `clash` of places: one more than the greatest level of an earlier job that clashes with job i, 0 where none does
+-- for any `clash` of places: one more than the greatest level of an earlier job that clashes with job i, 0
+-- where none does
 abbrev pub level_over : (ℕ → ℕ → Bool) → List ℕ → ℕ → ℕ
-level_over clash levels i = fold max 0 (map (λ k. slice_index levels k + 1) (filter (λ k. clash k i) (range_with_len 0 i)))
+level_over clash levels i =
+    fold max 0 (map (λ k. slice_index levels k + 1) (filter (λ k. clash k i) (range_with_len 0 i)))
 
 -- the levels of the first n jobs
 abbrev pub levels_of : (ℕ → ℕ → Bool) → ℕ → List ℕ

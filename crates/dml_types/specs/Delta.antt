@@ -1,4 +1,5 @@
--- Create and apply. A delta record's entry: a block's number (the entry's offset) in 2 bytes, low byte first, and the block's 8.
+-- Create and apply. A delta record's entry: a block's number (the entry's offset) in 2 bytes, low byte first,
+-- and the block's 8.
 use Rattle.std.specs.Prelude.{ℕ, ◌+◌, ◌-◌, ◌*◌, ◌/◌, ◌%◌, ◌^◌, Bool, not, ◌&&◌, List, [], ◌∷◌, ◌++◌, map, length, take, filter, flat_map, find, Option, None, Some, is_some, option_map, if◌then◌else◌, ◌==◌, nat_lt, nat_le, slice_index, bytes_eq}
 use Rattle.dml_types.specs.Types.{Job, Record, Success, NotRising, OffsetRange, range_with_len, from_le_bytes, to_le_bytes, w16}
 use Rattle.dml_types.specs.Memory.{first, Memory, Put, put_of, present_bytes, has_all, bytes_at}
@@ -27,9 +28,11 @@ readable_blocks memory job from to = first (to - from) (λ i. not (is_readable m
 
 -- of these, the blocks whose two contents differ, upwards
 abbrev pub differing : Memory → Job → ℕ → ℕ → List ℕ
-differing memory job from to = filter (differs memory job) (range_with_len from (readable_blocks memory job from to))
+differing memory job from to =
+    filter (differs memory job) (range_with_len from (readable_blocks memory job from to))
 
--- how many entries' places in the record range, of those up to the maximum, come before the first with an absent byte
+-- how many entries' places in the record range, of those up to the maximum, come before the first with an
+-- absent byte
 abbrev pub entry_room : Memory → Job → ℕ
 entry_room memory job = first (job.delta_size / 10) (λ x. not (has_all memory (job.extra + 10 * x) 10))
 
@@ -52,7 +55,8 @@ crowded memory job room b =
     if room == job.delta_size / 10 then ended (judged job (expects job 2)) 2 (8 * b) (10 * room)
     else faulted (write_fault (first_absent memory (job.extra + 10 * room) 10)) 0 (8 * b) (10 * room)
 
--- the completion record where all entries were written: a read fault at the first block that is not readable, else the end
+-- the completion record where all entries were written: a read fault at the first block that is not readable,
+-- else the end
 abbrev pub written_out : Memory → Job → ℕ → Record
 written_out memory job entries =
     let s = readable_blocks memory job 0 (job.size / 8) in
@@ -72,16 +76,22 @@ created memory job =
 abbrev pub offset_at : Memory → Job → ℕ → ℕ
 offset_at memory job x = from_le_bytes w16 (bytes_at memory (job.source + 10 * x) 2)
 
--- the fault for which entry x is bad: of the causes, in order, the first that holds. The offsets of the entries after the one
--- named `behind` have to rise: a whole job says 0, a chunk its first entry
+-- the fault for which entry x is bad: of the causes, in order, the first that holds. The offsets of the
+-- entries after the one named `behind` have to rise: a whole job says 0, a chunk its first entry
 abbrev pub entry_fault : ℕ → Memory → Job → ℕ → Option Fault
 entry_fault behind memory job x =
     let offset = offset_at memory job x in
     let causes : List (Bool × Fault) =
     (not (has_all memory (job.source + 10 * x) 10), read_fault (first_absent memory (job.source + 10 * x) 10))
-    ∷ (nat_lt behind x && nat_le offset (offset_at memory job (x - 1)), record { status = NotRising; address = 0 })
+    ∷ (
+      nat_lt behind x && nat_le offset (offset_at memory job (x - 1)),
+      record { status = NotRising; address = 0 },
+    )
     ∷ (nat_le (job.size / 8) offset, record { status = OffsetRange; address = 0 })
-    ∷ (not (has_block memory job.target offset), write_fault (first_absent memory (job.target + 8 * offset) 8)) ∷ [] in
+    ∷ (
+      not (has_block memory job.target offset),
+      write_fault (first_absent memory (job.target + 8 * offset) 8),
+    ) ∷ [] in
     option_map (λ cause. cause.1) (find (λ cause. cause.0) causes)
 
 -- how many of the entries that are at least `from` and below `to` come before the first bad one
@@ -89,7 +99,8 @@ abbrev pub good_entries : Memory → Job → ℕ → ℕ → ℕ
 good_entries memory job from to = first (to - from) (λ i. is_some (entry_fault from memory job (from + i)))
 
 abbrev pub entry_put : Memory → Job → ℕ → Put
-entry_put memory job x = put_of (job.target + 8 * offset_at memory job x) (bytes_at memory (job.source + 10 * x + 2) 8)
+entry_put memory job x =
+    put_of (job.target + 8 * offset_at memory job x) (bytes_at memory (job.source + 10 * x + 2) 8)
 
 abbrev pub apply_answer : ℕ → Option Fault → Record
 apply_answer x None = ended Success 0 (10 * x) 0

@@ -26,8 +26,9 @@ code_of WriteFault = 0x83
 abbrev pub status_with : ℕ → Option Status
 status_with code =
     find (λ status. nat_eq code (code_of status))
-    (Success ∷ FalsePredicate ∷ ReadFault ∷ BatchFailed ∷ NotRising ∷ OffsetRange ∷ BadOpcode ∷ BadFlags ∷ BadSize
-    ∷ BadDeltaSize ∷ Overlap ∷ DualcastBits ∷ Misaligned ∷ RangePast ∷ StagingRefused ∷ WriteFault ∷ [])
+    (Success ∷ FalsePredicate ∷ ReadFault ∷ BatchFailed ∷ NotRising ∷ OffsetRange ∷ BadOpcode ∷ BadFlags
+    ∷ BadSize ∷ BadDeltaSize ∷ Overlap ∷ DualcastBits ∷ Misaligned ∷ RangePast ∷ StagingRefused
+    ∷ WriteFault ∷ [])
 
 pub record Effect : Type 0 where
   pub puts : List Put
@@ -38,7 +39,8 @@ effect_of puts answer = record { puts = puts; answer = answer }
 
 -- the record of a job that no fault stopped, with its status
 abbrev pub ended : Status → ℕ → ℕ → ℕ → Record
-ended status outcome completed delta = record { status = status; result = outcome; completed = completed; fault = 0; delta_size = delta }
+ended status outcome completed delta =
+    record { status = status; result = outcome; completed = completed; fault = 0; delta_size = delta }
 
 -- a cause that stops a job: its status, and the address of the absent byte, 0 where it is another cause
 pub record Fault : Type 0 where
@@ -54,24 +56,34 @@ write_fault address = record { status = WriteFault; address = address }
 -- the record of a job that a fault stopped
 abbrev pub faulted : Fault → ℕ → ℕ → ℕ → Record
 faulted fault outcome completed delta =
-    record { status = fault.status; result = outcome; completed = completed; fault = fault.address; delta_size = delta }
+    record {
+      status = fault.status;
+      result = outcome;
+      completed = completed;
+      fault = fault.address;
+      delta_size = delta;
+    }
 
--- of the faults that may come, in their order: whether none does, and the first that does; `read_fault 0` is for totality alone
+-- of the faults that may come, in their order: whether none does, and the first that does; `read_fault 0` is
+-- for totality alone
 abbrev pub is_clear : Memory → List Fault → Bool
 is_clear memory faults = list_all (λ fault. has memory fault.address) faults
 
 abbrev pub first_fault : Memory → List Fault → Fault
 first_fault memory faults = unwrap_or (find (λ fault. not (has memory fault.address)) faults) (read_fault 0)
 
--- the status of a job that ended with a result which is the expected one, or not: the flag 0x80 asks for a check
+-- the status of a job that ended with a result which is the expected one, or not: the flag 0x80 asks for a
+-- check
 abbrev pub judged : Job → Bool → Status
-judged job is_expected = if not (nat_eq (bit_and job.flags 0x80) 0x80) || is_expected then Success else FalsePredicate
+judged job is_expected =
+    if not (nat_eq (bit_and job.flags 0x80) 0x80) || is_expected then Success else FalsePredicate
 
 -- a refused job
 abbrev pub refused : Status → Effect
 refused status = effect_of [] (ended status 0 0 0)
 
--- the record of a copy or a fill that did k of the job's n bytes; the faults are those of the offset where it stopped
+-- the record of a copy or a fill that did k of the job's n bytes; the faults are those of the offset where it
+-- stopped
 abbrev pub stopped_at : Memory → Job → ℕ → ℕ → List Fault → Record
 stopped_at memory job outcome k faults =
     if k == job.size then ended Success outcome k 0 else faulted (first_fault memory faults) outcome k 0

@@ -1,12 +1,13 @@
--- A job: its operation, flags, constructors, and the ranges that it names. Addresses are whole numbers: nothing wraps.
+-- A job: its operation, flags, constructors, and the ranges that it names. Addresses are whole numbers:
+-- nothing wraps.
 use Rattle.std.specs.Prelude.{option_map, ℕ, ◌+◌, ◌^◌, max, min, Bool, List, [], ◌∷◌, Option, codes, nat_eq, nat_lt, find}
 use Rattle.dml_types.specs.Types.{Job, Span, Op, NoOp, Move, Fill, Compare, ComparePattern, CreateDelta, ApplyDelta, Dualcast, list_any}
 
 -- the operations by their opcodes; every other opcode is unsupported
 abbrev pub operations : List (ℕ × Op)
 operations =
-    (0x00, NoOp) ∷ (0x03, Move) ∷ (0x04, Fill) ∷ (0x05, Compare) ∷ (0x06, ComparePattern) ∷ (0x07, CreateDelta)
-    ∷ (0x08, ApplyDelta) ∷ (0x09, Dualcast) ∷ []
+    (0x00, NoOp) ∷ (0x03, Move) ∷ (0x04, Fill) ∷ (0x05, Compare) ∷ (0x06, ComparePattern)
+    ∷ (0x07, CreateDelta) ∷ (0x08, ApplyDelta) ∷ (0x09, Dualcast) ∷ []
 
 abbrev pub op_of : Job → Option Op
 op_of job = option_map (λ row. row.1) (find (λ row. nat_eq job.opcode row.0) operations)
@@ -23,7 +24,17 @@ accepted_flags = 0x18E
 
 -- the jobs that the constructors make: a field that is not named is 0
 abbrev pub plain : ℕ → Job
-plain opcode = record { opcode = opcode; flags = 0; source = 0; target = 0; size = 0; extra = 0; delta_size = 0; expected = 0 }
+plain opcode =
+    record {
+      opcode = opcode;
+      flags = 0;
+      source = 0;
+      target = 0;
+      size = 0;
+      extra = 0;
+      delta_size = 0;
+      expected = 0;
+    }
 
 abbrev pub no_op_job : Job
 no_op_job = plain 0x00
@@ -38,7 +49,8 @@ abbrev pub compare_job : ℕ → ℕ → ℕ → Job
 compare_job source second size = record (plain 0x05) { source = source; target = second; size = size }
 
 abbrev pub compare_pattern_job : ℕ → ℕ → ℕ → Job
-compare_pattern_job source pattern size = record (plain 0x06) { source = source; target = pattern; size = size }
+compare_pattern_job source pattern size =
+    record (plain 0x06) { source = source; target = pattern; size = size }
 
 abbrev pub create_job : ℕ → ℕ → ℕ → ℕ → ℕ → Job
 create_job source second size delta most =

@@ -4,6 +4,7 @@ pub mod Conflict
 pub mod Delta
 pub mod Effect
 pub mod Job
+pub mod Limits
 pub mod Memory
 pub mod Refusal
 pub mod Step

@@ -1,5 +1,5 @@
 -- A memory image: pages that are present or absent, and the bytes from address 0 on.
-use Rattle.std.specs.Prelude.{◌≡◌, ℕ, ◌+◌, ◌-◌, ◌*◌, ◌/◌, ◌≤◌, Bool, false, not, List, [], ◌∷◌, ◌++◌, length, take, drop, slice_index, slice_index_or, slice_range, nat_eq}
+use Rattle.std.specs.Prelude.{◌≡◌, ℕ, ◌+◌, ◌-◌, ◌*◌, ◌/◌, ◌≤◌, Bool, false, not, Option, List, [], ◌∷◌, ◌++◌, length, take, drop, slice_index, slice_index_or, slice_range, nat_eq}
 use Rattle.dml_types.specs.Types.{Direction, Forward, Backward, position_or_len, range_with_len}
 
 -- the first index: the least i below n with test i, and n where there is none
@@ -9,9 +9,16 @@ first n test = position_or_len test (range_with_len 0 n)
 abbrev pub page_size : ℕ
 page_size = 4096
 
+-- `home` is for the prover alone: the name of the reference that was lent, and none for an image's own pages.
+-- No step reads it or changes it
 pub record Memory : Type 0 where
   pub present : List Bool
   pub bytes : List ℕ
+  pub home : Option ℕ
+
+-- the same pages and bytes elsewhere
+abbrev pub at_home : Memory → Option ℕ → Memory
+at_home memory home = record memory { home = home }
 
 -- there are as many bytes as the pages have, present and absent pages alike
 pub record IsWhole (memory : Memory) : Type 0 where
@@ -35,7 +42,8 @@ offset_in Backward n i = n - 1 - i
 
 -- how many of n bytes come before the first absent one
 abbrev pub present_toward : Direction → Memory → ℕ → ℕ → ℕ
-present_toward direction memory address n = first n (λ i. not (has memory (address + offset_in direction n i)))
+present_toward direction memory address n =
+    first n (λ i. not (has memory (address + offset_in direction n i)))
 
 abbrev pub present_bytes : Memory → ℕ → ℕ → ℕ
 present_bytes memory address n = first n (λ i. not (has memory (address + i)))

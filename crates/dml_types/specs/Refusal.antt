@@ -1,15 +1,7 @@
--- The limits of an engine's settings, and when a job is refused.
-use Rattle.std.specs.Prelude.{◌≡◌, ◌≤◌, unwrap_or, option_map, ℕ, ◌*◌, ◌/◌, ◌%◌, Bool, false, not, ◌||◌, ◌==◌, List, [], ◌∷◌, ◌++◌, Option, None, Some, find, nat_lt, bit_and}
-use Rattle.dml_types.specs.Types.{Job, Settings, Op, NoOp, Move, CreateDelta, ApplyDelta, Dualcast, Status, BadOpcode, BadFlags, BadSize, BadDeltaSize, Misaligned, DualcastBits, Overlap, RangePast, StagingRefused, list_any}
+-- When a job is refused.
+use Rattle.std.specs.Prelude.{unwrap_or, option_map, ℕ, ◌*◌, ◌/◌, ◌%◌, Bool, false, not, ◌||◌, ◌==◌, List, [], ◌∷◌, ◌++◌, Option, None, Some, find, nat_lt, bit_and}
+use Rattle.dml_types.specs.Types.{Job, Op, NoOp, Move, CreateDelta, ApplyDelta, Dualcast, Status, BadOpcode, BadFlags, BadSize, BadDeltaSize, Misaligned, DualcastBits, Overlap, RangePast, StagingRefused, list_any}
 use Rattle.dml_types.specs.Job.{op_of, accepted_flags, span, shares, any_shares, is_past, reads, writes}
-
-pub record IsValid (settings : Settings) : Type 0 where
-  pub staging : settings.staging ≤ 16777216
-  pub least_chunk : 8 ≤ settings.chunk
-  pub most_chunk : settings.chunk ≤ 1048576
-  pub whole_words : settings.chunk % 8 ≡ 0
-  pub least_workers : 1 ≤ settings.workers
-  pub most_workers : settings.workers ≤ 16
 
 -- the staging that a job needs
 abbrev pub need_of : Op → Job → ℕ
@@ -34,7 +26,8 @@ has_bad_size ApplyDelta job = nat_lt 0x80000 job.size || not (job.size % 8 == 0)
 has_bad_size _ job = nat_lt 1048576 job.size
 
 abbrev pub has_bad_delta_size : Op → Job → Bool
-has_bad_delta_size CreateDelta job = nat_lt job.delta_size 10 || nat_lt 655360 job.delta_size || not (job.delta_size % 10 == 0)
+has_bad_delta_size CreateDelta job =
+    nat_lt job.delta_size 10 || nat_lt 655360 job.delta_size || not (job.delta_size % 10 == 0)
 has_bad_delta_size ApplyDelta job = nat_lt 655360 job.delta_size || not (job.delta_size % 10 == 0)
 has_bad_delta_size _ job = false
 
@@ -53,7 +46,8 @@ abbrev pub has_overlap : Op → Job → Bool
 has_overlap CreateDelta job = any_shares (writes CreateDelta job) (reads CreateDelta job)
 has_overlap ApplyDelta job = any_shares (writes ApplyDelta job) (reads ApplyDelta job)
 has_overlap Dualcast job =
-    any_shares (writes Dualcast job) (reads Dualcast job) || shares (span job.target job.size) (span job.extra job.size)
+    any_shares (writes Dualcast job) (reads Dualcast job)
+    || shares (span job.target job.size) (span job.extra job.size)
 has_overlap _ job = false
 
 abbrev pub has_range_past : Op → Job → Bool
@@ -63,8 +57,9 @@ has_range_past op job = list_any is_past (reads op job ++ writes op job)
 abbrev pub rules_of : Op → Job → ℕ → List (Bool × Status)
 rules_of op job staging =
     (has_bad_flags job, BadFlags) ∷ (has_bad_size op job, BadSize) ∷ (has_bad_delta_size op job, BadDeltaSize)
-    ∷ (is_misaligned op job, Misaligned) ∷ (has_dualcast_bits op job, DualcastBits) ∷ (has_overlap op job, Overlap)
-    ∷ (has_range_past op job, RangePast) ∷ (nat_lt staging (need_of op job), StagingRefused) ∷ []
+    ∷ (is_misaligned op job, Misaligned) ∷ (has_dualcast_bits op job, DualcastBits)
+    ∷ (has_overlap op job, Overlap) ∷ (has_range_past op job, RangePast)
+    ∷ (nat_lt staging (need_of op job), StagingRefused) ∷ []
 
 abbrev pub first_broken : List (Bool × Status) → Option Status
 first_broken rules = option_map (λ rule. rule.1) (find (λ rule. rule.0) rules)

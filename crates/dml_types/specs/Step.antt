@@ -1,4 +1,5 @@
--- A job's step on an image, the fold of a list of jobs, one after another, and the job that is left after a page fault.
+-- A job's step on an image, the fold of a list of jobs, one after another, and the job that is left after a
+-- page fault.
 use Rattle.std.specs.Prelude.{ℕ, ◌+◌, ◌-◌, ◌*◌, ◌%◌, ◌^◌, ◌&&◌, ◌||◌, List, [], ◌∷◌, ◌++◌, length, Option, None, Some, option_and_then, if◌then◌else◌, ◌==◌, nat_eq, nat_lt}
 use Rattle.dml_types.specs.Types.{Job, Record, Op, NoOp, Move, Fill, Compare, ComparePattern, CreateDelta, ApplyDelta, Dualcast, Status, BadOpcode, BatchRecord, Success, BatchFailed, list_all, rotate_right, w64}
 use Rattle.dml_types.specs.Job.{op_of, reads, writes}
@@ -39,16 +40,22 @@ memory_after memory (job ∷ jobs) staging = memory_after (step memory job stagi
 
 abbrev pub records_of : Memory → List Job → ℕ → List Record
 records_of memory [] staging = []
-records_of memory (job ∷ jobs) staging = (step memory job staging).1 ∷ records_of (step memory job staging).0 jobs staging
+records_of memory (job ∷ jobs) staging =
+    (step memory job staging).1 ∷ records_of (step memory job staging).0 jobs staging
 
--- a batch is the fold of its jobs, with a record: success where each job has it; the jobs are counted, refused ones included
+-- a batch is the fold of its jobs, with a record: success where each job has it; the jobs are counted,
+-- refused ones included
 abbrev pub batch_answer : List Record → BatchRecord
 batch_answer records =
-    record { status = if list_all (λ r. nat_eq (code_of r.status) 0x01) records then Success else BatchFailed; completed = length records }
+    record {
+      status = if list_all (λ r. nat_eq (code_of r.status) 0x01) records then Success else BatchFailed;
+      completed = length records;
+    }
 
 abbrev pub batch : Memory → List Job → ℕ → Memory × BatchRecord × List Record
 batch memory jobs staging =
-    let records = records_of memory jobs staging in (memory_after memory jobs staging, batch_answer records, records)
+    let records = records_of memory jobs staging in
+    (memory_after memory jobs staging, batch_answer records, records)
 
 -- a pattern whose byte k mod 8 comes first
 abbrev pub turned : ℕ → ℕ → ℕ
@@ -56,19 +63,29 @@ turned pattern k = rotate_right w64 pattern (8 * (k % 8))
 
 -- a job without its first k bytes, for the operations that can go on behind them
 abbrev pub without_front : Op → Job → ℕ → Option Job
-without_front Move job k = Some (record job { source = job.source + k; target = job.target + k; size = job.size - k })
-without_front Fill job k = Some (record job { source = turned job.source k; target = job.target + k; size = job.size - k })
-without_front Compare job k = Some (record job { source = job.source + k; target = job.target + k; size = job.size - k })
+without_front Move job k =
+    Some (record job { source = job.source + k; target = job.target + k; size = job.size - k })
+without_front Fill job k =
+    Some (record job { source = turned job.source k; target = job.target + k; size = job.size - k })
+without_front Compare job k =
+    Some (record job { source = job.source + k; target = job.target + k; size = job.size - k })
 without_front ComparePattern job k =
     Some (record job { source = job.source + k; target = turned job.target k; size = job.size - k })
 without_front Dualcast job k =
-    Some (record job { source = job.source + k; target = job.target + k; extra = job.extra + k; size = job.size - k })
+    Some
+    (record job {
+      source = job.source + k;
+      target = job.target + k;
+      extra = job.extra + k;
+      size = job.size - k;
+    })
 without_front _ job k = None
 
 -- that job, where each of its addresses still fits 64 bits
 abbrev pub rest_behind : Op → Job → ℕ → Option Job
 rest_behind op job k =
-    if list_all (λ range. nat_lt (range.start + k) (2 ^ 64)) (reads op job ++ writes op job) then without_front op job k else None
+    if list_all (λ range. nat_lt (range.start + k) (2 ^ 64)) (reads op job ++ writes op job)
+    then without_front op job k else None
 
 -- a move with result 1 went backward: what is left is its front
 abbrev pub rest_by : Op → Job → Record → Option Job
@@ -77,7 +94,8 @@ rest_by Move job outcome =
     else rest_behind Move job outcome.completed
 rest_by op job outcome = rest_behind op job outcome.completed
 
--- the job that is left after a record: some only after a page fault, a read's (0x03) or a write's (0x83), that left bytes
+-- the job that is left after a record: some only after a page fault, a read's (0x03) or a write's (0x83),
+-- that left bytes
 abbrev pub rest : Job → Record → Option Job
 rest job outcome =
     let code = code_of outcome.status in

@@ -1,9 +1,9 @@
 //! What the definitions mean, as laws of theirs: each is the contract of a function that does nothing.
 
-ghost use Rattle.std.specs.Prelude.{◌≡◌, ℕ, ◌+◌, ◌<◌, ◌≤◌, ◌⊎◌, Bool, true, false, List, [], ◌∷◌, ◌++◌, length, Some, None};
+ghost use Rattle.std.specs.Prelude.{◌≡◌, ℕ, ◌+◌, ◌<◌, ◌≤◌, ◌⊎◌, Bool, true, false, List, [], ◌∷◌, ◌++◌, length, Option, Some, None};
 ghost use Rattle.dml_types.specs.Types.{Job, Status, NoOp, Move};
 ghost use Rattle.dml_types.specs.Job.{op_of};
-ghost use Rattle.dml_types.specs.Memory.{first, Memory, IsWhole, bytes_at, put};
+ghost use Rattle.dml_types.specs.Memory.{first, Memory, IsWhole, at_home, bytes_at, put};
 ghost use Rattle.dml_types.specs.Refusal.{refusal};
 ghost use Rattle.dml_types.specs.Effect.{ended};
 ghost use Rattle.dml_types.specs.Bytewise.{direction_by, done_from, length_of};
@@ -41,6 +41,21 @@ pub fn law_of_steps()
     ensures refused { (memory : Memory) (job : Job) (staging : ℕ) (status : Status) → refusal job staging ≡ Some status →
         step memory job staging ≡ (memory, ended status 0 0 0) }
     ensures no_op { (memory : Memory) (job : Job) (staging : ℕ) → op_of job ≡ Some NoOp → (step memory job staging).0 ≡ memory }
+{}
+
+/// Whose memory it is: a step keeps `home`, and does the same wherever the memory is: the same record, the same bytes,
+/// the same presence. So does a list of jobs.
+pub fn law_of_homes()
+    ensures kept { (memory : Memory) (job : Job) (staging : ℕ) → (step memory job staging).0.home ≡ memory.home }
+    ensures image_elsewhere { (memory : Memory) (home : Option ℕ) (job : Job) (staging : ℕ) →
+        (step (at_home memory home) job staging).0 ≡ at_home (step memory job staging).0 home }
+    ensures record_elsewhere { (memory : Memory) (home : Option ℕ) (job : Job) (staging : ℕ) →
+        (step (at_home memory home) job staging).1 ≡ (step memory job staging).1 }
+    ensures kept_by_jobs { (memory : Memory) (jobs : List Job) (staging : ℕ) → (memory_after memory jobs staging).home ≡ memory.home }
+    ensures images_elsewhere { (memory : Memory) (home : Option ℕ) (jobs : List Job) (staging : ℕ) →
+        memory_after (at_home memory home) jobs staging ≡ at_home (memory_after memory jobs staging) home }
+    ensures records_elsewhere { (memory : Memory) (home : Option ℕ) (jobs : List Job) (staging : ℕ) →
+        records_of (at_home memory home) jobs staging ≡ records_of memory jobs staging }
 {}
 
 /// Folds: a list cut in two is done in parts, there is a record for each job, and presence never changes.

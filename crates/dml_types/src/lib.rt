@@ -17,7 +17,7 @@ mod statuses;
 pub use findings::Found;
 pub use flags::JobFlags;
 pub use jobs::Job;
-pub use laws::{law_of_first, law_of_folds, law_of_moves, law_of_puts, law_of_steps};
+pub use laws::{law_of_first, law_of_folds, law_of_homes, law_of_moves, law_of_puts, law_of_steps};
 pub use limits::Settings;
 pub use operations::{Direction, Op};
 pub use records::{BatchRecord, Record};

@@ -1,5 +1,5 @@
 ghost use Rattle.std.specs.Prelude.{◌↔◌, IsTrue};
-ghost use Rattle.dml_types.specs.Refusal.{IsValid};
+ghost use Rattle.dml_types.specs.Limits.{IsValid};
 
 /// How an engine works. `chunk` and `workers` are meant to change no answer.
 #[derive(Clone, Copy, PartialEq, Eq, Debug)]

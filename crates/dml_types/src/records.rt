@@ -1,5 +1,6 @@
 ghost use Rattle.std.specs.Prelude.{◌≡◌, ◌↔◌, IsTrue};
 ghost use Rattle.dml_types.specs.declared.statuses.Status.TheVariants as status;
+ghost use Rattle.dml_types.specs.Effect.{ended};
 
 use crate::statuses::Status;
 
@@ -18,6 +19,19 @@ pub struct Record {
 }
 
 impl Record {
+    /// The record of a job that did nothing, as a refused one: its status, and 0 in all else.
+    pub fn refused(status: Status) -> Record
+        ensures { result ≡ ended status 0 0 0 }
+    {
+        Record {
+            status,
+            result: 0,
+            completed: 0,
+            fault: 0,
+            delta_size: 0,
+        }
+    }
+
     /// Whether the status is 0x01.
     pub fn is_success(&self) -> bool
         ensures { IsTrue result ↔ (self.now.status ≡ status.Success) }

@@ -3,7 +3,7 @@ use Rattle.std.specs.Prelude.{◌≡◌, ℕ, List, [], length, Option, Result, 
 use Rattle.std.specs.List.{AllPass}
 use Rattle.clap.specs.Words.{IsAmong, Kinds, Row, Text, fault_of, kind_of, subcommand_of}
 use Rattle.hex.specs.Hex.{decode_of, is_hex_digit}
-use Rattle.dml_types.specs.Refusal.{IsValid}
+use Rattle.dml_types.specs.Limits.{IsValid}
 use Rattle.clap.specs.declared.error.Error.{Error}
 use Rattle.dmljob.specs.Line.{IsLine, dmljob}
 use Rattle.dmljob.specs.Refusal.{refusal_of}

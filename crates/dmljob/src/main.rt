@@ -3,7 +3,7 @@
 
 ghost use Rattle.std.specs.Prelude.{IfErr};
 ghost use Rattle.std.specs.Process.{exit_status};
-ghost use Rattle.dml_types.specs.Refusal.{IsValid};
+ghost use Rattle.dml_types.specs.Limits.{IsValid};
 ghost use Rattle.dmljob.specs.Refusal.{EndsWith, IsOfDescription, IsOfRun, IsShown};
 
 mod descriptions;

@@ -1,12 +1,15 @@
 #!/bin/sh
-# Refuses each growth of memory in turn, of the program and of each library's tests named refused_*,
-# and looks at what is answered. Works on the binaries that the gate leaves in crates/NAME/out;
-# `check` calls it. Needs the GNU C library and a C compiler (CC, or cc).
+# Refuses each growth of memory in turn, of the program and of each library's tests named refused_*, and looks at what is
+# answered. Works on the binaries that the gate leaves in crates/NAME/out; `check` calls it. Needs the GNU C library and
+# a C compiler (CC, or cc).
 #
 # The Nth growth is refused by tests/refuse.c, for N from 1 until a run meets no refusal. Then
-# - the program ends with status 4 and `dmljob: out of memory`, having written nothing but the
-#   beginning of its whole answer; or it does without, and answers as with ample memory;
+# - the program ends with status 4 and `dmljob: out of memory`, having written nothing but the beginning of its whole
+#   answer; or it does without, and answers as with ample memory;
 # - a test passes: it takes the call's right answer, or want of memory with nothing changed.
+#
+# Where a test has to make something before its call, a test set_up_of_NAME beside refused_NAME makes it alone. The growths
+# of that run come first in refused_NAME too; they are neither refused nor counted, so that each refusal meets the call.
 cd "$(dirname "$0")/.." || exit 2
 work=$(mktemp -d) || exit 2
 trap 'rm -rf "$work"' EXIT
@@ -36,10 +39,24 @@ is_plain() { # STATUS: the last run is as the plain run was
     [ "$1" = "$plain" ] && cmp -s "$work/out" "$work/answer" && cmp -s "$work/err" "$work/said"
 }
 
-# Each entry of a table says that it met at least one refusal, so that none is passed over.
-counted() { # NAME GROWTHS
-    [ "$2" -gt 0 ] || complain "$1: no growth was refused"
-    printf 'refusals: %s: %s growths refused in turn\n' "$1" "$2"
+# The tests whose calls take no memory, and then those whose calls do. Each has to be there.
+take_none='dml_image:refused_bring dml_engine:refused_submit'
+take_some='dml_arena:refused_new dml_image:refused_new dml_engine:refused_new dml_grammar:refused_read_script
+dml_script:refused_out_text dml_script:refused_job_text dml_script:refused_run_script dmljob:refused_command_of
+dmljob:refused_description'
+
+# Each entry of a table says that it met at least one refusal, so that none is passed over; or that none can come.
+counted() { # NAME GROWTHS [CRATE:TEST]
+    case " $take_none " in
+        *" ${3:-none} "*)
+            [ "$2" = 0 ] || complain "$1: $2 growths were refused, of a call that takes no memory"
+            printf 'refusals: %s: none possible: the call takes no memory\n' "$1"
+            ;;
+        *)
+            [ "$2" -gt 0 ] || complain "$1: no growth was refused"
+            printf 'refusals: %s: %s growths refused in turn\n' "$1" "$2"
+            ;;
+    esac
 }
 
 # program INPUT [WORD..]: the program on that input
@@ -72,6 +89,20 @@ program() {
     counted "$name" "$((number - 1))"
 }
 
+# set_up BINARY TEST: how many growths the set-up of the test takes
+set_up() {
+    alone=${2%refused_*}set_up_of_${2##*refused_}
+    taken=0
+    if grep -qxF "$alone: test" "$work/list"; then
+        while :; do
+            refused "$((taken + 1))" "$1" "$alone" >/dev/null 2>&1 </dev/null
+            [ -f "$work/log" ] || break
+            taken=$((taken + 1))
+        done
+    fi
+    echo "$taken"
+}
+
 # library NAME: each of its tests named refused_*
 library() {
     grep -rq '#\[test\]' "crates/$1/src" || return 0
@@ -82,8 +113,13 @@ library() {
     fi
     "$binary" --list >"$work/list" || complain "$binary --list fails"
     grep -q 'refused_' "$work/list" || printf 'refusals: %s: no test is named refused_*\n' "$1"
-    for test in $(sed -n 's/^\([A-Za-z0-9_:]*refused_[A-Za-z0-9_]*\).*/\1/p' "$work/list"); do
-        number=1
+    for wanted in $take_none $take_some; do
+        [ "${wanted%:*}" != "$1" ] || grep -q "\(^\|:\)${wanted#*:}: test\$" "$work/list" ||
+            complain "$1: there is no test ${wanted#*:}"
+    done
+    for test in $(sed -n 's/^\([A-Za-z0-9_:]*refused_[A-Za-z0-9_]*\): test$/\1/p' "$work/list"); do
+        before=$(set_up "$binary" "$test")
+        number=$((before + 1))
         while :; do
             refused "$number" "$binary" "$test" >"$work/out" 2>&1 </dev/null
             status=$?
@@ -93,7 +129,7 @@ library() {
             [ -f "$work/log" ] || break
             number=$((number + 1))
         done
-        counted "$1 $test" "$((number - 1))"
+        counted "$1 $test" "$((number - 1 - before))" "$1:${test##*:}"
     done
 }
 
@@ -113,15 +149,6 @@ program /dev/null run --help
 program /dev/null decode "$descriptor"
 program /dev/null decode 00
 program /dev/null
-# Each of these tests has to be there.
-for wanted in 'dml_arena refused_new' 'dml_image refused_new' 'dml_image refused_bring' 'dml_engine refused_new' \
-    'dml_engine refused_submit' 'dml_grammar refused_read_script' 'dml_script refused_out_text' \
-    'dml_script refused_job_text' 'dml_script refused_run_script' 'dmljob refused_command_of' 'dmljob refused_description'; do
-    binary=crates/${wanted% *}/out/${wanted% *}_tests
-    if ! "$binary" --list 2>/dev/null | grep -q "${wanted#* }:"; then
-        complain "${wanted% *}: there is no test ${wanted#* }"
-    fi
-done
 for name in $(sed -n 's/^\([a-z0-9_]*\)[^:#]*:.*/\1/p' crates.txt); do
     library "$name"
 done

@@ -1,5 +1,5 @@
 use crate::{Engine, EngineError};
-use dml_image::Image;
+use dml_image::{Image, ImageError};
 use dml_types::{Job, Record, Settings, Status};
 use std::alloc::Global;
 use std::test::Fail;
@@ -97,16 +97,26 @@ fn each_call(rt: HostRuntime) -> Result<(), Fail> {
     Ok(())
 }
 
-/// To be run with each growth of memory refused in turn: the engine, or the image as it was.
+// The refused_* below hold whichever growth is refused: they are also run with each refused in turn, from the first one
+// behind those that their set-up takes.
+
+fn image_of_a_page(alloc: Global) -> Result<Image, ImageError> {
+    let mut image = Image::new(alloc, 1)?;
+    image.bring(0, &[7; 4096])?;
+    Ok(image)
+}
+
+/// What `refused_new` does before its call.
+#[test]
+fn set_up_of_new(rt: HostRuntime) -> Result<(), Fail> {
+    assert_eq!(rt; image_of_a_page(rt.alloc())?.byte(4095), Some(7));
+    Ok(())
+}
+
+/// The engine, or the image as it was.
 #[test]
 fn refused_new(rt: HostRuntime) -> Result<(), Fail> {
-    let Ok(mut image) = Image::new(rt.alloc(), 1) else {
-        return Ok(());
-    };
-    if image.bring(0, &[7; 4096]).is_err() {
-        return Ok(());
-    }
-    let image = match Engine::new(rt.alloc(), image, USUAL) {
+    let image = match Engine::new(rt.alloc(), image_of_a_page(rt.alloc())?, USUAL) {
         Ok(engine) => engine.into_image(),
         Err((image, error)) => {
             assert_eq!(rt; error, EngineError::NoMemory);
@@ -118,12 +128,18 @@ fn refused_new(rt: HostRuntime) -> Result<(), Fail> {
     Ok(())
 }
 
-/// To be run with each growth of memory refused in turn: whatever was refused, a job that is submitted is carried out.
+/// What `refused_submit` does before its calls.
+#[test]
+fn set_up_of_submit(rt: HostRuntime) -> Result<(), Fail> {
+    let engine = engine(rt.alloc()).ok_or("no memory")?;
+    assert_eq!(rt; engine.image().byte(8), Some(0));
+    Ok(())
+}
+
+/// A job that is submitted is carried out.
 #[test]
 fn refused_submit(rt: HostRuntime) -> Result<(), Fail> {
-    let Some(mut engine) = engine(rt.alloc()) else {
-        return Ok(());
-    };
+    let mut engine = engine(rt.alloc()).ok_or("no memory")?;
     let moved = engine.submit(Job::move_bytes(0, 4090, 12));
     assert_eq!(rt; moved, answer(Status::WriteFault, 0, 6, 4096));
     assert_eq!(rt;

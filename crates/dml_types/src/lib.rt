@@ -23,3 +23,6 @@ pub use operations::{Direction, Op};
 pub use records::{BatchRecord, Record};
 pub use spans::Span;
 pub use statuses::Status;
+
+#[cfg(test)]
+mod tests;

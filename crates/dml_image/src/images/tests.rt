@@ -181,7 +181,8 @@ fn check_page(rt: &impl Abort, image: &Image, value: Option<u8>) {
     }
 }
 
-// The two below take either answer: they are also run with each growth refused in turn.
+// The refused_* below take either answer: they are also run with each growth refused in turn, from the first one behind
+// those that their set-up takes.
 
 #[test]
 fn refused_new(rt: HostRuntime) {
@@ -194,11 +195,16 @@ fn refused_new(rt: HostRuntime) {
     }
 }
 
+/// What `refused_bring` does before its call.
 #[test]
-fn refused_bring(rt: HostRuntime) {
-    let Ok(mut image) = Image::new(rt.alloc(), 3) else {
-        return;
-    };
+fn set_up_of_bring(rt: HostRuntime) -> Result<(), Fail> {
+    check_page(&rt, &Image::new(rt.alloc(), 3)?, None);
+    Ok(())
+}
+
+#[test]
+fn refused_bring(rt: HostRuntime) -> Result<(), Fail> {
+    let mut image = Image::new(rt.alloc(), 3)?;
     match image.bring(0, &[0x5a; 4096]) {
         Ok(()) => check_page(&rt, &image, Some(0x5a)),
         Err(error) => {
@@ -206,4 +212,5 @@ fn refused_bring(rt: HostRuntime) {
             check_page(&rt, &image, None);
         }
     }
+    Ok(())
 }

@@ -48,6 +48,8 @@ impl Memory {
     {
         let Memory { ptr, size } = self;
         let Lease { marker: _ } = lease;
+        // SAFETY: by the `requires` the lease is of this allocator and of this block at its full size. Both values are
+        // consumed here: their owner has the whole room, and nothing names it afterwards.
         unsafe { alloc.deallocate(ptr, size, 1) }
     }
 }

@@ -31,6 +31,7 @@ impl<'a> Model for Span<'a> {
     ghost also_shares = { λ s _. span_lent 'a s.ptr s.bytes };
 }
 
+// SAFETY: what a span owns, `span_owns`, is a `&mut` to bytes that no other span has, and bytes may move between threads.
 unsafe impl Send for Span<'_> {}
 
 impl<'a> Span<'a> {
@@ -38,6 +39,8 @@ impl<'a> Span<'a> {
         requires { len ≡ length self.now.bytes }
         ensures { result.now ≡ self.now.bytes }
     {
+        // SAFETY: `len` is the number of bytes held, by the `requires`. They hold values and are lent for as long as `self`
+        // is, by `span_lent`; `fits` keeps their end within the block.
         unsafe { std::slice::from_raw_parts(self.ptr, len) }
     }
 
@@ -48,6 +51,7 @@ impl<'a> Span<'a> {
         ensures back { (block_of result.1.ptr ≡ block_of self.entry.ptr) × (count_of result.1.ptr ≡ count_of self.entry.ptr + n) × (result.1.room ≡ self.entry.room - n) × (result.1.bytes ≡ []) }
     {
         let Span { ptr, mark } = self;
+        // SAFETY: `n` is at most the room, by the `requires`, and the whole room is of one block, by `solid` and `fits`.
         let back = unsafe { ptr.add(n) };
         (
             Span { ptr, mark },
@@ -64,6 +68,8 @@ impl<'a> Span<'a> {
         ensures place { (self.new.ptr ≡ self.old.ptr) × (self.new.room ≡ self.old.room) × (self.new.tie ≡ self.old.tie) }
         ensures bytes { self.new.bytes ≡ self.old.bytes ++ src.now }
     {
+        // SAFETY: `len` bytes are held and `src` fits behind them, by the `requires`: what `span_owns` has there is room,
+        // which `fill` asks for. `src` is borrowed, so it lies elsewhere.
         unsafe { fill(self.ptr.add(len), src) }
     }
 
@@ -96,16 +102,22 @@ impl<'a> Span<'a> {
     {
         let Span { ptr, mark } = self;
         let Span { ptr: from, mark: _ } = next;
+        // SAFETY: by `beside` the second's room begins where the first's ends, by `counts` it holds `count` bytes, and by
+        // `apart` they move down into the first's room. `copy` allows source and destination to overlap.
         unsafe { copy(from as *const u8, ptr.add(len), count) };
         Span { ptr, mark }
     }
 }
 
 // Copies all of `src` into the room at `dst`.
+//
+// SAFETY: the caller owns that room, by the `requires*`, and gets it back with the bytes, by the `ensures*`.
 unsafe fn fill(dst: *mut u8, src: &[u8])
     requires* { sem 𝓛 (room_of dst (length src.now)) }
     ensures* { sem 𝓛 (holds_at dst src.now) }
 {
+    // SAFETY: the row is made of the room that the `requires*` hands over, as long as `src`; `filled` says that all of it is
+    // filled when it is taken apart again.
     unsafe {
         let filled = filled_with(Slots::from_raw_parts(dst, src.len()), src);
         let _ = filled.into_raw_parts();

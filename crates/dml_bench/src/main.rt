@@ -1,4 +1,5 @@
-//! Times `Engine::submit` with one worker: moves, fills and dualcasts, disjoint and overlapping.
+//! Times `Engine::submit` with one worker: moves, fills and dualcasts, disjoint and overlapping; and the calls of an
+//! image that they stand on.
 //!
 //! Each row of the standard error is a name, a size in bytes, and the nanoseconds of one job. Without
 //! arguments each job is timed once, which shows only that it is carried out. One argument, a number of
@@ -12,7 +13,7 @@ ghost use Rattle.dml_types.specs.Step.{step};
 
 use dml_engine::Engine;
 use dml_image::Image;
-use dml_types::{Job, Settings, Status};
+use dml_types::{Direction, Job, Settings, Status};
 use std::alloc::Global;
 use std::time::Instant;
 use std::{env, io};
@@ -30,6 +31,9 @@ const SETTINGS: Settings = Settings {
 };
 
 const MOST_JOBS: u64 = 200_000;
+
+/// Calls of an image begin at this address at most.
+const LAST_START: u64 = 3 * 1_048_576;
 
 /// The number of mebibytes that the first argument asks for, 0 without one.
 fn mebibytes_in(rt: &HostRuntime) -> io::Result<u32> {
@@ -50,7 +54,7 @@ fn jobs_of(mebibytes: u32, size: u32) -> u64
 }
 
 /// An image of 4 MiB, all present.
-fn full_image(alloc: Global) -> io::Result<Image> {
+fn full_image(alloc: Global) -> io::Result<Image<'static>> {
     let Ok(mut image) = Image::new(alloc, PAGES) else {
         return Err(io::ErrorKind::OutOfMemory.into());
     };
@@ -120,9 +124,130 @@ fn time_at(rt: &HostRuntime, engine: &mut Engine, size: u32, jobs: u64) -> io::R
     )
 }
 
+/// A call of an image, on present bytes.
+#[derive(Clone, Copy)]
+enum Call {
+    Move { source: u64, target: u64 },
+    Fill { target: u64 },
+}
+
+/// Carries out a call, by one that the compiler keeps, and says whether the bytes were present.
+#[inline(never)]
+fn called(image: &mut Image, call: Call, size: u32) -> bool
+    requires { size ≤ 1048576 }
+{
+    let (source, target) = match call {
+        Call::Move { source, target } => (source, target),
+        Call::Fill { target } => (target, target),
+    };
+    if source.max(target) > LAST_START
+        || image
+            .first_absent(source, size, Direction::Forward)
+            .is_some()
+        || image
+            .first_absent(target, size, Direction::Forward)
+            .is_some()
+    {
+        return false;
+    }
+    match call {
+        Call::Move { .. } => image.move_within(source, target, size),
+        Call::Fill { .. } => image.fill(target, size, 0x0807_0605_0403_0201),
+    }
+    true
+}
+
+/// Makes a call once, and then times so many more of it.
+fn time_call(
+    rt: &HostRuntime,
+    image: &mut Image,
+    name: &str,
+    call: Call,
+    size: u32,
+    calls: u64,
+) -> io::Result<()>
+    requires size { size ≤ 1048576 }
+    requires some { 0 < calls }
+{
+    called(image, call, size);
+    let start = Instant::now(rt)?;
+    for _ in 0..calls {
+        if !called(image, call, size) {
+            return Err(io::ErrorKind::InvalidData.into());
+        }
+    }
+    let nanoseconds = start.elapsed(rt)?.as_nanos() / u128::from(calls);
+    eprintln!(rt; "{name} {size} {nanoseconds}")
+}
+
+/// Times the calls of an image at one size: disjoint, overlapping by half, and from addresses of no round number.
+fn time_calls_at(rt: &HostRuntime, image: &mut Image, size: u32, calls: u64) -> io::Result<()>
+    requires size { size ≤ 1048576 }
+    requires some { 0 < calls }
+{
+    let mebibyte = u64::from(MEBIBYTE);
+    let half = u64::from(size / 2);
+    let rows = [
+        ("image_move", 0, mebibyte),
+        ("image_move_unaligned", 5, mebibyte + 77),
+        ("image_move_up", mebibyte, mebibyte + half),
+        ("image_move_down", mebibyte + half, mebibyte),
+        (
+            "image_move_up_unaligned",
+            mebibyte + 3,
+            mebibyte + half + 64,
+        ),
+    ];
+    for (name, source, target) in rows {
+        time_call(rt, image, name, Call::Move { source, target }, size, calls)?;
+    }
+    time_call(
+        rt,
+        image,
+        "image_fill",
+        Call::Fill { target: mebibyte },
+        size,
+        calls,
+    )
+}
+
+/// How many of so many bytes, 64 apart and over again, are present.
+#[inline(never)]
+fn present_of(image: &Image, looks: u32) -> u32 {
+    let mut present = 0u32;
+    for k in 0..looks {
+        if image.has(u64::from(k % 65_536) * 64) {
+            present = present.wrapping_add(1); // at most `looks`
+        }
+    }
+    present
+}
+
+/// Times a look at a byte's presence, and the making and dropping of an image of 4,096 absent pages.
+fn time_smaller(rt: &HostRuntime, image: &Image, looks: u32) -> io::Result<()>
+    requires { 0 < looks }
+{
+    let start = Instant::now(rt)?;
+    let present = present_of(image, looks);
+    let picoseconds = start.elapsed(rt)?.as_nanos() * 1000 / u128::from(looks);
+    eprintln!(rt; "has_ps {present} {picoseconds}")?;
+    let start = Instant::now(rt)?;
+    for _ in 0..64 {
+        if Image::new(rt.alloc(), 4096).is_err() {
+            return Err(io::ErrorKind::OutOfMemory.into());
+        }
+    }
+    let nanoseconds = start.elapsed(rt)?.as_nanos() / 64;
+    eprintln!(rt; "image_new 4096 {nanoseconds}")
+}
+
 fn main(rt: HostRuntime) -> io::Result<()> {
     let mebibytes = mebibytes_in(&rt)?;
-    let image = full_image(rt.alloc())?;
+    let mut image = full_image(rt.alloc())?;
+    for size in SIZES {
+        time_calls_at(&rt, &mut image, size, jobs_of(mebibytes, size))?;
+    }
+    time_smaller(&rt, &image, if mebibytes == 0 { 1 } else { 1 << 24 })?;
     let Ok(mut engine) = Engine::new(rt.alloc(), image, SETTINGS) else {
         return Err(io::ErrorKind::OutOfMemory.into());
     };

@@ -144,20 +144,17 @@ fn rows(rt: HostRuntime) {
         size: 4_294_967_295,
         ..Job::no_op()
     };
+    let bad_size = Some(Status::BadSize);
+    let bad_delta = Some(Status::BadDeltaSize);
+    let misaligned = Some(Status::Misaligned);
     let table = [
         // dualcast_bits_refused
         (Job::dualcast(0, 8, 16, 100), Some(Status::DualcastBits)),
         // create_size_refused
-        (Job::create_delta(4, 64, 12, 128, 15), Some(Status::BadSize)),
+        (Job::create_delta(4, 64, 12, 128, 15), bad_size),
         // create_delta_size_refused
-        (
-            Job::create_delta(4, 64, 16, 128, 15),
-            Some(Status::BadDeltaSize),
-        ),
-        (
-            Job::create_delta(4, 64, 16, 128, 20),
-            Some(Status::Misaligned),
-        ),
+        (Job::create_delta(4, 64, 16, 128, 15), bad_delta),
+        (Job::create_delta(4, 64, 16, 128, 20), misaligned),
         // apply_overlap_refused
         (Job::apply_delta(0, 20, 16, 32), Some(Status::Overlap)),
         (Job::apply_delta(0, 0, 0, 32), None),
@@ -171,7 +168,7 @@ fn rows(rt: HostRuntime) {
             Job::move_bytes(0, 0, 1_048_577).with_flags(0x10),
             Some(Status::BadFlags),
         ),
-        (Job::move_bytes(0, 0, 1_048_577), Some(Status::BadSize)),
+        (Job::move_bytes(0, 0, 1_048_577), bad_size),
         (Job::move_bytes(0, 0, 0), None),
         (Job::no_op().with_flags(1), Some(Status::BadFlags)),
     ];
@@ -183,57 +180,40 @@ fn rows(rt: HostRuntime) {
 #[test]
 fn pairs_of_rules(rt: HostRuntime) {
     let top = u64::MAX - 15;
+    let no_op = Job::no_op().with_flags(0x1);
+    let bad_opcode = Job {
+        opcode: 0x20,
+        ..no_op
+    };
+    let bad_size = Some(Status::BadSize);
+    let bad_delta = Some(Status::BadDeltaSize);
+    let misaligned = Some(Status::Misaligned);
+    let overlap = Some(Status::Overlap);
+    let past = Some(Status::RangePast);
+    let flagged = Job::fill(0, 0, 1_048_577).with_flags(0x200);
     let table = [
         // opcode, flags
-        (
-            Job {
-                opcode: 0x20,
-                flags: 0x1,
-                ..Job::no_op()
-            },
-            Some(Status::BadOpcode),
-        ),
+        (bad_opcode, Some(Status::BadOpcode)),
         // flags, size
-        (
-            Job::fill(0, 0, 1_048_577).with_flags(0x200),
-            Some(Status::BadFlags),
-        ),
+        (flagged, Some(Status::BadFlags)),
         // size, delta record size
-        (Job::create_delta(0, 64, 12, 128, 15), Some(Status::BadSize)),
-        (
-            Job::apply_delta(0, 15, 256, 0x8_0008),
-            Some(Status::BadSize),
-        ),
+        (Job::create_delta(0, 64, 12, 128, 15), bad_size),
+        (Job::apply_delta(0, 15, 256, 0x8_0008), bad_size),
         // delta record size, alignment
-        (
-            Job::create_delta(0, 4, 16, 128, 5),
-            Some(Status::BadDeltaSize),
-        ),
-        (Job::apply_delta(0, 5, 252, 16), Some(Status::BadDeltaSize)),
+        (Job::create_delta(0, 4, 16, 128, 5), bad_delta),
+        (Job::apply_delta(0, 5, 252, 16), bad_delta),
         // alignment, overlap
-        (
-            Job::create_delta(4, 64, 16, 16, 20),
-            Some(Status::Misaligned),
-        ),
-        (Job::apply_delta(0, 20, 12, 16), Some(Status::Misaligned)),
+        (Job::create_delta(4, 64, 16, 16, 20), misaligned),
+        (Job::apply_delta(0, 20, 12, 16), misaligned),
         // dualcast bits, overlap
         (Job::dualcast(0, 4096, 4100, 8), Some(Status::DualcastBits)),
         // overlap, range past the end
-        (
-            Job::create_delta(top + 8, 64, 16, top, 20),
-            Some(Status::Overlap),
-        ),
-        (
-            Job::apply_delta(top, 20, top + 8, 16),
-            Some(Status::Overlap),
-        ),
-        (Job::dualcast(top, top, top, 17), Some(Status::Overlap)),
+        (Job::create_delta(top + 8, 64, 16, top, 20), overlap),
+        (Job::apply_delta(top, 20, top + 8, 16), overlap),
+        (Job::dualcast(top, top, top, 17), overlap),
         // range past the end, staging
-        (Job::move_bytes(top, 0, 17), Some(Status::RangePast)),
-        (
-            Job::dualcast(0, 8192, u64::MAX - 4095, 4097),
-            Some(Status::RangePast),
-        ),
+        (Job::move_bytes(top, 0, 17), past),
+        (Job::dualcast(0, 8192, u64::MAX - 4095, 4097), past),
     ];
     expect_answers(&rt, 16, &table);
 }
@@ -280,22 +260,16 @@ fn size_limits(rt: HostRuntime) {
     expect_answers(&rt, STAGING, &table);
 }
 
-/// Addresses: alignment, the agreement of a dualcast's destinations, shared bytes and the end of the space.
+/// Addresses: alignment, the agreement of a dualcast's destinations, and shared bytes.
 #[test]
-fn address_limits(rt: HostRuntime) {
-    let past = Some(Status::RangePast);
-    let top = u64::MAX - 15;
+fn addresses_of_one_job(rt: HostRuntime) {
+    let misaligned = Some(Status::Misaligned);
+    let overlap = Some(Status::Overlap);
     let table = [
-        (
-            Job::create_delta(7, 64, 16, 128, 20),
-            Some(Status::Misaligned),
-        ),
-        (
-            Job::create_delta(8, 63, 16, 128, 20),
-            Some(Status::Misaligned),
-        ),
+        (Job::create_delta(7, 64, 16, 128, 20), misaligned),
+        (Job::create_delta(8, 63, 16, 128, 20), misaligned),
         (Job::create_delta(8, 64, 16, 129, 20), None),
-        (Job::apply_delta(129, 20, 65, 16), Some(Status::Misaligned)),
+        (Job::apply_delta(129, 20, 65, 16), misaligned),
         (Job::apply_delta(129, 20, 64, 16), None),
         (Job::dualcast(0, 4095, 8191, 100), None),
         (
@@ -303,17 +277,27 @@ fn address_limits(rt: HostRuntime) {
             Some(Status::DualcastBits),
         ),
         (Job::dualcast(0, 4096, 8192, 4096), None),
-        (Job::dualcast(0, 4096, 8192, 4097), Some(Status::Overlap)),
-        (Job::dualcast(8192, 4096, 4096, 1), Some(Status::Overlap)),
-        (Job::dualcast(4099, 0, 4096, 4), Some(Status::Overlap)),
+        (Job::dualcast(0, 4096, 8192, 4097), overlap),
+        (Job::dualcast(8192, 4096, 4096, 1), overlap),
+        (Job::dualcast(4099, 0, 4096, 4), overlap),
         (Job::create_delta(0, 64, 16, 24, 40), None),
-        (Job::create_delta(0, 64, 16, 25, 40), Some(Status::Overlap)),
-        (Job::create_delta(0, 64, 16, 15, 40), Some(Status::Overlap)),
+        (Job::create_delta(0, 64, 16, 25, 40), overlap),
+        (Job::create_delta(0, 64, 16, 15, 40), overlap),
         (Job::create_delta(0, 64, 16, 16, 40), None),
-        (Job::create_delta(0, 48, 16, 8, 40), Some(Status::Overlap)),
-        (Job::create_delta(8, 48, 16, 0, 10), Some(Status::Overlap)),
+        (Job::create_delta(0, 48, 16, 8, 40), overlap),
+        (Job::create_delta(8, 48, 16, 0, 10), overlap),
         (Job::apply_delta(32, 20, 16, 16), None),
-        (Job::apply_delta(31, 20, 16, 16), Some(Status::Overlap)),
+        (Job::apply_delta(31, 20, 16, 16), overlap),
+    ];
+    expect_answers(&rt, STAGING, &table);
+}
+
+/// Ranges that end at the end of the address space, and those that go one byte past it.
+#[test]
+fn end_of_address_space(rt: HostRuntime) {
+    let past = Some(Status::RangePast);
+    let top = u64::MAX - 15;
+    let table = [
         (Job::move_bytes(top, 0, 15), None),
         (Job::move_bytes(top, 0, 16), None),
         (Job::move_bytes(top, 0, 17), past),

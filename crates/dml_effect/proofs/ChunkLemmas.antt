@@ -1,5 +1,5 @@
 -- Two neighbouring chunks of a scan are the chunk of both.
-use Rattle.std.proofs.Common.{◌≡◌, ◌⊎◌, ℕ, ◌+◌, ◌-◌, ◌<◌, ◌≤◌, Bool, true, false, not, List, [], ◌++◌, refl, sym, ◌∙◌, ap, ap₂, subst, arith, ⊎_elim, cond, eqb, rules}
+use Rattle.std.proofs.Common.{◌≡◌, ◌≢◌, ℕ, ◌+◌, ◌-◌, ◌<◌, ◌≤◌, Bool, true, false, not, List, [], ◌++◌, refl, sym, ◌∙◌, ap, ap₂, subst, arith, ⊎_elim, cond, eqb, rules}
 use Rattle.std.proofs.lemmas.Bool.{cases_lt, eq-eqb}
 use Rattle.std.proofs.lemmas.List.{places, same_lists}
 use Rattle.dml_types.specs.declared.findings.Found.{Found}
@@ -8,7 +8,7 @@ use Rattle.dml_types.specs.declared.jobs.Job.{Job}
 use Rattle.dml_types.specs.declared.operations.Direction.{Direction}
 use Rattle.dml_types.specs.declared.operations.Direction.TheVariants.{Forward, Backward}
 use Rattle.dml_types.specs.declared.operations.Op.{Op}
-use Rattle.dml_types.specs.declared.operations.Op.TheVariants.{Fill, Move, Dualcast}
+use Rattle.dml_types.specs.declared.operations.Op.TheVariants.{NoOp, Move, Fill, Compare, ComparePattern, CreateDelta, ApplyDelta, Dualcast}
 use Rattle.dml_types.specs.Memory.{first, Memory, bytes_at, offset_in}
 use Rattle.dml_types.specs.Effect.{is_clear, first_fault}
 use Rattle.dml_types.specs.Bytewise.{direction_by, done_from, faults_at, passes}
@@ -19,23 +19,23 @@ use Rattle.dml_effect.specs.Joined.{after, then_found, found_joined, staged_join
 
 -- a part of a scan, by the offsets that come one after another: how many are done, and how it ends
 module _ (op : Op) (memory : Memory) (job : Job) where
-  abbrev blocked : (ℕ → ℕ) → ℕ → Bool
+  abbrev pub blocked : (ℕ → ℕ) → ℕ → Bool
   blocked offset i = not (passes op memory job (offset i))
 
-  abbrev stop_at : ℕ → ℕ → Found
+  abbrev pub stop_at : ℕ → ℕ → Found
   stop_at k offset = cond (is_clear memory (faults_at op job offset)) (Differs k) (fault_found k (first_fault memory (faults_at op job offset)))
 
-  abbrev found_by : ℕ → ℕ → ℕ → Found
+  abbrev pub found_by : ℕ → ℕ → ℕ → Found
   found_by n offset k = cond (eqb k n) All (stop_at k offset)
 
-  abbrev found_in : ℕ → (ℕ → ℕ) → Found
+  abbrev pub found_in : ℕ → (ℕ → ℕ) → Found
   found_in n offset = found_by n (offset (first n (blocked offset))) (first n (blocked offset))
 
-  found_is : (from to : ℕ) → scan_found op memory job from to ≡ found_in (to - from) (scan_offset op job from to)
+  pub found_is : (from to : ℕ) → scan_found op memory job from to ≡ found_in (to - from) (scan_offset op job from to)
   unfolding scan_found
   found_is from to = refl
 
-  ends_at : (n : ℕ) (offset : ℕ → ℕ) (k : ℕ) → first n (blocked offset) ≡ k → k < n → found_in n offset ≡ stop_at k (offset k)
+  pub ends_at : (n : ℕ) (offset : ℕ → ℕ) (k : ℕ) → first n (blocked offset) ≡ k → k < n → found_in n offset ≡ stop_at k (offset k)
   ends_at n offset k is below =
       let short : eqb k n ≡ false = apart k n below in
       ap (λ (j : ℕ). found_by n (offset j) j) is ∙ ap (λ (b : Bool). cond b All (stop_at k (offset k))) short
@@ -214,11 +214,12 @@ module _ (memory : Memory) (job : Job) (from mid to : ℕ) (low : from ≤ mid) 
       ∙ sym (ap (λ (b : Bool). cond b (below ++ above) below) (done_whole Dualcast memory job from mid all))))
       (cases_lt front (mid - from))
 
-  fill_staged : scan_staged Fill memory job from to ≡ staged_neighbours Fill Forward
-  unfolding scan_staged
-  fill_staged = nothing (is_all (scan_found Fill memory job from mid))
+  idle_staged : (op : Op) → ((a b : ℕ) → scan_staged op memory job a b ≡ []) → scan_staged op memory job from to ≡ staged_neighbours op Forward
+  idle_staged op none =
+      let b = is_all (scan_found op memory job from mid) in
+      none from to ∙ sym (ap₂ (λ (xs ys : List ℕ). cond b (xs ++ ys) xs) (none from mid) (none mid to) ∙ nothing b)
     where
-      nothing : (b : Bool) → ◌≡◌ {A = List ℕ} [] (cond b ([] ++ []) [])
+      nothing : (b : Bool) → ◌≡◌ {A = List ℕ} (cond b ([] ++ []) []) []
       nothing true = refl
       nothing false = refl
 
@@ -277,15 +278,34 @@ module _ (memory : Memory) (job : Job) (from mid to : ℕ) (low : from ≤ mid) 
   move_staged Forward is = move_up is
   move_staged Backward is = move_down is
 
-pub neighbours_staged : (op : Op) (memory : Memory) (job : Job) (from mid to : ℕ) → from ≤ mid → mid ≤ to → (direction : Direction) → direction_by op job ≡ direction → (op ≡ Move) ⊎ (op ≡ Fill) ⊎ (op ≡ Dualcast)
-    → scan_staged op memory job from to ≡ staged_joined direction (scan_found op memory job from mid) (scan_staged op memory job from mid) (scan_found op memory job mid to) (scan_staged op memory job mid to)
-neighbours_staged op memory job from mid to low high direction way one =
-    ⊎_elim (λ is. subst staged_both (sym is) (λ d w. move_staged memory job from mid to low high d w) direction way) (λ others.
-    ⊎_elim (λ is. subst staged_both (sym is) (λ d w. subst (staged_way Fill) w (fill_staged memory job from mid to low high)) direction way)
-    (λ is. subst staged_both (sym is) (λ d w. subst (staged_way Dualcast) w (dualcast_staged memory job from mid to low high)) direction way) others) one
-  where
-    staged_way : Op → Direction → Type 0
-    staged_way o d = scan_staged o memory job from to ≡ staged_neighbours memory job from mid to low high o d
+-- an operation that stages nothing
+staged_none : (op : Op) (memory : Memory) (job : Job) (from to : ℕ) → op ≢ Move → op ≢ Dualcast → scan_staged op memory job from to ≡ []
+unfolding scan_staged
+staged_none NoOp memory job from to _ _ = refl
+staged_none Move memory job from to other _ = absurd (other refl)
+staged_none Fill memory job from to _ _ = refl
+staged_none Compare memory job from to _ _ = refl
+staged_none ComparePattern memory job from to _ _ = refl
+staged_none CreateDelta memory job from to _ _ = refl
+staged_none ApplyDelta memory job from to _ _ = refl
+staged_none Dualcast memory job from to _ other = absurd (other refl)
 
-    staged_both : Op → Type 0
-    staged_both o = (d : Direction) → direction_by o job ≡ d → staged_way o d
+pub neighbours_staged : (op : Op) (memory : Memory) (job : Job) (from mid to : ℕ) → from ≤ mid → mid ≤ to → (direction : Direction) → direction_by op job ≡ direction
+    → scan_staged op memory job from to ≡ staged_joined direction (scan_found op memory job from mid) (scan_staged op memory job from mid) (scan_found op memory job mid to) (scan_staged op memory job mid to)
+neighbours_staged op memory job from mid to low high direction way =
+    elim op as (λ (o : Op). direction_by o job ≡ direction → staged_by o direction) [
+      | NoOp ↦ λ w. idle NoOp w (λ a b. staged_none NoOp memory job a b (λ e. absurd (cc)) (λ e. absurd (cc)))
+      | Move ↦ λ w. move_staged memory job from mid to low high direction w
+      | Fill ↦ λ w. idle Fill w (λ a b. staged_none Fill memory job a b (λ e. absurd (cc)) (λ e. absurd (cc)))
+      | Compare ↦ λ w. idle Compare w (λ a b. staged_none Compare memory job a b (λ e. absurd (cc)) (λ e. absurd (cc)))
+      | ComparePattern ↦ λ w. idle ComparePattern w (λ a b. staged_none ComparePattern memory job a b (λ e. absurd (cc)) (λ e. absurd (cc)))
+      | CreateDelta ↦ λ w. idle CreateDelta w (λ a b. staged_none CreateDelta memory job a b (λ e. absurd (cc)) (λ e. absurd (cc)))
+      | ApplyDelta ↦ λ w. idle ApplyDelta w (λ a b. staged_none ApplyDelta memory job a b (λ e. absurd (cc)) (λ e. absurd (cc)))
+      | Dualcast ↦ λ w. subst (staged_by Dualcast) w (dualcast_staged memory job from mid to low high)
+    ] way
+  where
+    staged_by : Op → Direction → Type 0
+    staged_by o d = scan_staged o memory job from to ≡ staged_neighbours memory job from mid to low high o d
+
+    idle : (o : Op) → Forward ≡ direction → ((a b : ℕ) → scan_staged o memory job a b ≡ []) → staged_by o direction
+    idle o w none = subst (staged_by o) w (idle_staged memory job from mid to low high o none)

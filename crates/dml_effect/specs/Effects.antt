@@ -1,5 +1,5 @@
 -- What a contract sees of an effect: the record that answers, and the puts that its code keeps.
-use Rattle.std.specs.Prelude.{Bool, List, [], ◌∷◌, length, None, Some}
+use Rattle.std.specs.Prelude.{Bool, not, List, [], ◌∷◌, length, filter, None, Some, nat_eq}
 use Rattle.std.specs.List.{list_all}
 use Rattle.dml_types.specs.Memory.{Memory, Put, put_of, has_all}
 use Rattle.dml_types.specs.Effect.{Effect, effect_of}
@@ -16,6 +16,10 @@ puts_of (Pattern address len pattern) = put_of address (pattern_bytes pattern le
 
 abbrev pub effect_view : Inside → Effect
 effect_view e = effect_of (puts_of e.puts) e.answer
+
+-- the puts that have a byte at least: an empty one changes no image
+abbrev pub some_puts : List Put → List Put
+some_puts puts = filter (λ p. not (nat_eq (length p.bytes) 0)) puts
 
 -- each byte that is put is present
 abbrev pub are_present : Memory → List Put → Bool

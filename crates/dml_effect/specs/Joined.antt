@@ -1,41 +1,41 @@
 -- How two neighbouring chunks of a job end together, and what a job does whose scan ended so.
-use Rattle.std.specs.Prelude.{ℕ, ◌+◌, Bool, true, false, List, [], ◌∷◌, ◌++◌, if◌then◌else◌, nat_eq}
+use Rattle.std.specs.Prelude.{ℕ, ◌+◌, ◌*◌, Bool, true, false, Option, None, Some, List, [], ◌∷◌, ◌++◌, if◌then◌else◌, ◌==◌, nat_eq, slice_range}
+use Rattle.std.specs.Int.{from_le_bytes, w16}
 use Rattle.dml_types.specs.declared.findings.Found.{Found}
-use Rattle.dml_types.specs.declared.findings.Found.TheVariants.{All, Differs, Fault}
+use Rattle.dml_types.specs.declared.findings.Found.TheVariants.{All, Differs, Fault as Stopped}
 use Rattle.dml_types.specs.declared.jobs.Job.{Job}
 use Rattle.dml_types.specs.declared.operations.Direction.{Direction}
 use Rattle.dml_types.specs.declared.operations.Direction.TheVariants.{Forward, Backward}
 use Rattle.dml_types.specs.declared.operations.Op.{Op}
-use Rattle.dml_types.specs.declared.operations.Op.TheVariants.{Move, Dualcast}
+use Rattle.dml_types.specs.declared.operations.Op.TheVariants.{NoOp, Fill, Move, Compare, ComparePattern, Dualcast}
 use Rattle.dml_types.specs.declared.records.Record.{Record}
-use Rattle.dml_types.specs.declared.statuses.Status.{Status}
-use Rattle.dml_types.specs.declared.statuses.Status.TheVariants.{Success, ReadFault, WriteFault}
+use Rattle.dml_types.specs.declared.statuses.Status.TheVariants.{Success}
 use Rattle.dml_types.specs.Memory.{Put, put_of}
-use Rattle.dml_types.specs.Effect.{ended, faulted}
-use Rattle.dml_types.specs.Bytewise.{done_from, pattern_bytes}
+use Rattle.dml_types.specs.Effect.{Fault, read_fault, write_fault, ended, faulted, judged}
+use Rattle.dml_types.specs.Bytewise.{done_from, pattern_bytes, result_of}
 
 -- an end, counted from n offsets before
 abbrev pub after : ℕ → Found → Found
 after n All = All
 after n (Differs done) = Differs (n + done)
-after n (Fault done place write) = Fault (n + done) place write
+after n (Stopped done place write) = Stopped (n + done) place write
 
 -- of two parts in the order of work, the first of which has n offsets: the first one's stop, else the second one's
 abbrev pub then_found : ℕ → Found → Found → Found
 then_found n All next = after n next
 then_found n (Differs done) next = Differs done
-then_found n (Fault done place write) next = Fault done place write
+then_found n (Stopped done place write) next = Stopped done place write
 
 abbrev pub is_all : Found → Bool
 is_all All = true
 is_all (Differs done) = false
-is_all (Fault done place write) = false
+is_all (Stopped done place write) = false
 
 -- whether nothing above a chunk that ended so is done any more
 abbrev pub is_over : Direction → Found → Bool
 is_over Forward All = false
 is_over Forward (Differs done) = true
-is_over Forward (Fault done place write) = true
+is_over Forward (Stopped done place write) = true
 is_over Backward found = false
 
 -- two neighbouring chunks of n and m offsets: how they end together, and the bytes that they stage, in address order
@@ -47,20 +47,47 @@ abbrev pub staged_joined : Direction → Found → List ℕ → Found → List �
 staged_joined Forward below low above high = if is_all below then low ++ high else low
 staged_joined Backward below low above high = if is_all above then low ++ high else high
 
-abbrev pub fault_status : Bool → Status
-fault_status write = if write then WriteFault else ReadFault
+abbrev pub fault_by : Bool → ℕ → Fault
+fault_by write place = if write then write_fault place else read_fault place
 
 -- the record of a copy or a fill of n bytes
-abbrev pub record_of : ℕ → ℕ → Found → Record
-record_of n outcome All = ended Success outcome n 0
-record_of n outcome (Differs done) = ended Success outcome done 0
-record_of n outcome (Fault done place write) = faulted (record { status = fault_status write; address = place }) outcome done 0
+abbrev pub copied_record : ℕ → ℕ → Found → Record
+copied_record n outcome All = ended Success outcome n 0
+copied_record n outcome (Differs done) = ended Success outcome done 0
+copied_record n outcome (Stopped done place write) = faulted (fault_by write place) outcome done 0
 
--- the puts of a move, a dualcast or a fill that did so many bytes
+-- the record of a compare
+abbrev pub compared_record : Job → Found → Record
+compared_record job All = ended (judged job (job.expected == 0)) 0 job.size 0
+compared_record job (Differs done) = ended (judged job (job.expected == 1)) 1 done 0
+compared_record job (Stopped done place write) = faulted (fault_by write place) 0 done 0
+
+-- the record of a job whose scan ended so
+abbrev pub scanned_record : Op → Job → Direction → Found → Record
+scanned_record NoOp job direction found = ended Success 0 0 0
+scanned_record Compare job direction found = compared_record job found
+scanned_record ComparePattern job direction found = compared_record job found
+scanned_record op job direction found = copied_record job.size (result_of direction) found
+
+-- the puts of a job that did so many bytes, one at least
 abbrev pub puts_when_done : Op → Job → Direction → ℕ → List ℕ → List Put
 puts_when_done Move job direction done bytes = put_of (job.target + done_from direction job.size done) bytes ∷ []
 puts_when_done Dualcast job direction done bytes = put_of job.target bytes ∷ put_of job.extra bytes ∷ []
-puts_when_done _ job direction done bytes = put_of job.target (pattern_bytes job.source done) ∷ []
+puts_when_done Fill job direction done bytes = put_of job.target (pattern_bytes job.source done) ∷ []
+puts_when_done _ job direction done bytes = []
 
 abbrev pub puts_by : Op → Job → Direction → ℕ → List ℕ → List Put
 puts_by op job direction done bytes = if nat_eq done 0 then [] else puts_when_done op job direction done bytes
+
+-- two neighbouring chunks of a create: the fault of both, and their entries
+abbrev pub fault_joined : Option (ℕ × ℕ) → Option (ℕ × ℕ) → Option (ℕ × ℕ)
+fault_joined None above = above
+fault_joined (Some fault) above = Some fault
+
+abbrev pub entries_joined : Option (ℕ × ℕ) → List ℕ → List ℕ → List ℕ
+entries_joined None low high = low ++ high
+entries_joined (Some fault) low high = low
+
+-- the number in front of an entry
+abbrev pub number_at : List ℕ → ℕ → ℕ
+number_at entries x = from_le_bytes w16 (slice_range entries (10 * x) (10 * x + 2))

@@ -1,27 +1,30 @@
 //! The pieces of a job's chunks, joined to its effect.
-ghost use Rattle.std.specs.Prelude.{◌≡◌, ◌≢◌, ◌⊎◌, ◌+◌, ◌-◌, ◌^◌, ◌<◌, ◌≤◌, false, Some, IsTrue, MatchOption, ⊤};
+ghost use Rattle.std.specs.Prelude.{◌≡◌, ◌≢◌, ◌+◌, ◌-◌, ◌^◌, ◌<◌, ◌≤◌, false, Some, IsTrue, MatchOption, ⊤};
 ghost use Rattle.std.specs.Iterator.{IsFinite};
 ghost use Rattle.dml_types.specs.declared.operations.Op.{Op};
-ghost use Rattle.dml_types.specs.declared.operations.Op.TheVariants.{Dualcast, Fill, Move};
+ghost use Rattle.dml_types.specs.declared.operations.Op.TheVariants.{ApplyDelta, CreateDelta};
 ghost use Rattle.dml_types.specs.Job.{op_of};
 ghost use Rattle.dml_types.specs.Memory.{IsMemory, puts_made};
 ghost use Rattle.dml_types.specs.Refusal.{need};
-ghost use Rattle.dml_types.specs.Step.{step};
-ghost use Rattle.dml_types.specs.Bytewise.{result_of, done_from, direction_by};
+ghost use Rattle.dml_types.specs.Step.{effect, step};
+ghost use Rattle.dml_types.specs.Bytewise.{done_from, direction_by};
 ghost use Rattle.dml_scan.specs.Found.{done_of};
-ghost use Rattle.dml_effect.specs.Chunks.{YieldsChunks, IsWhole, IsBehind};
-ghost use Rattle.dml_effect.specs.Effects.{are_present, puts_of};
+ghost use Rattle.dml_scan.specs.Work.{IsWorkDirection};
+ghost use Rattle.dml_effect.specs.Chunks.{IsScanned, IsWholeScan, IsBehind, YieldsScans};
+ghost use Rattle.dml_effect.specs.Effects.{are_present, puts_of, some_puts};
 ghost use Rattle.dml_effect.specs.Joined.{found_joined, is_over, staged_joined};
-ghost use Rattle.dml_effect.specs.Joined as word;
+ghost use Rattle.dml_effect.specs.Joined as joined;
 
 use crate::effects::{Effect, Puts};
+use crate::records::scanned_record;
 use dml_arena::Region;
 use dml_desc::Checked;
 use dml_image::Image;
-use dml_scan::ScanPiece;
-use dml_types::{Direction, Found, Job, Op, Record, Status};
+use dml_scan::{ScanPiece, work_direction};
+use dml_types::{Direction, Found, Job, Op};
 
-/// Joins the pieces of all chunks of a move, a fill or a dualcast, upwards, to the effect of the job.
+/// Joins the pieces of all chunks of a job that is scanned, upwards, to its effect: of a move, a fill, a dualcast
+/// or a compare. A no-op has no pieces.
 ///
 /// The first stop in the order of work decides; what lies behind it is not put.
 pub fn join_found<'a, I: Iterator<Item = ScanPiece<'a>> + Drop>(
@@ -29,15 +32,33 @@ pub fn join_found<'a, I: Iterator<Item = ScanPiece<'a>> + Drop>(
     job: &Checked,
     pieces: I,
 ) -> Effect<'a>
-    requires operation { (op_of job.now ≡ Some Move) ⊎ (op_of job.now ≡ Some Fill) ⊎ (op_of job.now ≡ Some Dualcast) }
+    requires operation { IsScanned job.now }
     requires can { I.can_next pieces }
     requires ends { IsFinite (I.remaining pieces) }
-    requires chunks { YieldsChunks I.next_gives image.now job.now pieces }
+    requires chunks { YieldsScans I.next_gives image.now job.now pieces }
     ensures answer { result.answer ≡ (step image.now job.now (need job.now)).1 }
+    ensures puts { result.puts ≡ some_puts (effect image.now job.now (need job.now)).puts }
     ensures image { puts_made image.now result.puts ≡ (step image.now job.now (need job.now)).0 }
     ensures present { IsTrue (are_present image.now result.puts) }
 {
     let direction = work_direction(job);
+    let whole = join_pieces(image, job, direction, pieces);
+    effect_of(image, job, direction, whole)
+}
+
+/// The pieces of all chunks, joined to one; none where there are none.
+fn join_pieces<'a, I: Iterator<Item = ScanPiece<'a>> + Drop>(
+    _image: &Image,
+    job: &Checked,
+    direction: Direction,
+    pieces: I,
+) -> Option<ScanPiece<'a>>
+    requires direction { IsWorkDirection job.now direction }
+    requires can { I.can_next pieces }
+    requires ends { IsFinite (I.remaining pieces) }
+    requires chunks { YieldsScans I.next_gives _image.now job.now pieces }
+    ensures whole { IsWholeScan _image.now job.now result }
+{
     let mut whole = None;
     for piece in pieces {
         whole = Some(match whole {
@@ -45,24 +66,7 @@ pub fn join_found<'a, I: Iterator<Item = ScanPiece<'a>> + Drop>(
             Some(below) => join_neighbours(direction, below, piece),
         });
     }
-    effect_of(image, job, direction, whole)
-}
-
-/// The order in which a job's offsets are worked on.
-fn work_direction(job: &Checked) -> Direction
-    ensures { (op : Op) → op_of job.now ≡ Some op → result ≡ direction_by op job.now }
-{
-    let &Job {
-        source,
-        target,
-        size,
-        ..
-    } = job.job();
-    if job.op() == Op::Move && source < target && target - source < u64::from(size) {
-        Direction::Backward
-    } else {
-        Direction::Forward
-    }
+    whole
 }
 
 /// One piece of two neighbouring ones.
@@ -107,7 +111,7 @@ fn join_neighbours<'a>(
 /// How two parts end together, in the order of work; the first has `len` offsets.
 fn then_found(len: u32, first: Found, next: Found) -> Found
     requires { len + done_of 0 next < 2 ^ 32 }
-    ensures { result ≡ word.then_found len first next }
+    ensures { result ≡ joined.then_found len first next }
 {
     match first {
         Found::All => after(len, next),
@@ -118,7 +122,7 @@ fn then_found(len: u32, first: Found, next: Found) -> Found
 /// How a part ended, counted from `len` offsets before it.
 fn after(len: u32, found: Found) -> Found
     requires { len + done_of 0 found < 2 ^ 32 }
-    ensures { result ≡ word.after len found }
+    ensures { result ≡ joined.after len found }
 {
     match found {
         Found::All => Found::All,
@@ -131,17 +135,18 @@ fn after(len: u32, found: Found) -> Found
     }
 }
 
-/// The effect of a job whose pieces are joined to one, or of an empty one.
+/// The effect of a job whose pieces are joined to one, or of one that has none.
 fn effect_of<'a>(
     image: &Image,
     job: &Checked,
     direction: Direction,
     whole: Option<ScanPiece<'a>>,
 ) -> Effect<'a>
-    requires operation { (op_of job.now ≡ Some Move) ⊎ (op_of job.now ≡ Some Fill) ⊎ (op_of job.now ≡ Some Dualcast) }
-    requires direction { (op : Op) → op_of job.now ≡ Some op → direction ≡ direction_by op job.now }
-    requires whole { IsWhole image.now job.now whole }
+    requires operation { IsScanned job.now }
+    requires direction { IsWorkDirection job.now direction }
+    requires whole { IsWholeScan image.now job.now whole }
     ensures answer { result.answer ≡ (step image.now job.now (need job.now)).1 }
+    ensures puts { result.puts ≡ some_puts (effect image.now job.now (need job.now)).puts }
     ensures image { puts_made image.now result.puts ≡ (step image.now job.now (need job.now)).0 }
     ensures present { IsTrue (are_present image.now result.puts) }
 {
@@ -150,62 +155,29 @@ fn effect_of<'a>(
     let job = job.job();
     match whole {
         None => Effect {
-            answer: record_of(job.size, direction, Found::All),
+            answer: scanned_record(op, job, direction, Found::All),
             puts: Puts::Nothing,
         },
         Some(piece) => {
-            let answer = record_of(job.size, direction, piece.found);
+            let answer = scanned_record(op, job, direction, piece.found);
             let puts = puts_by(op, job, direction, answer.completed, piece.staged);
             Effect { answer, puts }
         }
     }
 }
 
-/// The completion record of a copy or a fill of `len` bytes, by how its scan ended.
-fn record_of(len: u32, direction: Direction, found: Found) -> Record
-    ensures { result ≡ word.record_of len (result_of direction) found }
-{
-    let (status, completed, fault) = match found {
-        Found::All => (Status::Success, len, 0),
-        Found::Differs { done } => (Status::Success, done, 0),
-        Found::Fault {
-            done,
-            place,
-            write: true,
-        } => (Status::WriteFault, done, place),
-        Found::Fault {
-            done,
-            place,
-            write: false,
-        } => (Status::ReadFault, done, place),
-    };
-    Record {
-        status,
-        result: match direction {
-            Direction::Forward => 0,
-            Direction::Backward => 1,
-        },
-        completed,
-        fault,
-        delta_size: 0,
-    }
-}
-
-/// The puts of a move, a dualcast or a fill that did `done` bytes.
+/// The puts of a job that did `done` bytes of its range.
 fn puts_by<'a>(op: Op, job: &Job, direction: Direction, done: u32, staged: Region<'a>) -> Puts<'a>
     requires within { done ≤ job.now.size }
-    requires ends { job.now.target + job.now.size ≤ 2 ^ 64 }
-    ensures { puts_of result ≡ word.puts_by op job.now direction done staged.entry.bytes }
+    requires ends { op ≡ Op.Move → job.now.target + job.now.size ≤ 2 ^ 64 }
+    ensures { puts_of result ≡ joined.puts_by op job.now direction done staged.entry.bytes }
 {
     if done == 0 {
         return Puts::Nothing;
     }
     match op {
         Op::Move => Puts::Staged {
-            first: match direction {
-                Direction::Forward => job.target,
-                Direction::Backward => job.target + u64::from(job.size - done),
-            },
+            first: job.target + u64::from(first_done(direction, job.size, done)),
             second: None,
             bytes: staged,
         },
@@ -214,10 +186,22 @@ fn puts_by<'a>(op: Op, job: &Job, direction: Direction, done: u32, staged: Regio
             second: Some(job.extra),
             bytes: staged,
         },
-        _ => Puts::Pattern {
+        Op::Fill => Puts::Pattern {
             addr: job.target,
             len: done,
             pattern: job.source,
         },
+        _ => Puts::Nothing,
+    }
+}
+
+/// The lowest of the `done` offsets that come first where `len` offsets are worked on in a direction.
+pub fn first_done(direction: Direction, len: u32, done: u32) -> u32
+    requires { done ≤ len }
+    ensures { result ≡ done_from direction len done }
+{
+    match direction {
+        Direction::Forward => 0,
+        Direction::Backward => len - done,
     }
 }

@@ -1,17 +1,20 @@
 //! What a job does, as a value: its completion record and the bytes that it puts.
 //!
 //! The pieces of a job's chunks are joined to an [`Effect`] while the image is only read, and [`commit`]
-//! makes its puts. [`carry_out`] is a whole job as one chunk.
+//! makes its puts. [`carry_out`] is a whole job as one chunk, and [`submit_to`] its check before.
 #![tactic(auto)]
 
 mod carrying;
 mod effects;
 mod joining;
+mod lending;
+mod records;
 #[cfg(test)]
 mod tests;
 #[cfg(test)]
 mod uses;
 
-pub use carrying::carry_out;
+pub use carrying::{carry_out, submit_to};
 pub use effects::{Effect, commit};
 pub use joining::join_found;
+pub use lending::{are_pages, submit_over};

@@ -1,5 +1,5 @@
-use crate::commit;
-use crate::uses::{moved_in_two, submitted};
+use crate::uses::moved_in_two;
+use crate::{are_pages, commit, submit_over, submit_to};
 use dml_arena::Arena;
 use dml_desc::check;
 use dml_image::{Image, ImageError};
@@ -12,7 +12,7 @@ use std::test::Fail;
 const STAGING: u32 = 1_048_576;
 
 /// An image of `pages` pages, those of `brought` present and full of 0.
-fn image_with(alloc: Global, pages: u32, brought: &[u32]) -> Result<Image, ImageError> {
+fn image_with(alloc: Global, pages: u32, brought: &[u32]) -> Result<Image<'static>, ImageError> {
     let mut image = Image::new(alloc, pages)?;
     for page in brought {
         image.bring(*page, &[0; 4096])?;
@@ -50,7 +50,7 @@ fn record(status: Status, outcome: u8, completed: u32, fault: u64) -> Record {
 fn no_op(rt: HostRuntime) -> Result<(), Fail> {
     let mut image = image_with(rt.alloc(), 1, &[])?;
     let mut arena = Arena::new(rt.alloc(), 0)?;
-    let answer = submitted(&mut image, &mut arena, &Job::no_op());
+    let answer = submit_to(&mut image, &mut arena, &Job::no_op(), 0);
     assert_eq!(rt; answer, record(Status::Success, 0, 0, 0));
     Ok(())
 }
@@ -64,7 +64,7 @@ fn forward_move_over_itself(rt: HostRuntime) -> Result<(), Fail> {
     ];
     poke(&rt, &mut image, 0, &low);
     poke(&rt, &mut image, 100, &[0xd0, 0xd1, 0xd2, 0xd3, 0xd4, 0xd5]);
-    let answer = submitted(&mut image, &mut arena, &Job::move_bytes(4, 0, 100));
+    let answer = submit_to(&mut image, &mut arena, &Job::move_bytes(4, 0, 100), 100);
     assert_eq!(rt; answer, record(Status::Success, 0, 100, 0));
     assert!(rt;
         shows(
@@ -90,7 +90,7 @@ fn backward_move_into_absent_page(rt: HostRuntime) -> Result<(), Fail> {
     let mut image = image_with(rt.alloc(), 2, &[0])?;
     let mut arena = Arena::new(rt.alloc(), 4096)?;
     poke(&rt, &mut image, 0, &[1, 2, 3, 4, 5]);
-    let answer = submitted(&mut image, &mut arena, &Job::move_bytes(0, 4, 4096));
+    let answer = submit_to(&mut image, &mut arena, &Job::move_bytes(0, 4, 4096), 4096);
     assert_eq!(rt; answer, record(Status::WriteFault, 1, 0, 4099));
     assert!(rt; shows(&image, 0, &[1, 2, 3, 4, 5, 0, 0, 0]));
     Ok(())
@@ -101,7 +101,12 @@ fn backward_move_stops_at_page_edge(rt: HostRuntime) -> Result<(), Fail> {
     let mut image = image_with(rt.alloc(), 3, &[0, 2])?;
     let mut arena = Arena::new(rt.alloc(), 12_272)?;
     poke(&rt, &mut image, 8192, &[1, 2]);
-    let answer = submitted(&mut image, &mut arena, &Job::move_bytes(0, 8, 12_272));
+    let answer = submit_to(
+        &mut image,
+        &mut arena,
+        &Job::move_bytes(0, 8, 12_272),
+        12_272,
+    );
     assert_eq!(rt; answer, record(Status::ReadFault, 1, 4080, 8191));
     assert!(rt; shows(&image, 8192, &[1, 2, 0, 0, 0, 0, 0, 0, 1, 2, 0, 0]));
     Ok(())
@@ -112,7 +117,12 @@ fn dualcast_write_fault(rt: HostRuntime) -> Result<(), Fail> {
     let mut image = image_with(rt.alloc(), 4, &[0, 1, 3])?;
     let mut arena = Arena::new(rt.alloc(), 5)?;
     poke(&rt, &mut image, 0, &[1, 2, 3, 4, 5]);
-    let answer = submitted(&mut image, &mut arena, &Job::dualcast(0, 8190, 16_382, 5));
+    let answer = submit_to(
+        &mut image,
+        &mut arena,
+        &Job::dualcast(0, 8190, 16_382, 5),
+        5,
+    );
     assert_eq!(rt; answer, record(Status::WriteFault, 0, 2, 8192));
     assert!(rt; shows(&image, 8190, &[1, 2]));
     assert!(rt; shows(&image, 16_382, &[1, 2]));
@@ -123,11 +133,26 @@ fn dualcast_write_fault(rt: HostRuntime) -> Result<(), Fail> {
 fn dualcast_refusals(rt: HostRuntime) -> Result<(), Fail> {
     let mut image = image_with(rt.alloc(), 4, &[0])?;
     let mut arena = Arena::new(rt.alloc(), STAGING)?;
-    let bits = submitted(&mut image, &mut arena, &Job::dualcast(0, 8, 16, 100));
+    let bits = submit_to(
+        &mut image,
+        &mut arena,
+        &Job::dualcast(0, 8, 16, 100),
+        STAGING,
+    );
     assert_eq!(rt; bits, record(Status::DualcastBits, 0, 0, 0));
-    let overlap = submitted(&mut image, &mut arena, &Job::dualcast(0, 4096, 8192, 4097));
+    let overlap = submit_to(
+        &mut image,
+        &mut arena,
+        &Job::dualcast(0, 4096, 8192, 4097),
+        STAGING,
+    );
     assert_eq!(rt; overlap, record(Status::Overlap, 0, 0, 0));
-    let absent = submitted(&mut image, &mut arena, &Job::dualcast(0, 4096, 8192, 4));
+    let absent = submit_to(
+        &mut image,
+        &mut arena,
+        &Job::dualcast(0, 4096, 8192, 4),
+        STAGING,
+    );
     assert_eq!(rt; absent, record(Status::WriteFault, 0, 0, 4096));
     Ok(())
 }
@@ -137,10 +162,10 @@ fn end_of_address_space(rt: HostRuntime) -> Result<(), Fail> {
     let mut image = image_with(rt.alloc(), 1, &[0])?;
     let mut arena = Arena::new(rt.alloc(), STAGING)?;
     let past = Job::move_bytes(0xffff_ffff_ffff_fff0, 0, 17);
-    let answer = submitted(&mut image, &mut arena, &past);
+    let answer = submit_to(&mut image, &mut arena, &past, STAGING);
     assert_eq!(rt; answer, record(Status::RangePast, 0, 0, 0));
     let last = Job::move_bytes(0xffff_ffff_ffff_fff0, 0, 16);
-    let answer = submitted(&mut image, &mut arena, &last);
+    let answer = submit_to(&mut image, &mut arena, &last, STAGING);
     assert_eq!(rt;
         answer,
         record(Status::ReadFault, 0, 0, 18_446_744_073_709_551_600)
@@ -153,7 +178,7 @@ fn fill_into_absent_page(rt: HostRuntime) -> Result<(), Fail> {
     let mut image = image_with(rt.alloc(), 2, &[0])?;
     let mut arena = Arena::new(rt.alloc(), 0)?;
     let job = Job::fill(0x0807_0605_0403_0201, 4090, 12);
-    let answer = submitted(&mut image, &mut arena, &job);
+    let answer = submit_to(&mut image, &mut arena, &job, 0);
     assert_eq!(rt; answer, record(Status::WriteFault, 0, 6, 4096));
     assert!(rt; shows(&image, 4088, &[0, 0, 1, 2, 3, 4, 5, 6]));
     assert_eq!(rt; image.byte(4096), None);
@@ -190,6 +215,135 @@ fn moves_in_two_chunks(rt: HostRuntime) -> Result<(), Fail> {
         let answer = carried_in_two(&rt, &mut image, &mut arena, &job, edge);
         assert_eq!(rt; answer, record(Status::ReadFault, 1, 4080, 8191));
         assert!(rt; shows(&image, 8192, &[1, 2, 0, 0, 0, 0, 0, 0, 1, 2, 0, 0]));
+    }
+    Ok(())
+}
+
+#[test]
+fn pages_that_can_be_lent(rt: HostRuntime) -> Result<(), Fail> {
+    let bytes = vec![in rt.alloc(); 0; 3 * 4096]?;
+    for (len, is_lent) in [
+        (0, false),
+        (1, false),
+        (4095, false),
+        (4096, true),
+        (4097, false),
+        (8192, true),
+        (12_287, false),
+        (12_288, true),
+    ] {
+        assert_eq!(rt; bytes.get(..len).map(are_pages), Some(is_lent));
+    }
+    Ok(())
+}
+
+/// Carries out a job of the rows of `jobs_over_lent_pages` over bytes that are pages.
+fn carried_over(rt: &impl Abort, bytes: &mut [u8], arena: &mut Arena, job: &Job) -> Record {
+    assert!(rt; are_pages(bytes) && arena.size() >= 4096);
+    assert!(rt; job.op() != Some(Op::CreateDelta) && job.op() != Some(Op::ApplyDelta));
+    submit_over(bytes, arena, job, 4096)
+}
+
+/// The bytes of a caller over which the rows of `jobs_over_lent_pages` are carried out: 01, 02, 03, 04, 05 in front.
+const FRONT: [u8; 5] = [1, 2, 3, 4, 5];
+
+#[test]
+fn jobs_over_lent_pages(rt: HostRuntime) -> Result<(), Fail> {
+    let mut arena = Arena::new(rt.alloc(), 4096)?;
+    for (job, answer, at, shown) in [
+        (
+            Job::fill(0x0807_0605_0403_0201, 4092, 12),
+            record(Status::Success, 0, 12, 0),
+            4090,
+            [0, 0, 1, 2, 3, 4, 5, 6, 7, 8, 1, 2, 3, 4, 0, 0],
+        ),
+        (
+            Job::fill(0x0807_0605_0403_0201, 8186, 12),
+            record(Status::WriteFault, 0, 6, 8192),
+            8176,
+            [0, 0, 0, 0, 0, 0, 0, 0, 0, 0, 1, 2, 3, 4, 5, 6],
+        ),
+        (
+            Job::move_bytes(0, 4096, 4096),
+            record(Status::Success, 0, 4096, 0),
+            4094,
+            [0, 0, 1, 2, 3, 4, 5, 0, 0, 0, 0, 0, 0, 0, 0, 0],
+        ),
+        (
+            Job::move_bytes(0, 2, 14),
+            record(Status::Success, 1, 14, 0),
+            0,
+            [1, 2, 1, 2, 3, 4, 5, 0, 0, 0, 0, 0, 0, 0, 0, 0],
+        ),
+        (
+            Job::dualcast(0, 8190, 4094, 2),
+            record(Status::Success, 0, 2, 0),
+            8176,
+            [0, 0, 0, 0, 0, 0, 0, 0, 0, 0, 0, 0, 0, 0, 1, 2],
+        ),
+        (
+            Job::compare(0, 4096, 8),
+            record(Status::Success, 1, 0, 0),
+            0,
+            [1, 2, 3, 4, 5, 0, 0, 0, 0, 0, 0, 0, 0, 0, 0, 0],
+        ),
+        (
+            Job::move_bytes(0, 4096, 4097),
+            record(Status::StagingRefused, 0, 0, 0),
+            4096,
+            [0; 16],
+        ),
+    ] {
+        let mut bytes = vec![in rt.alloc(); 0; 2 * 4096]?;
+        bytes[..5].copy_from_slice(&FRONT);
+        assert_eq!(rt; carried_over(&rt, &mut bytes, &mut arena, &job), answer);
+        assert!(rt; bytes.get(at..).is_some_and(|rest| rest.starts_with(&shown)));
+    }
+    Ok(())
+}
+
+#[test]
+fn compares(rt: HostRuntime) -> Result<(), Fail> {
+    let mut image = image_with(rt.alloc(), 4, &[0, 2])?;
+    let mut arena = Arena::new(rt.alloc(), 0)?;
+    poke(&rt, &mut image, 4095, &[1]);
+    poke(&rt, &mut image, 0, &[1, 2, 3, 4, 5, 6, 7, 8, 1, 2, 3]);
+    for (job, answer) in [
+        (
+            Job::compare(8, 8200, 4096),
+            record(Status::Success, 1, 0, 0),
+        ),
+        (
+            Job::compare(16, 8208, 8192),
+            record(Status::Success, 1, 4079, 0),
+        ),
+        (
+            Job::compare(8192, 8208, 8192),
+            record(Status::ReadFault, 0, 4080, 12_288),
+        ),
+        (
+            Job::compare(16, 8208, 16).with_check(0),
+            record(Status::Success, 0, 16, 0),
+        ),
+        (
+            Job::compare(16, 8208, 16).with_check(1),
+            record(Status::FalsePredicate, 0, 16, 0),
+        ),
+        (
+            Job::compare(0, 8208, 16).with_check(1),
+            record(Status::Success, 1, 0, 0),
+        ),
+        (
+            Job::compare_pattern(0, 0x0807_0605_0403_0201, 11),
+            record(Status::Success, 0, 11, 0),
+        ),
+        (
+            Job::compare_pattern(0, 0x0807_0605_0403_0201, 12),
+            record(Status::Success, 1, 11, 0),
+        ),
+    ] {
+        assert!(rt; job.op() != Some(Op::CreateDelta) && job.op() != Some(Op::ApplyDelta));
+        assert_eq!(rt; submit_to(&mut image, &mut arena, &job, 0), answer);
     }
     Ok(())
 }

@@ -1,16 +1,14 @@
-ghost use Rattle.std.specs.Prelude.{◌≡◌, ◌≢◌, ◌↔◌, ◌≤◌, ⊤, IfErr, IfOk, IsOk, IsTrue, OnErr, OnOk, Some, length};
-ghost use Rattle.dml_types.specs.declared.operations.Op.TheVariants.{ApplyDelta, Compare, ComparePattern, CreateDelta};
-ghost use Rattle.dml_types.specs.Job.{op_of};
+ghost use Rattle.std.specs.Prelude.{◌≡◌, ◌≢◌, ◌↔◌, ◌≤◌, ⊤, IfErr, IfOk, IsOk, IsTrue, OnErr, OnOk, length};
 ghost use Rattle.dml_types.specs.Memory.{IsMemory, has_all, put};
 ghost use Rattle.dml_types.specs.Limits.{IsValid};
 ghost use Rattle.dml_types.specs.Step.{step};
+ghost use Rattle.dml_effect.specs.Chunks.{IsScanned};
 ghost use Rattle.dml_image.specs.Brought.{brought, has_page};
 
 use dml_arena::Arena;
-use dml_desc::check;
-use dml_effect::carry_out;
+use dml_effect::submit_to;
 use dml_image::{Image, ImageError};
-use dml_types::{Job, Record, Settings, Status};
+use dml_types::{Job, Record, Settings};
 use std::alloc::Global;
 use std::marker::Model;
 use thiserror::Error;
@@ -29,7 +27,7 @@ pub enum EngineError {
 /// A memory image, and what it takes to carry out jobs on it. All staging is taken when it is made.
 #[derive(Drop)]
 pub struct Engine {
-    image: Image,
+    image: Image<'static>,
     arena: Arena,
     settings: Settings,
 }
@@ -54,13 +52,13 @@ impl Engine {
     /// arena; both hand the image back as it was.
     pub fn new(
         alloc: Global,
-        image: Image,
+        image: Image<'static>,
         settings: Settings,
-    ) -> Result<Engine, (Image, EngineError)>
-        ensures image { IfOk result (λ engine. engine.image ≡ image) }
+    ) -> Result<Engine, (Image<'static>, EngineError)>
+        ensures image { IfOk result (λ engine. engine.image ≡ image.entry) }
         ensures settings { IfOk result (λ engine. engine.settings ≡ settings) }
         ensures valid { OnOk result (IsValid settings) }
-        ensures handed_back { IfErr result (λ refused. refused.0 ≡ image) }
+        ensures handed_back { IfErr result (λ refused. refused.0 ≡ image.entry) }
         ensures bad_settings { IfErr result (λ refused. (refused.1 ≡ EngineError.BadSettings) ↔ (IsValid settings → ⊥)) }
     {
         if !settings.is_valid() {
@@ -78,7 +76,7 @@ impl Engine {
 
     /// Carries out a job, and returns its completion record. A refused job changes nothing.
     pub fn submit(&mut self, job: Job) -> Record
-        requires operation { (op_of job ≢ Some Compare) × (op_of job ≢ Some ComparePattern) × (op_of job ≢ Some CreateDelta) × (op_of job ≢ Some ApplyDelta) }
+        requires operation { IsScanned job }
         ensures image { self.new.image ≡ (step self.old.image job self.old.settings.staging).0 }
         ensures answer { result ≡ (step self.old.image job self.old.settings.staging).1 }
         ensures settings { self.new.settings ≡ self.old.settings }
@@ -92,7 +90,7 @@ impl Engine {
     }
 
     /// The image.
-    pub fn image(&self) -> &Image
+    pub fn image(&self) -> &Image<'static>
         ensures { result.now ≡ self.now.image }
     {
         &self.image
@@ -123,8 +121,8 @@ impl Engine {
     }
 
     /// The image, for good.
-    pub fn into_image(self) -> Image
-        ensures { result ≡ self.image }
+    pub fn into_image(self) -> Image<'static>
+        ensures { result ≡ self.entry.image }
     {
         let Engine {
             image,
@@ -132,26 +130,5 @@ impl Engine {
             settings: _,
         } = self;
         image
-    }
-}
-
-/// Carries out a job on an image, unless it is refused at so many bytes of staging.
-#[tactic(auto, using(dml_desc::proofs::CheckedLemmas::need_within, dml_types::proofs::StepLemmas::effect_refused, dml_effect::proofs::WholeLemmas::effect_at_need))]
-fn submit_to(image: &mut Image, arena: &mut Arena, job: &Job, staging: u32) -> Record
-    requires operation { (op_of job.now ≢ Some Compare) × (op_of job.now ≢ Some ComparePattern) × (op_of job.now ≢ Some CreateDelta) × (op_of job.now ≢ Some ApplyDelta) }
-    requires staging { arena.old.size ≡ staging }
-    ensures image { image.new ≡ (step image.old job.now staging).0 }
-    ensures answer { result ≡ (step image.old job.now staging).1 }
-    ensures arena { arena.new ≡ arena.old }
-{
-    match check(job, staging) {
-        Ok(checked) => carry_out(image, arena, &checked),
-        Err(status) => Record {
-            status,
-            result: 0,
-            completed: 0,
-            fault: 0,
-            delta_size: 0,
-        },
     }
 }

@@ -100,7 +100,7 @@ fn each_call(rt: HostRuntime) -> Result<(), Fail> {
 // The refused_* below hold whichever growth is refused: they are also run with each refused in turn, from the first one
 // behind those that their set-up takes.
 
-fn image_of_a_page(alloc: Global) -> Result<Image, ImageError> {
+fn image_of_a_page(alloc: Global) -> Result<Image<'static>, ImageError> {
     let mut image = Image::new(alloc, 1)?;
     image.bring(0, &[7; 4096])?;
     Ok(image)

@@ -7,7 +7,7 @@ use Rattle.dml_grammar.specs.declared.faults.ReadError.{ReadError}
 use Rattle.dml_grammar.specs.declared.faults.ReadError.TheVariants as errors
 use Rattle.dml_grammar.specs.declared.table.Slot.{Slot}
 use Rattle.dml_grammar.specs.Grammar.{first_of, slot_fault}
-use Rattle.dml_grammar.specs.Reads.{Fails, faults_in, word_seen}
+use Rattle.dml_grammar.specs.Reads.{Fails, slot_faults, word_seen}
 
 none_is_some : {kind : Kind} → None ≡ Some kind → ⊥
 none_is_some e = cc
@@ -23,10 +23,10 @@ fails_first (errors.Fault found) (false, kind) others fails = absurd (none_is_so
 pub fails_at : (e : ReadError) (entries : List (Slot × Option (Bor (List ℕ)))) (i : ℕ) (d : Slot × Option (Bor (List ℕ))) (word : Bor (List ℕ))
     → i < length entries → (get_or entries i d).1 ≡ Some word
     → Fails e (first_of (slot_fault (get_or entries i d).0 (Some word.now) ∷ []))
-    → first_of (faults_in (drop i entries)) ≡ first_of (faults_in entries) → Fails e (first_of (faults_in entries))
+    → first_of (slot_faults (drop i entries)) ≡ first_of (slot_faults entries) → Fails e (first_of (slot_faults entries))
 fails_at e entries i d word low is fails rest =
-    let here : faults_in (drop i entries) ≡ slot_fault (get_or entries i d).0 (word_seen (get_or entries i d).1) ∷ faults_in (drop (i + 1) entries) =
-    at_drop_more faults_in entries i d low in
-    let there : Fails e (first_of (slot_fault (get_or entries i d).0 (word_seen (get_or entries i d).1) ∷ faults_in (drop (i + 1) entries))) =
-    fails_first e _ (faults_in (drop (i + 1) entries)) (subst (λ (o : Option (Bor (List ℕ))). Fails e (first_of (slot_fault (get_or entries i d).0 (word_seen o) ∷ []))) (sym is) fails) in
+    let here : slot_faults (drop i entries) ≡ slot_fault (get_or entries i d).0 (word_seen (get_or entries i d).1) ∷ slot_faults (drop (i + 1) entries) =
+    at_drop_more slot_faults entries i d low in
+    let there : Fails e (first_of (slot_fault (get_or entries i d).0 (word_seen (get_or entries i d).1) ∷ slot_faults (drop (i + 1) entries))) =
+    fails_first e _ (slot_faults (drop (i + 1) entries)) (subst (λ (o : Option (Bor (List ℕ))). Fails e (first_of (slot_fault (get_or entries i d).0 (word_seen o) ∷ []))) (sym is) fails) in
     subst (λ (found : Option Kind). Fails e found) (ap first_of (sym here) ∙ rest) there

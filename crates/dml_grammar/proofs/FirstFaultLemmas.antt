@@ -10,21 +10,21 @@ use Rattle.dml_grammar.specs.declared.faults.Kind.TheVariants.{MissingImage}
 use Rattle.dml_grammar.specs.declared.faults.ScriptFault.{ScriptFault}
 use Rattle.dml_grammar.specs.declared.lines.Line.{Line}
 use Rattle.dml_grammar.specs.Grammar.{Skipped, Faulty, Fine, verdict, fault_at, parse, parse_from}
-use Rattle.dml_grammar.specs.FirstFault.{grown, lines_after, fault_of, fault_in, FaultlessBelow, AreLines, IsFaultAt, IsFirstFault, ReadsFaultless, NamesFirstFault}
+use Rattle.dml_grammar.specs.FirstFault.{grown, lines_after, verdict_fault, line_fault, FaultlessBelow, AreLines, IsFaultAt, IsFirstFault, ReadsFaultless, NamesFirstFault}
 
 -- what a result of `parse_from` says
 abbrev Says : ℕ → List Line → List (List ℕ) → Result (List Line) ScriptFault → Type 0
 Says number before texts parsed = MatchResult parsed (AreLines before texts) (IsFirstFault number before texts)
 
 -- a text without a fault before others that have none
-faultless_more : (text : List ℕ) (texts : List (List ℕ)) (before after : List Line) (n : ℕ) → fault_of (verdict text before) ≡ None
+faultless_more : (text : List ℕ) (texts : List (List ℕ)) (before after : List Line) (n : ℕ) → verdict_fault (verdict text before) ≡ None
     → grown before (verdict text before) ≡ after → FaultlessBelow after texts n → FaultlessBelow before (text ∷ texts) (suc n)
 faultless_more text texts before after n none grows rest zero low = none
 faultless_more text texts before after n none grows rest (suc place) low =
-    subst (λ (so_far : List Line). fault_in so_far texts place ≡ None) (sym grows) (rest place (omega arith))
+    subst (λ (so_far : List Line). line_fault so_far texts place ≡ None) (sym grows) (rest place (omega arith))
 
 says_more : (text : List ℕ) (texts : List (List ℕ)) (number : ℕ) (before after : List Line) (parsed : Result (List Line) ScriptFault)
-    → fault_of (verdict text before) ≡ None → grown before (verdict text before) ≡ after
+    → verdict_fault (verdict text before) ≡ None → grown before (verdict text before) ≡ after
     → Says (number + 1) after texts parsed → Says number before (text ∷ texts) parsed
 says_more text texts number before after (Ok found) none grows says = record {
   faultless = faultless_more text texts before after (length texts) none grows says.faultless;
@@ -38,7 +38,7 @@ says_more text texts number before after (Err fault) none grows says =
         record {
           within = let h : at.0 < length texts = at.1.within in omega arith;
           line = let h : fault.line ≡ (number + 1) + at.0 = at.1.line in omega arith;
-          kind = subst (λ (so_far : List Line). fault_in so_far texts at.0 ≡ Some fault.kind) (sym grows) at.1.kind;
+          kind = subst (λ (so_far : List Line). line_fault so_far texts at.0 ≡ Some fault.kind) (sym grows) at.1.kind;
           first = faultless_more text texts before after at.0 none grows at.1.first;
         },
       )
@@ -56,7 +56,7 @@ says_faulty text texts number before kind faulty = inl (
   record {
     within = omega arith;
     line = omega arith;
-    kind = ap fault_of faulty;
+    kind = ap verdict_fault faulty;
     first = λ place low. absurd (omega arith);
   },
 )
@@ -86,9 +86,9 @@ says_from (text ∷ texts) number before =
       | Faulty kind ↦ Err (fault_at number kind)
       | Fine found ↦ parse_from (number + 1) (before ++ found ∷ []) texts
     ])) [
-      | Skipped ↦ λ is. says_more text texts number before before _ (ap fault_of is) (ap (grown before) is) (says_from texts (number + 1) before)
+      | Skipped ↦ λ is. says_more text texts number before before _ (ap verdict_fault is) (ap (grown before) is) (says_from texts (number + 1) before)
       | Faulty kind ↦ λ is. says_faulty text texts number before kind is
-      | Fine found ↦ λ is. says_more text texts number before (before ++ found ∷ []) _ (ap fault_of is) (ap (grown before) is) (says_from texts (number + 1) (before ++ found ∷ []))
+      | Fine found ↦ λ is. says_more text texts number before (before ++ found ∷ []) _ (ap verdict_fault is) (ap (grown before) is) (says_from texts (number + 1) (before ++ found ∷ []))
     ] refl
 
 says : (bytes : List ℕ) → Says 1 [] (lines bytes) (parse bytes)
@@ -135,7 +135,7 @@ same_first number before texts one other (inl at) (inl also) =
     let line_one : one.line ≡ number + at.0 = at.1.line in
     let line_other : other.line ≡ number + also.0 = also.1.line in
     same_fault one other (let same : one.line ≡ other.line = omega arith in same)
-    (same_kind one.kind other.kind (sym at.1.kind ∙ ap (fault_in before texts) place ∙ also.1.kind))
+    (same_kind one.kind other.kind (sym at.1.kind ∙ ap (line_fault before texts) place ∙ also.1.kind))
 same_first number before texts one other (inl at) (inr without) =
     absurd (none_and_some _ one.kind (without.faultless at.0 at.1.within) at.1.kind)
 same_first number before texts one other (inr without) (inl at) =

@@ -12,9 +12,9 @@ use Rattle.dml_grammar.specs.declared.table.Word.{Word}
 use Rattle.dml_grammar.specs.declared.table.Word.TheVariants as word
 use Rattle.dml_grammar.specs.Grammar as grammar
 use Rattle.dml_grammar.specs.Grammar.{Verdict, Skipped, Faulty, Fine, verdict, verdict_of, judged, fault_at, parse, parse_from}
-use Rattle.dml_grammar.specs.Left.{Left, left_from, left_in, with_line, nothing_but}
+use Rattle.dml_grammar.specs.Left.{Left, left_from, all_left, with_line, nothing_but}
 use Rattle.dml_grammar.specs.Pages.{Alike}
-use Rattle.dml_grammar.specs.Table.{word_with, parts_in}
+use Rattle.dml_grammar.specs.Table.{word_named, parts_of}
 use Rattle.dml_grammar.specs.Text.{is_text, words}
 use Rattle.dml_grammar.proofs.LineLemmas.{Entries}
 use Rattle.dml_grammar.proofs.PageLemmas.{alike_more}
@@ -57,14 +57,14 @@ word_alike : (first : Option Word) (after : List (List ℕ)) (a b : List Line) �
 word_alike None after a b alike = refl
 word_alike (Some first) after a b alike =
     ap₂ (λ (these those : List (Bool × Kind)). these ++ those) (place_alike first a b alike)
-    (entries_alike first (grammar.fitted (parts_in first) after) a b alike)
+    (entries_alike first (grammar.fitted (parts_of first) after) a b alike)
 
 verdict_alike_of : (ws : List (List ℕ)) (text : List ℕ) (a b : List Line) → Alike a b → verdict_of ws text a ≡ verdict_of ws text b
 verdict_alike_of [] text a b alike = refl
 verdict_alike_of (first ∷ after) text a b alike =
     ap (λ (faults : List (Bool × Kind)). cond (grammar.is_comment first) Skipped (judged (grammar.first_of
-    ((nat_lt grammar.longest_line (length text), LongLine) ∷ (not (list_all is_text text), NotAscii) ∷ faults)) (word_with first) after))
-    (word_alike (word_with first) after a b alike)
+    ((nat_lt grammar.longest_line (length text), LongLine) ∷ (not (list_all is_text text), NotAscii) ∷ faults)) (word_named first) after))
+    (word_alike (word_named first) after a b alike)
 
 verdict_alike : (text : List ℕ) (a b : List Line) → Alike a b → verdict text a ≡ verdict text b
 verdict_alike text a b alike = verdict_alike_of (words text) text a b alike
@@ -118,6 +118,6 @@ parse_left (text ∷ texts) number before =
       | Fine l ↦ parse_left texts (number + 1) (before ++ l ∷ []) ∙ regrouped before l (left_from (number + 1) (before ++ l ∷ []) texts)
     ]
 
-pub parse_is : (bytes : List ℕ) → parse bytes ≡ read_by [] (left_in bytes)
+pub parse_is : (bytes : List ℕ) → parse bytes ≡ read_by [] (all_left bytes)
 unfolding parse
 parse_is bytes = parse_left (lines bytes) 1 []

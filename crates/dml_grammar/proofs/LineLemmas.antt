@@ -16,12 +16,12 @@ use Rattle.dml_grammar.specs.declared.table.Slot.{Slot}
 use Rattle.dml_grammar.specs.declared.table.Slot.TheVariants.{Number, Digits}
 use Rattle.dml_grammar.specs.declared.table.Part.{Part}
 use Rattle.dml_grammar.specs.Grammar as grammar
-use Rattle.dml_grammar.specs.Number.{number_of, at_most, bytes_in}
+use Rattle.dml_grammar.specs.Number.{word_number, at_most, word_bytes}
 use Rattle.dml_grammar.specs.Reads.{Fails, HasSizes, IsNext}
-use Rattle.dml_grammar.specs.Table.{parts_in, descriptor_digits}
+use Rattle.dml_grammar.specs.Table.{parts_of, descriptor_digits}
 
 abbrev pub Entries : Type 0
-Entries = List (Slot × Option (List ℕ))
+Entries = List grammar.Entry
 
 -- The first fault of a list, and of another after it.
 
@@ -88,7 +88,7 @@ at_most_fits largest (Some n) =
 
 number_fits : (slot : Slot) (w : Option (List ℕ)) → unwrap_or (grammar.slot_number slot w) 0 ≤ limit_of slot
 number_fits slot None = omega arith
-number_fits (Number largest) (Some w) = at_most_fits largest (number_of w)
+number_fits (Number largest) (Some w) = at_most_fits largest (word_number w)
 number_fits (Digits least most) (Some w) = omega arith
 
 number_at_fits : (entries : Entries) (place : ℕ)
@@ -104,9 +104,9 @@ decoded_fits w most within =
       | Err e ↦ λ _. omega arith
     ] refl
 
-digits_fit : (least most : ℕ) (w : List ℕ) → length (unwrap_or (bytes_in least most w) []) ≤ most / 2
+digits_fit : (least most : ℕ) (w : List ℕ) → length (unwrap_or (word_bytes least most w) []) ≤ most / 2
 digits_fit least most w =
-    elim (cases_Bool (nat_le least (length w) && nat_le (length w) most)) as (λ _. length (unwrap_or (bytes_in least most w) []) ≤ most / 2) [
+    elim (cases_Bool (nat_le least (length w) && nat_le (length w) most)) as (λ _. length (unwrap_or (word_bytes least most w) []) ≤ most / 2) [
       | inl within ↦ rw within (decoded_fits w most (leb-true _ _ (and_parts _ _ within).1))
       | inr outside ↦ rw outside (omega arith)
     ]
@@ -124,7 +124,7 @@ all_bytes_fit (entry ∷ entries) =
     omega (arith, here, after, length-append (grammar.slot_bytes entry.0 entry.1) (grammar.values_of entries).bytes)
 
 -- the one word of a descriptor has 128 digits, if it has no fault
-raw_fitted : (ws : List (List ℕ)) (entries : Entries) → grammar.fitted (parts_in word.Raw) ws ≡ Some entries
+raw_fitted : (ws : List (List ℕ)) (entries : Entries) → grammar.fitted (parts_of word.Raw) ws ≡ Some entries
     → (w : List ℕ) × (entries ≡ (descriptor_digits, Some w) ∷ [])
 raw_fitted [] entries is = cc
 raw_fitted (w ∷ []) entries is = (w, cc)
@@ -137,9 +137,9 @@ decoded_twice w long =
       | Err e ↦ λ is fine. cc
     ] refl
 
-descriptor_size : (w : List ℕ) → is_none (bytes_in 128 128 w) ≡ false → length (unwrap_or (bytes_in 128 128 w) []) ≡ 64
+descriptor_size : (w : List ℕ) → is_none (word_bytes 128 128 w) ≡ false → length (unwrap_or (word_bytes 128 128 w) []) ≡ 64
 descriptor_size w =
-    elim (cases_Bool (nat_le 128 (length w) && nat_le (length w) 128)) as (λ _. is_none (bytes_in 128 128 w) ≡ false → length (unwrap_or (bytes_in 128 128 w) []) ≡ 64) [
+    elim (cases_Bool (nat_le 128 (length w) && nat_le (length w) 128)) as (λ _. is_none (word_bytes 128 128 w) ≡ false → length (unwrap_or (word_bytes 128 128 w) []) ≡ 64) [
       | inl within ↦
           let both = and_parts (nat_le 128 (length w)) (nat_le (length w) 128) within in
           let least : 128 ≤ length w = leb-true 128 (length w) both.0 in
@@ -152,39 +152,39 @@ no_fault : (is_there : Bool) (kind : Kind) → grammar.first_of ((is_there, kind
 no_fault true kind none = cc
 no_fault false kind none = refl
 
-raw_size : (ws : List (List ℕ)) (entries : Entries) → grammar.fitted (parts_in word.Raw) ws ≡ Some entries
+raw_size : (ws : List (List ℕ)) (entries : Entries) → grammar.fitted (parts_of word.Raw) ws ≡ Some entries
     → grammar.first_of (map (λ e. grammar.slot_fault e.0 e.1) entries) ≡ None → length (grammar.values_of entries).bytes ≡ 64
 raw_size ws entries is none =
     let one = raw_fitted ws entries is in
     let w : List ℕ = one.0 in
-    let fine : is_none (bytes_in 128 128 w) ≡ false =
+    let fine : is_none (word_bytes 128 128 w) ≡ false =
     no_fault _ _ (subst (λ (es : Entries). grammar.first_of (map (λ e. grammar.slot_fault e.0 e.1) es) ≡ None) one.1 none) in
-    let long : length (unwrap_or (bytes_in 128 128 w) [] ++ []) ≡ 64 = rw append-nil (descriptor_size w fine) in
+    let long : length (unwrap_or (word_bytes 128 128 w) [] ++ []) ≡ 64 = rw append-nil (descriptor_size w fine) in
     subst (λ (es : Entries). length (grammar.values_of es).bytes ≡ 64) (sym one.1) long
 
-pub sizes_of_fitted : (first : Word) (ws : List (List ℕ)) (entries : Entries) → grammar.fitted (parts_in first) ws ≡ Some entries
+pub sizes_of_fitted : (first : Word) (ws : List (List ℕ)) (entries : Entries) → grammar.fitted (parts_of first) ws ≡ Some entries
     → grammar.first_of (map (λ e. grammar.slot_fault e.0 e.1) entries) ≡ None
     → HasSizes first (grammar.values_of entries)
 sizes_of_fitted word.Image ws entries is fine = tt
 sizes_of_fitted word.Page ws entries is fine = tt
 sizes_of_fitted word.Poke ws entries is fine =
-    let slots = fitted_slots (parts_in word.Poke) ws entries is in
+    let slots = fitted_slots (parts_of word.Poke) ws entries is in
     subst (λ (slots : List Slot). length (grammar.values_of entries).bytes ≤ bytes_of_slots slots) slots (all_bytes_fit entries)
 sizes_of_fitted word.NoOp ws entries is fine =
-    let slots = fitted_slots (parts_in word.NoOp) ws entries is in
+    let slots = fitted_slots (parts_of word.NoOp) ws entries is in
     subst (λ (slots : List Slot). grammar.number_at (grammar.values_of entries) 0 ≤ limit_of (get_or slots 0 (Number 0))) slots (number_at_fits entries 0)
 sizes_of_fitted word.Move ws entries is fine =
-    let slots = fitted_slots (parts_in word.Move) ws entries is in (
+    let slots = fitted_slots (parts_of word.Move) ws entries is in (
       subst (λ (slots : List Slot). grammar.number_at (grammar.values_of entries) 2 ≤ limit_of (get_or slots 2 (Number 0))) slots (number_at_fits entries 2),
       subst (λ (slots : List Slot). grammar.number_at (grammar.values_of entries) 3 ≤ limit_of (get_or slots 3 (Number 0))) slots (number_at_fits entries 3),
     )
 sizes_of_fitted word.Fill ws entries is fine =
-    let slots = fitted_slots (parts_in word.Fill) ws entries is in (
+    let slots = fitted_slots (parts_of word.Fill) ws entries is in (
       subst (λ (slots : List Slot). grammar.number_at (grammar.values_of entries) 2 ≤ limit_of (get_or slots 2 (Number 0))) slots (number_at_fits entries 2),
       subst (λ (slots : List Slot). grammar.number_at (grammar.values_of entries) 3 ≤ limit_of (get_or slots 3 (Number 0))) slots (number_at_fits entries 3),
     )
 sizes_of_fitted word.Dualcast ws entries is fine =
-    let slots = fitted_slots (parts_in word.Dualcast) ws entries is in (
+    let slots = fitted_slots (parts_of word.Dualcast) ws entries is in (
       subst (λ (slots : List Slot). grammar.number_at (grammar.values_of entries) 3 ≤ limit_of (get_or slots 3 (Number 0))) slots (number_at_fits entries 3),
       subst (λ (slots : List Slot). grammar.number_at (grammar.values_of entries) 4 ≤ limit_of (get_or slots 4 (Number 0))) slots (number_at_fits entries 4),
     )

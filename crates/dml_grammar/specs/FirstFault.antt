@@ -1,5 +1,5 @@
--- The law of `parse` in the words of a reader of scripts: its lines are those of a script in which no line is faulty,
--- and its fault is that of the first faulty line.
+-- The law of `parse` in the words of a reader of scripts: its lines are those of a script in which no line is
+-- faulty, and its fault is that of the first faulty line.
 use Rattle.std.specs.Prelude.{◌≡◌, ◌↔◌, ◌⊎◌, ℕ, ◌+◌, ◌<◌, List, [], ◌∷◌, ◌++◌, length, take, slice_index_or, Option, Some, None, Ok, Err}
 use Rattle.std.specs.List.{fold}
 use Rattle.std.specs.Str.Lines.{lines}
@@ -19,17 +19,18 @@ grown before (Fine found) = before ++ found ∷ []
 abbrev pub lines_after : List Line → List (List ℕ) → List Line
 lines_after before texts = fold (λ so_far text. grown so_far (verdict text so_far)) before texts
 
-abbrev pub fault_of : Verdict → Option Kind
-fault_of Skipped = None
-fault_of (Faulty kind) = Some kind
-fault_of (Fine found) = None
+abbrev pub verdict_fault : Verdict → Option Kind
+verdict_fault Skipped = None
+verdict_fault (Faulty kind) = Some kind
+verdict_fault (Fine found) = None
 
--- the fault of the text at a place, read after those before it; a text's fault is the first in the order of the table
-abbrev pub fault_in : List Line → List (List ℕ) → ℕ → Option Kind
-fault_in before texts place = fault_of (verdict (slice_index_or texts place []) (lines_after before (take place texts)))
+-- the fault of the text at a place, read after those before it: the first in the order of the table
+abbrev pub line_fault : List Line → List (List ℕ) → ℕ → Option Kind
+line_fault before texts place =
+    verdict_fault (verdict (slice_index_or texts place []) (lines_after before (take place texts)))
 
 abbrev pub FaultlessBelow : List Line → List (List ℕ) → ℕ → Type 0
-FaultlessBelow before texts n = (place : ℕ) → place < n → fault_in before texts place ≡ None
+FaultlessBelow before texts n = (place : ℕ) → place < n → line_fault before texts place ≡ None
 
 -- no text is faulty, and these are their lines, at least one
 pub record AreLines (before : List Line) (texts : List (List ℕ)) (found : List Line) : Type 0 where
@@ -38,14 +39,16 @@ pub record AreLines (before : List Line) (texts : List (List ℕ)) (found : List
   pub some : 0 < length found
 
 -- the text at a place is faulty, and none before it; texts are numbered from a number on
-pub record IsFaultAt (number : ℕ) (before : List Line) (texts : List (List ℕ)) (fault : ScriptFault) (place : ℕ) : Type 0 where
+pub record IsFaultAt (number : ℕ) (before : List Line) (texts : List (List ℕ)) (fault : ScriptFault)
+    (place : ℕ) : Type 0 where
   pub within : place < length texts
   pub line : fault.line ≡ number + place
-  pub kind : fault_in before texts place ≡ Some fault.kind
+  pub kind : line_fault before texts place ≡ Some fault.kind
   pub first : FaultlessBelow before texts place
 
 -- no text is faulty, and none gives a line: the `image` line is missing behind the last one
-pub record HasNoLine (number : ℕ) (before : List Line) (texts : List (List ℕ)) (fault : ScriptFault) : Type 0 where
+pub record HasNoLine (number : ℕ) (before : List Line) (texts : List (List ℕ)) (fault : ScriptFault)
+    : Type 0 where
   pub faultless : FaultlessBelow before texts (length texts)
   pub none : lines_after before texts ≡ []
   pub behind : fault ≡ fault_at (number + length texts) MissingImage
@@ -56,8 +59,10 @@ IsFirstFault number before texts fault =
 
 -- a script is read exactly where no line is faulty
 abbrev pub ReadsFaultless : Type 0
-ReadsFaultless = (bytes : List ℕ) (found : List Line) → (parse bytes ≡ Ok found) ↔ AreLines [] (lines bytes) found
+ReadsFaultless =
+    (bytes : List ℕ) (found : List Line) → (parse bytes ≡ Ok found) ↔ AreLines [] (lines bytes) found
 
 -- and refused exactly by its first fault
 abbrev pub NamesFirstFault : Type 0
-NamesFirstFault = (bytes : List ℕ) (fault : ScriptFault) → (parse bytes ≡ Err fault) ↔ IsFirstFault 1 [] (lines bytes) fault
+NamesFirstFault =
+    (bytes : List ℕ) (fault : ScriptFault) → (parse bytes ≡ Err fault) ↔ IsFirstFault 1 [] (lines bytes) fault

@@ -4,6 +4,7 @@ use Rattle.std.specs.List.{flat_map, list_all, list_any, range_with_len}
 use Rattle.std.specs.Option.{option_map, option_and_then}
 use Rattle.std.specs.Str.Lines.{lines}
 use Rattle.dml_desc.specs.Descriptor.{decoded, u8_at}
+use Rattle.dml_types.specs.declared.jobs.Job.{Job}
 use Rattle.dml_types.specs.Job.{no_op_job, move_job, fill_job, dualcast_job}
 use Rattle.dml_types.specs.Memory.{page_size}
 use Rattle.dml_grammar.specs.declared.faults.Kind.{Kind}
@@ -17,15 +18,19 @@ use Rattle.dml_grammar.specs.declared.table.Slot.{Slot}
 use Rattle.dml_grammar.specs.declared.table.Slot.TheVariants.{Number, Digits}
 use Rattle.dml_grammar.specs.declared.table.Part.{Part}
 use Rattle.dml_grammar.specs.declared.table.Part.TheVariants.{One, Maybe, Named}
-use Rattle.dml_grammar.specs.Number.{number_of, at_most, bytes_in}
-use Rattle.dml_grammar.specs.Table.{word_with, parts_in, suffix_text}
+use Rattle.dml_grammar.specs.Number.{word_number, at_most, word_bytes}
+use Rattle.dml_grammar.specs.Table.{word_named, parts_of, suffix_text}
 use Rattle.dml_grammar.specs.Text.{words, is_text}
 
 -- the longest line
 abbrev pub longest_line : ℕ
 longest_line = 16384
 
--- Words and parts. Each part of a line has one entry: what it is, and the word that stands there, if any.
+-- Words and parts.
+
+-- each part of a line has one entry: what it is, and the word that stands there, if any
+abbrev pub Entry : Type 0
+Entry = Slot × Option (List ℕ)
 
 abbrev pub word_after : List (List ℕ) → Option (Option (List ℕ) × List (List ℕ))
 word_after [] = None
@@ -47,14 +52,15 @@ slot_of (One slot) = slot
 slot_of (Maybe slot) = slot
 slot_of (Named name slot) = slot
 
-abbrev pub with_first : Slot × Option (List ℕ) → Option (List (Slot × Option (List ℕ))) → Option (List (Slot × Option (List ℕ)))
+abbrev pub with_first : Entry → Option (List Entry) → Option (List Entry)
 with_first entry entries = option_map (λ more. entry ∷ more) entries
 
 -- the entries of all parts, or None where a word is missing or left over
-abbrev pub fitted : List Part → List (List ℕ) → Option (List (Slot × Option (List ℕ)))
+abbrev pub fitted : List Part → List (List ℕ) → Option (List Entry)
 fitted [] [] = Some []
 fitted [] (w ∷ ws) = None
-fitted (part ∷ parts) ws = option_and_then (λ t. with_first (slot_of part, t.0) (fitted parts t.1)) (taken part ws)
+fitted (part ∷ parts) ws =
+    option_and_then (λ t. with_first (slot_of part, t.0) (fitted parts t.1)) (taken part ws)
 
 -- Values of words: the number of each entry, and the bytes of the hexadecimal one.
 
@@ -64,17 +70,20 @@ pub record Values : Type 0 where
 
 abbrev pub slot_number : Slot → Option (List ℕ) → Option ℕ
 slot_number slot None = None
-slot_number (Number largest) (Some w) = at_most largest (number_of w)
+slot_number (Number largest) (Some w) = at_most largest (word_number w)
 slot_number (Digits least most) (Some w) = None
 
 abbrev pub slot_bytes : Slot → Option (List ℕ) → List ℕ
 slot_bytes slot None = []
 slot_bytes (Number largest) (Some w) = []
-slot_bytes (Digits least most) (Some w) = unwrap_or (bytes_in least most w) []
+slot_bytes (Digits least most) (Some w) = unwrap_or (word_bytes least most w) []
 
-abbrev pub values_of : List (Slot × Option (List ℕ)) → Values
+abbrev pub values_of : List Entry → Values
 values_of entries =
-    record { numbers = map (λ e. slot_number e.0 e.1) entries; bytes = flat_map (λ e. slot_bytes e.0 e.1) entries }
+    record {
+      numbers = map (λ e. slot_number e.0 e.1) entries;
+      bytes = flat_map (λ e. slot_bytes e.0 e.1) entries;
+    }
 
 -- the number of an entry; 0 where its word was left out
 abbrev pub number_at : Values → ℕ → ℕ
@@ -97,23 +106,29 @@ abbrev pub is_present : List Line → ℕ → Bool
 is_present before page = list_any (brings page) before
 
 abbrev pub has_bytes : List Line → ℕ → ℕ → Bool
-has_bytes before address n = list_all (λ i. is_present before ((address + i) / page_size)) (range_with_len 0 n)
+has_bytes before address n =
+    list_all (λ i. is_present before ((address + i) / page_size)) (range_with_len 0 n)
 
 -- Lines.
+
+-- the line of a job with these flags
+abbrev pub flagged : Job → ℕ → Line
+flagged job flags = line.Job (record job { flags = flags })
 
 abbrev pub line_of : Word → Values → Line
 line_of word.Image v = line.Image (number_at v 0)
 line_of word.Page v = line.Page (number_at v 0) v.bytes
 line_of word.Poke v = line.Poke (number_at v 0) v.bytes
-line_of word.NoOp v = line.Job (record no_op_job { flags = number_at v 0 })
-line_of word.Move v = line.Job (record (move_job (number_at v 0) (number_at v 1) (number_at v 2)) { flags = number_at v 3 })
-line_of word.Fill v = line.Job (record (fill_job (number_at v 0) (number_at v 1) (number_at v 2)) { flags = number_at v 3 })
+line_of word.NoOp v = flagged no_op_job (number_at v 0)
+line_of word.Move v = flagged (move_job (number_at v 0) (number_at v 1) (number_at v 2)) (number_at v 3)
+line_of word.Fill v = flagged (fill_job (number_at v 0) (number_at v 1) (number_at v 2)) (number_at v 3)
 line_of word.Dualcast v =
-    line.Job (record (dualcast_job (number_at v 0) (number_at v 1) (number_at v 2) (number_at v 3)) { flags = number_at v 4 })
+    flagged (dualcast_job (number_at v 0) (number_at v 1) (number_at v 2) (number_at v 3)) (number_at v 4)
 line_of word.Raw v = line.Job (decoded v.bytes)
 line_of word.Show v = line.Show (number_at v 0) (number_at v 1)
 
--- whether a line's numbers are out of range: pages 1 to 4,096, a page of the image, present bytes, 1 to 65,536 bytes to show
+-- whether a line's numbers are out of range: pages 1 to 4,096, a page of the image, present bytes,
+-- 1 to 65,536 bytes to show
 abbrev pub is_out_of_range : Word → Values → List Line → Bool
 is_out_of_range word.Image v before = not (nat_le 1 (number_at v 0) && nat_le (number_at v 0) 4096)
 is_out_of_range word.Page v before = not (nat_lt (number_at v 0) (pages_of before))
@@ -124,7 +139,8 @@ is_out_of_range word.Fill v before = false
 is_out_of_range word.Dualcast v before = false
 is_out_of_range word.Raw v before = false
 is_out_of_range word.Show v before =
-    not (nat_le 1 (number_at v 1) && nat_le (number_at v 1) 65536) || nat_lt (2 ^ 64) (number_at v 0 + number_at v 1)
+    not (nat_le 1 (number_at v 1) && nat_le (number_at v 1) 65536)
+    || nat_lt (2 ^ 64) (number_at v 0 + number_at v 1)
 
 -- the opcodes whose lines are not read yet: both compares, create and apply
 abbrev pub later_opcodes : List ℕ
@@ -146,17 +162,18 @@ has_later_opcode word.Show v = false
 
 abbrev pub slot_fault : Slot → Option (List ℕ) → Bool × Kind
 slot_fault slot None = (false, BadNumber)
-slot_fault (Number largest) (Some w) = (is_none (at_most largest (number_of w)), BadNumber)
-slot_fault (Digits least most) (Some w) = (is_none (bytes_in least most w), BadHex)
+slot_fault (Number largest) (Some w) = (is_none (at_most largest (word_number w)), BadNumber)
+slot_fault (Digits least most) (Some w) = (is_none (word_bytes least most w), BadHex)
 
-abbrev pub entry_faults : Word → Option (List (Slot × Option (List ℕ))) → List Line → List (Bool × Kind)
+abbrev pub entry_faults : Word → Option (List Entry) → List Line → List (Bool × Kind)
 entry_faults first None before = (true, WrongWords) ∷ []
 entry_faults first (Some entries) before =
     map (λ e. slot_fault e.0 e.1) entries
-    ++ (has_later_opcode first (values_of entries), UnknownWord) ∷ (is_out_of_range first (values_of entries) before, BadRange) ∷ []
+    ++ (has_later_opcode first (values_of entries), UnknownWord)
+    ∷ (is_out_of_range first (values_of entries) before, BadRange) ∷ []
 
 abbrev pub rest_faults : Word → List (List ℕ) → List Line → List (Bool × Kind)
-rest_faults first after before = entry_faults first (fitted (parts_in first) after) before
+rest_faults first after before = entry_faults first (fitted (parts_of first) after) before
 
 abbrev pub is_image : Word → Bool
 is_image word.Image = true
@@ -183,7 +200,7 @@ word_faults (Some first) after before =
 abbrev pub faults_of : List ℕ → List ℕ → List (List ℕ) → List Line → List (Bool × Kind)
 faults_of text first after before =
     (nat_lt longest_line (length text), LongLine) ∷ (not (list_all is_text text), NotAscii)
-    ∷ word_faults (word_with first) after before
+    ∷ word_faults (word_named first) after before
 
 abbrev pub first_of : List (Bool × Kind) → Option Kind
 first_of faults = option_map (λ fault. fault.1) (find (λ fault. fault.0) faults)
@@ -196,13 +213,13 @@ pub data Verdict : Type 0 where
   Fine : (line : Line) → Verdict
 
 -- the line of words that have no fault; an unknown word and words that do not fit have one
-abbrev pub line_in : Option Word → List (List ℕ) → Verdict
-line_in None after = Skipped
-line_in (Some first) after = Fine (line_of first (values_of (unwrap_or (fitted (parts_in first) after) [])))
+abbrev pub accepted : Option Word → List (List ℕ) → Verdict
+accepted None after = Skipped
+accepted (Some first) after = Fine (line_of first (values_of (unwrap_or (fitted (parts_of first) after) [])))
 
 abbrev pub judged : Option Kind → Option Word → List (List ℕ) → Verdict
 judged (Some kind) first after = Faulty kind
-judged None first after = line_in first after
+judged None first after = accepted first after
 
 abbrev pub is_comment : List ℕ → Bool
 is_comment first = nat_eq (slice_index first 0) 35
@@ -211,7 +228,8 @@ is_comment first = nat_eq (slice_index first 0) 35
 abbrev pub verdict_of : List (List ℕ) → List ℕ → List Line → Verdict
 verdict_of [] text before = Skipped
 verdict_of (first ∷ after) text before =
-    if is_comment first then Skipped else judged (first_of (faults_of text first after before)) (word_with first) after
+    if is_comment first then Skipped
+    else judged (first_of (faults_of text first after before)) (word_named first) after
 
 abbrev pub verdict : List ℕ → List Line → Verdict
 verdict text before = verdict_of (words text) text before
@@ -223,7 +241,8 @@ fault_at number kind = record { line = number; kind = kind }
 
 -- the texts from a line's number on, after the lines before
 unfoldable pub parse_from : ℕ → List Line → List (List ℕ) → Result (List Line) ScriptFault
-parse_from number before [] = if nat_eq (length before) 0 then Err (fault_at number MissingImage) else Ok before
+parse_from number before [] =
+    if nat_eq (length before) 0 then Err (fault_at number MissingImage) else Ok before
 parse_from number before (text ∷ texts) = elim (verdict text before) [
   | Skipped ↦ parse_from (number + 1) before texts
   | Faulty kind ↦ Err (fault_at number kind)

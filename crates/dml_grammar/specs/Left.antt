@@ -21,7 +21,8 @@ with_line found left = record { lines = found ∷ left.lines; fault = left.fault
 
 -- what the texts from a line's number on give, after the lines before
 unfoldable pub left_from : ℕ → List Line → List (List ℕ) → Left
-left_from number before [] = nothing_but (if nat_eq (length before) 0 then Some (fault_at number MissingImage) else None)
+left_from number before [] =
+    nothing_but (if nat_eq (length before) 0 then Some (fault_at number MissingImage) else None)
 left_from number before (text ∷ texts) = elim (verdict text before) [
   | Skipped ↦ left_from (number + 1) before texts
   | Faulty kind ↦ nothing_but (Some (fault_at number kind))
@@ -29,10 +30,11 @@ left_from number before (text ∷ texts) = elim (verdict text before) [
 ]
 
 -- what a whole text gives
-abbrev pub left_in : List ℕ → Left
-left_in bytes = left_from 1 [] (lines bytes)
+abbrev pub all_left : List ℕ → Left
+all_left bytes = left_from 1 [] (lines bytes)
 
--- what a reader of lines answers: the next line, none behind the last one, or the fault; but for a line nothing changes
+-- what a reader of lines answers: the next line, none behind the last one, or the fault; where it gives no
+-- line nothing changes
 abbrev pub Gives : Result (Option Line) ScriptError → Left → Left → Type 0
 Gives (Ok (Some found)) old new = old ≡ with_line found new
 Gives (Ok None) old new = (old ≡ nothing_but None) × (new ≡ old)

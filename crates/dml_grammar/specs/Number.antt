@@ -7,15 +7,16 @@ use Rattle.std.specs.Result.{result_ok}
 use Rattle.hex.specs.Hex.{decode_of}
 
 -- the number that 1 to `most` digits write in a radix; leading zeros are allowed
-abbrev pub number_in : ℕ → ℕ → List ℕ → Option ℕ
-number_in radix most digits =
+abbrev pub digits_number : ℕ → ℕ → List ℕ → Option ℕ
+digits_number radix most digits =
     if nat_lt 0 (length digits) && nat_le (length digits) most && list_all (λ c. is_digit c radix) digits
     then Some (digits_value radix digits) else None
 
 -- 1 to 20 decimal digits, or `0x` and 1 to 16 hexadecimal digits in either case
-abbrev pub number_of : List ℕ → Option ℕ
-number_of word =
-    if bytes_eq (take 2 word) (codes "0x") then number_in 16 16 (drop 2 word) else number_in 10 20 word
+abbrev pub word_number : List ℕ → Option ℕ
+word_number word =
+    if bytes_eq (take 2 word) (codes "0x") then digits_number 16 16 (drop 2 word)
+    else digits_number 10 20 word
 
 -- the number, where there is one and it is not above the largest
 abbrev pub at_most : ℕ → Option ℕ → Option ℕ
@@ -23,6 +24,6 @@ at_most largest None = None
 at_most largest (Some number) = if nat_le number largest then Some number else None
 
 -- the bytes that `least` to `most` hexadecimal digits write, two digits a byte, in either case
-abbrev pub bytes_in : ℕ → ℕ → List ℕ → Option (List ℕ)
-bytes_in least most word =
+abbrev pub word_bytes : ℕ → ℕ → List ℕ → Option (List ℕ)
+word_bytes least most word =
     if nat_le least (length word) && nat_le (length word) most then result_ok (decode_of word) else None

@@ -1,4 +1,5 @@
--- What a line may ask of the lines before it, and the shortest lines that answer alike: the reader keeps no others.
+-- What a line may ask of the lines before it, and the shortest lines that answer alike: the reader keeps no
+-- others.
 use Rattle.std.specs.Prelude.{◌≡◌, ℕ, ◌+◌, Bool, true, false, List, [], ◌∷◌, length, nat_eq, slice_index_or}
 use Rattle.dml_grammar.specs.declared.lines.Line.{Line}
 use Rattle.dml_grammar.specs.declared.lines.Line.TheVariants as line

@@ -37,10 +37,11 @@ entries_seen entries = map (λ e. (e.0, word_seen e.1)) entries
 abbrev pub values_seen : Values → grammar.Values
 values_seen values = record { numbers = values.numbers.items; bytes = values.bytes.items }
 
-abbrev pub faults_in : List (Slot × Option (Bor (List ℕ))) → List (Bool × Kind)
-faults_in entries = map (λ e. grammar.slot_fault e.0 e.1) (entries_seen entries)
+abbrev pub slot_faults : List (Slot × Option (Bor (List ℕ))) → List (Bool × Kind)
+slot_faults entries = map (λ e. grammar.slot_fault e.0 e.1) (entries_seen entries)
 
--- a line that may come next: an image of few pages at the start, a page of the image, another line behind the first
+-- a line that may come next: an image of few pages at the start, a page of the image, another line behind the
+-- first
 abbrev pub IsNext : List Line → Line → Type 0
 IsNext before (line.Image pages) = (before ≡ []) × (1 ≤ pages) × (pages ≤ 4096)
 IsNext before (line.Page page bytes) = page < grammar.pages_of before
@@ -73,9 +74,9 @@ FitsFields word.Raw v = length v.bytes ≡ 64
 FitsFields word.Show v = grammar.number_at v 1 < 2 ^ 32
 
 -- what a reader of one line answers: a line or none, or why it failed
-abbrev pub verdict_from : Option Line → grammar.Verdict
-verdict_from None = grammar.Skipped
-verdict_from (Some found) = grammar.Fine found
+abbrev pub fine_or_skipped : Option Line → grammar.Verdict
+fine_or_skipped None = grammar.Skipped
+fine_or_skipped (Some found) = grammar.Fine found
 
 abbrev pub Condemns : ReadError → grammar.Verdict → Type 0
 Condemns errors.NoMemory verdict = Unit {0}

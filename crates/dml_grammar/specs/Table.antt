@@ -14,19 +14,20 @@ use Rattle.dml_grammar.specs.declared.table.Part.TheVariants.{One, Maybe, Named}
 -- the first words of lines
 abbrev pub first_words : List (List ℕ × Word)
 first_words =
-    (codes "image", word.Image) ∷ (codes "page", word.Page) ∷ (codes "poke", word.Poke) ∷ (codes "noop", word.NoOp)
-    ∷ (codes "move", word.Move) ∷ (codes "fill", word.Fill) ∷ (codes "dualcast", word.Dualcast) ∷ (codes "raw", word.Raw)
+    (codes "image", word.Image) ∷ (codes "page", word.Page) ∷ (codes "poke", word.Poke)
+    ∷ (codes "noop", word.NoOp) ∷ (codes "move", word.Move) ∷ (codes "fill", word.Fill)
+    ∷ (codes "dualcast", word.Dualcast) ∷ (codes "raw", word.Raw)
     ∷ (codes "show", word.Show) ∷ []
 
-abbrev pub word_in : List (List ℕ × Word) → List ℕ → Option Word
-word_in rows text = option_map (λ row. row.1) (find (λ row. bytes_eq text row.0) rows)
+abbrev pub find_word : List (List ℕ × Word) → List ℕ → Option Word
+find_word rows text = option_map (λ row. row.1) (find (λ row. bytes_eq text row.0) rows)
 
 -- the rows of a table, behind their references
 abbrev pub rows_seen : List (Bor (List ℕ) × Word) → List (List ℕ × Word)
 rows_seen rows = map (λ row. (row.0.now, row.1)) rows
 
-abbrev pub word_with : List ℕ → Option Word
-word_with text = word_in first_words text
+abbrev pub word_named : List ℕ → Option Word
+word_named text = find_word first_words text
 
 -- an address, a pattern or a number whose range is looked for later: 64 bits; and a size of 32 bits
 abbrev pub long : Part
@@ -48,16 +49,16 @@ abbrev pub descriptor_digits : Slot
 descriptor_digits = Digits 128 128
 
 -- what comes after a first word, in this order
-abbrev pub parts_in : Word → List Part
-parts_in word.Image = long ∷ []
-parts_in word.Page = long ∷ Maybe page_digits ∷ []
-parts_in word.Poke = long ∷ One page_digits ∷ []
-parts_in word.NoOp = flags ∷ []
-parts_in word.Move = long ∷ long ∷ short ∷ flags ∷ []
-parts_in word.Fill = long ∷ long ∷ short ∷ flags ∷ []
-parts_in word.Dualcast = long ∷ long ∷ long ∷ short ∷ flags ∷ []
-parts_in word.Raw = One descriptor_digits ∷ []
-parts_in word.Show = long ∷ long ∷ []
+abbrev pub parts_of : Word → List Part
+parts_of word.Image = long ∷ []
+parts_of word.Page = long ∷ Maybe page_digits ∷ []
+parts_of word.Poke = long ∷ One page_digits ∷ []
+parts_of word.NoOp = flags ∷ []
+parts_of word.Move = long ∷ long ∷ short ∷ flags ∷ []
+parts_of word.Fill = long ∷ long ∷ short ∷ flags ∷ []
+parts_of word.Dualcast = long ∷ long ∷ long ∷ short ∷ flags ∷ []
+parts_of word.Raw = One descriptor_digits ∷ []
+parts_of word.Show = long ∷ long ∷ []
 
 -- the word that a suffix begins with
 abbrev pub suffix_text : Suffix → List ℕ

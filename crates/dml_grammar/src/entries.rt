@@ -3,11 +3,11 @@
 ghost use Rattle.std.specs.Prelude.{◌≡◌, ◌≤◌, ◌∷◌, ◌++◌, [], length, IfOk, IfErr, OnOk, Some, None, false};
 ghost use Rattle.std.specs.Option.{option_map};
 ghost use Rattle.dml_grammar.specs.Grammar as grammar;
-ghost use Rattle.dml_grammar.specs.Reads.{word_seen, entries_seen, values_seen, faults_in, Fails};
+ghost use Rattle.dml_grammar.specs.Reads.{word_seen, entries_seen, values_seen, slot_faults, Fails};
 ghost use Rattle.dml_grammar.specs.Text.{words};
 
 use crate::faults::{Kind, ReadError};
-use crate::numbers::{bytes_of, number_of};
+use crate::numbers::{bounded_number, word_bytes};
 use crate::table::{MOST_PARTS, Part, Slot, name_of};
 use crate::words::next_word;
 use arrayvec::ArrayVec;
@@ -84,13 +84,13 @@ fn read_word(alloc: Global, slot: Slot, word: &[u8]) -> Result<(Option<u64>, Vec
 {
     match slot {
         Slot::Number(largest) => {
-            let Some(number) = number_of(largest, word) else {
+            let Some(number) = bounded_number(largest, word) else {
                 return Err(ReadError::Fault(Kind::BadNumber));
             };
             Ok((Some(number), Vec::new(alloc)))
         }
         Slot::Digits(least, most) => {
-            let Some(bytes) = bytes_of(alloc, least, most, word)? else {
+            let Some(bytes) = word_bytes(alloc, least, most, word)? else {
                 return Err(ReadError::Fault(Kind::BadHex));
             };
             Ok((None, bytes))
@@ -113,8 +113,8 @@ fn joined(mut bytes: Vec<u8>, more: Vec<u8>) -> Result<Vec<u8>, AllocError>
 pub fn read_entries(alloc: Global, entries: &[Entry]) -> Result<Values, ReadError>
     requires { length entries.now ≤ MOST_PARTS }
     ensures values { IfOk result (λ v. values_seen v ≡ grammar.values_of (entries_seen entries.now)) }
-    ensures fine { OnOk result (grammar.first_of (faults_in entries.now) ≡ None) }
-    ensures err { IfErr result (λ e. Fails e (grammar.first_of (faults_in entries.now))) }
+    ensures fine { OnOk result (grammar.first_of (slot_faults entries.now) ≡ None) }
+    ensures err { IfErr result (λ e. Fails e (grammar.first_of (slot_faults entries.now))) }
 {
     let mut numbers = ArrayVec::new();
     let mut bytes = Vec::new(alloc);

@@ -3,15 +3,15 @@
 ghost use Rattle.std.specs.Prelude.{◌≡◌, ◌<◌, [], length, IfOk, IfErr, IfSome, OnOk, Some, None, true, false};
 ghost use Rattle.std.specs.List.{list_all};
 ghost use Rattle.dml_grammar.specs.Grammar as grammar;
-ghost use Rattle.dml_grammar.specs.Reads.{Condemns, Fails, FitsFields, HasSizes, IsNext, values_seen, verdict_from};
-ghost use Rattle.dml_grammar.specs.Table.{word_with};
+ghost use Rattle.dml_grammar.specs.Reads.{Condemns, Fails, FitsFields, HasSizes, IsNext, values_seen, fine_or_skipped};
+ghost use Rattle.dml_grammar.specs.Table.{word_named};
 ghost use Rattle.dml_grammar.specs.Text.{is_text, words};
 
 use crate::entries::{Values, fit, read_entries};
 use crate::faults::{Kind, ReadError};
 use crate::lines::{Bytes, Line};
-use crate::reading::Reading;
-use crate::table::{Word, parts_of, word_of};
+use crate::pages::ImagePages;
+use crate::table::{Word, parts_of, word_named};
 use crate::words::next_word;
 use dml_desc::decode;
 use dml_types::Job;
@@ -53,16 +53,16 @@ fn has_later_opcode(word: Word, values: &Values) -> bool
 }
 
 /// Whether a line's numbers are out of range.
-fn is_out_of_range(word: Word, values: &Values, reading: &Reading) -> bool
+fn is_out_of_range(word: Word, values: &Values, pages: &ImagePages) -> bool
     requires { HasSizes word (values_seen values.now) }
-    ensures value { result ≡ grammar.is_out_of_range word (values_seen values.now) reading.now }
+    ensures value { result ≡ grammar.is_out_of_range word (values_seen values.now) pages.now }
     ensures fields { result ≡ false → FitsFields word (values_seen values.now) }
 {
     let first = number_at(values, 0);
     match word {
         Word::Image => !(1..=4096).contains(&first),
-        Word::Page => !reading.has_page(first),
-        Word::Poke => !reading.has_bytes(first, values.bytes.len()),
+        Word::Page => !pages.has_page(first),
+        Word::Poke => !pages.has_bytes(first, values.bytes.len()),
         Word::NoOp | Word::Move | Word::Fill | Word::Dualcast | Word::Raw => false,
         Word::Show => {
             let len = number_at(values, 1);
@@ -123,13 +123,13 @@ fn line_of(word: Word, values: Values) -> Line
 }
 
 /// The line of a known first word that may stand here, of the words after it.
-fn read_words(alloc: Global, reading: &Reading, word: Word, rest: &[u8]) -> Result<Line, ReadError>
-    requires image { grammar.is_image word ≡ true → reading.now ≡ [] }
-    requires others { grammar.is_image word ≡ false → 0 < length reading.now }
-    ensures fine { OnOk result (grammar.first_of (grammar.rest_faults word (words rest.now) reading.now) ≡ None) }
-    ensures line { IfOk result (λ line. grammar.line_in (Some word) (words rest.now) ≡ grammar.Fine line) }
-    ensures next { IfOk result (λ line. IsNext reading.now line) }
-    ensures err { IfErr result (λ e. Fails e (grammar.first_of (grammar.rest_faults word (words rest.now) reading.now))) }
+fn read_words(alloc: Global, pages: &ImagePages, word: Word, rest: &[u8]) -> Result<Line, ReadError>
+    requires image { grammar.is_image word ≡ true → pages.now ≡ [] }
+    requires others { grammar.is_image word ≡ false → 0 < length pages.now }
+    ensures fine { OnOk result (grammar.first_of (grammar.rest_faults word (words rest.now) pages.now) ≡ None) }
+    ensures line { IfOk result (λ line. grammar.accepted (Some word) (words rest.now) ≡ grammar.Fine line) }
+    ensures next { IfOk result (λ line. IsNext pages.now line) }
+    ensures err { IfErr result (λ e. Fails e (grammar.first_of (grammar.rest_faults word (words rest.now) pages.now))) }
 {
     let Some(entries) = fit(parts_of(word), rest) else {
         return Err(ReadError::Fault(Kind::WrongWords));
@@ -138,19 +138,19 @@ fn read_words(alloc: Global, reading: &Reading, word: Word, rest: &[u8]) -> Resu
     if has_later_opcode(word, &values) {
         return Err(ReadError::Fault(Kind::UnknownWord));
     }
-    if is_out_of_range(word, &values, reading) {
+    if is_out_of_range(word, &values, pages) {
         return Err(ReadError::Fault(Kind::BadRange));
     }
     Ok(line_of(word, values))
 }
 
 /// Whether a first word may not stand here: the first line is the `image` line, and the only one.
-fn misplaced(word: Word, reading: &Reading) -> Option<Kind>
-    ensures kind { result ≡ grammar.first_of (grammar.place_faults word reading.now) }
-    ensures image { result ≡ None → grammar.is_image word ≡ true → reading.now ≡ [] }
-    ensures others { result ≡ None → grammar.is_image word ≡ false → 0 < length reading.now }
+fn misplaced(word: Word, pages: &ImagePages) -> Option<Kind>
+    ensures kind { result ≡ grammar.first_of (grammar.place_faults word pages.now) }
+    ensures image { result ≡ None → grammar.is_image word ≡ true → pages.now ≡ [] }
+    ensures others { result ≡ None → grammar.is_image word ≡ false → 0 < length pages.now }
 {
-    match (reading.is_empty(), word == Word::Image) {
+    match (pages.is_empty(), word == Word::Image) {
         (true, false) => Some(Kind::MissingImage),
         (false, true) => Some(Kind::SecondImage),
         _ => None,
@@ -160,15 +160,15 @@ fn misplaced(word: Word, reading: &Reading) -> Option<Kind>
 /// The line of text with this first word and what follows it, after the lines read so far.
 fn read_line(
     alloc: Global,
-    reading: &Reading,
+    pages: &ImagePages,
     text: &[u8],
     first: &[u8],
     rest: &[u8],
 ) -> Result<Line, ReadError>
-    ensures fine { let faults = grammar.faults_of text.now first.now (words rest.now) reading.now in OnOk result (grammar.first_of faults ≡ None) }
-    ensures line { IfOk result (λ line. grammar.line_in (word_with first.now) (words rest.now) ≡ grammar.Fine line) }
-    ensures next { IfOk result (λ line. IsNext reading.now line) }
-    ensures err { let faults = grammar.faults_of text.now first.now (words rest.now) reading.now in IfErr result (λ e. Fails e (grammar.first_of faults)) }
+    ensures fine { let faults = grammar.faults_of text.now first.now (words rest.now) pages.now in OnOk result (grammar.first_of faults ≡ None) }
+    ensures line { IfOk result (λ line. grammar.accepted (word_named first.now) (words rest.now) ≡ grammar.Fine line) }
+    ensures next { IfOk result (λ line. IsNext pages.now line) }
+    ensures err { let faults = grammar.faults_of text.now first.now (words rest.now) pages.now in IfErr result (λ e. Fails e (grammar.first_of faults)) }
 {
     if text.len() > LONGEST_LINE {
         return Err(ReadError::Fault(Kind::LongLine));
@@ -176,20 +176,20 @@ fn read_line(
     if !is_text(text) {
         return Err(ReadError::Fault(Kind::NotAscii));
     }
-    let Some(word) = word_of(first) else {
+    let Some(word) = word_named(first) else {
         return Err(ReadError::Fault(Kind::UnknownWord));
     };
-    if let Some(kind) = misplaced(word, reading) {
+    if let Some(kind) = misplaced(word, pages) {
         return Err(ReadError::Fault(kind));
     }
-    read_words(alloc, reading, word, rest)
+    read_words(alloc, pages, word, rest)
 }
 
 /// What a line of text is after the lines read so far: None where it is skipped.
-pub fn judge(alloc: Global, reading: &Reading, text: &[u8]) -> Result<Option<Line>, ReadError>
-    ensures ok { IfOk result (λ line. grammar.verdict text.now reading.now ≡ verdict_from line) }
-    ensures next { IfOk result (λ line. IfSome line (λ line. IsNext reading.now line)) }
-    ensures err { IfErr result (λ e. Condemns e (grammar.verdict text.now reading.now)) }
+pub fn judge(alloc: Global, pages: &ImagePages, text: &[u8]) -> Result<Option<Line>, ReadError>
+    ensures ok { IfOk result (λ line. grammar.verdict text.now pages.now ≡ fine_or_skipped line) }
+    ensures next { IfOk result (λ line. IfSome line (λ line. IsNext pages.now line)) }
+    ensures err { IfErr result (λ e. Condemns e (grammar.verdict text.now pages.now)) }
 {
     let Some((first, rest)) = next_word(text) else {
         return Ok(None);
@@ -197,5 +197,5 @@ pub fn judge(alloc: Global, reading: &Reading, text: &[u8]) -> Result<Option<Lin
     if is_comment(first) {
         return Ok(None);
     }
-    read_line(alloc, reading, text, first, rest).map(Some)
+    read_line(alloc, pages, text, first, rest).map(Some)
 }

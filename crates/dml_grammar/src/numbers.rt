@@ -22,7 +22,7 @@ fn are_digits(radix: u32, digits: &[u8]) -> bool
 
 /// The number that digits write, if it has 64 bits at most.
 #[tactic(auto, using(crate::proofs::NumberLemmas::digits_read, crate::proofs::NumberLemmas::digits_are_text))]
-fn value_of(radix: u32, digits: &[u8]) -> Option<u64>
+fn parse_digits(radix: u32, digits: &[u8]) -> Option<u64>
     requires least { 2 ≤ radix }
     requires most { radix ≤ 36 }
     requires some { 0 < length digits.now }
@@ -36,29 +36,29 @@ fn value_of(radix: u32, digits: &[u8]) -> Option<u64>
 }
 
 /// The number of 1 to `most` digits, if they are such and it has 64 bits at most.
-fn number_in(radix: u32, most: usize, digits: &[u8]) -> Option<u64>
+fn digits_number(radix: u32, most: usize, digits: &[u8]) -> Option<u64>
     requires least_radix { 2 ≤ radix }
     requires most_radix { radix ≤ 36 }
-    ensures { result ≡ spec.at_most 0xffff_ffff_ffff_ffff (spec.number_in radix most digits.now) }
+    ensures { result ≡ spec.at_most 0xffff_ffff_ffff_ffff (spec.digits_number radix most digits.now) }
 {
     if digits.is_empty() || digits.len() > most || !are_digits(radix, digits) {
         return None;
     }
-    value_of(radix, digits)
+    parse_digits(radix, digits)
 }
 
 /// The number that a word writes, of 64 bits at most.
 fn word_number(word: &[u8]) -> Option<u64>
-    ensures { result ≡ spec.at_most 0xffff_ffff_ffff_ffff (spec.number_of word.now) }
+    ensures { result ≡ spec.at_most 0xffff_ffff_ffff_ffff (spec.word_number word.now) }
 {
     match word.strip_prefix(b"0x".as_slice()) {
-        Some(digits) => number_in(16, 16, digits),
-        None => number_in(10, 20, word),
+        Some(digits) => digits_number(16, 16, digits),
+        None => digits_number(10, 20, word),
     }
 }
 
 /// The number, if there is one and it is not above the largest.
-fn up_to(largest: u64, number: Option<u64>) -> Option<u64>
+fn at_most(largest: u64, number: Option<u64>) -> Option<u64>
     ensures { result ≡ spec.at_most largest number }
 {
     match number {
@@ -68,20 +68,20 @@ fn up_to(largest: u64, number: Option<u64>) -> Option<u64>
 }
 
 /// The number that a word writes, if it writes one and it is not above the largest.
-pub fn number_of(largest: u64, word: &[u8]) -> Option<u64>
-    ensures { result ≡ spec.at_most largest (spec.number_of word.now) }
+pub fn bounded_number(largest: u64, word: &[u8]) -> Option<u64>
+    ensures { result ≡ spec.at_most largest (spec.word_number word.now) }
 {
-    up_to(largest, word_number(word))
+    at_most(largest, word_number(word))
 }
 
 /// The bytes that a word of `least` to `most` hexadecimal digits writes, if it is one.
-pub fn bytes_of(
+pub fn word_bytes(
     alloc: Global,
     least: usize,
     most: usize,
     word: &[u8],
 ) -> Result<Option<Vec<u8>>, AllocError>
-    ensures { IfOk result (λ bytes. option_map (λ v. v.items) bytes ≡ spec.bytes_in least most word.now) }
+    ensures { IfOk result (λ bytes. option_map (λ v. v.items) bytes ≡ spec.word_bytes least most word.now) }
 {
     if word.len() < least || word.len() > most {
         return Ok(None);

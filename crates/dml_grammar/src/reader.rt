@@ -1,6 +1,6 @@
 //! The reader of a script's lines.
 
-ghost use Rattle.std.specs.Prelude.{◌≡◌, ◌+◌, ◌≤◌, ◌∷◌, ◌++◌, [], length, None, Some, IfOk, IfSome, IsErrOf, MatchOption};
+ghost use Rattle.std.specs.Prelude.{◌≡◌, ◌+◌, ◌≤◌, ◌∷◌, ◌++◌, [], length, None, Some, IfErr, IfOk, IfSome, IsErrOf, MatchOption, OnOk};
 ghost use Rattle.std.specs.Str.Lines.{lines};
 ghost use Rattle.dml_grammar.specs.Grammar as grammar;
 ghost use Rattle.dml_grammar.specs.Left.{left_from, nothing_but, with_line};
@@ -11,7 +11,7 @@ ghost use Rattle.dml_grammar.specs.declared.faults.ScriptFault.{ScriptFault as T
 use crate::faults::{Kind, ReadError, ScriptError, ScriptFault};
 use crate::judge::judge;
 use crate::lines::Line;
-use crate::reading::Reading;
+use crate::pages::ImagePages;
 use crate::script::MAX_SCRIPT;
 use crate::words::next_line;
 use std::alloc::Global;
@@ -23,7 +23,7 @@ use std::marker::Model;
 pub struct LineReader<'a> {
     rest: &'a [u8],
     number: u32,
-    reading: Reading,
+    pages: ImagePages,
 }
 
 impl<'a> Model for LineReader<'a> {
@@ -33,25 +33,25 @@ impl<'a> Model for LineReader<'a> {
 
     ghost Value = { Left };
 
-    ghost view = { λ reader. left_from reader.number reader.reading (lines reader.rest.now) };
+    ghost view = { λ reader. left_from reader.number reader.pages (lines reader.rest.now) };
 
     ghost invariant = { λ reader. reader.number + length reader.rest.now ≤ 4194305 };
 }
 
 impl<'a> LineReader<'a> {
     ghost use Rattle.std.specs.Prelude.{◌≡◌, ◌≤◌, length};
-    ghost use Rattle.dml_grammar.specs.Left.{Gives, left_in};
+    ghost use Rattle.dml_grammar.specs.Left.{Gives, all_left};
 
     /// Before the first line of a text of at most `MAX_SCRIPT` bytes.
     #[tactic(auto, unfolding(crate::specs::Left::left_from))]
     pub fn new(alloc: Global, text: &'a [u8]) -> LineReader<'a>
         requires { length text.now ≤ MAX_SCRIPT }
-        ensures { result ≡ left_in text.now }
+        ensures { result ≡ all_left text.now }
     {
         LineReader {
             rest: text,
             number: 1,
-            reading: Reading::new(alloc),
+            pages: ImagePages::new(alloc),
         }
     }
 
@@ -61,10 +61,10 @@ impl<'a> LineReader<'a> {
     pub fn next(&mut self, alloc: Global) -> Result<Option<Line>, ScriptError>
         ensures { Gives result self.old self.new }
     {
-        let Some(found) = find_line(alloc, &self.reading, self.rest, self.number)? else {
+        let Some(found) = find_line(alloc, &self.pages, self.rest, self.number)? else {
             return Ok(None);
         };
-        self.reading.note(alloc, &found.line)?;
+        self.pages.note(alloc, &found.line)?;
         self.rest = found.rest;
         self.number = found.number;
         Ok(Some(found.line))
@@ -84,16 +84,16 @@ struct FoundLine<'a> {
 #[tactic(auto, unfolding(crate::specs::Left::left_from))]
 fn find_line<'a>(
     alloc: Global,
-    reading: &Reading,
+    pages: &ImagePages,
     text: &'a [u8],
     number: u32,
 ) -> Result<Option<FoundLine<'a>>, ScriptError>
     requires { number + length text.now ≤ 4194305 }
-    ensures line { IfOk result (λ found. MatchOption found (left_from number reading.now (lines text.now) ≡ nothing_but None)
-        (λ f. left_from number reading.now (lines text.now) ≡ with_line f.line (left_from f.number (reading.now ++ f.line ∷ []) (lines f.rest.now)))) }
-    ensures next { IfOk result (λ found. IfSome found (λ f. IsNext reading.now f.line)) }
+    ensures line { IfOk result (λ found. MatchOption found (left_from number pages.now (lines text.now) ≡ nothing_but None)
+        (λ f. left_from number pages.now (lines text.now) ≡ with_line f.line (left_from f.number (pages.now ++ f.line ∷ []) (lines f.rest.now)))) }
+    ensures next { IfOk result (λ found. IfSome found (λ f. IsNext pages.now f.line)) }
     ensures count { IfOk result (λ found. IfSome found (λ f. f.number + length f.rest.now ≤ 4194305)) }
-    ensures fault { (fault : TheFault) → IsErrOf result (errors.Fault fault) → left_from number reading.now (lines text.now) ≡ nothing_but (Some fault) }
+    ensures fault { (fault : TheFault) → IsErrOf result (errors.Fault fault) → left_from number pages.now (lines text.now) ≡ nothing_but (Some fault) }
 {
     let mut rest = text;
     let mut number = number;
@@ -101,17 +101,28 @@ fn find_line<'a>(
         let (text, after) = next_line(rest);
         number += 1;
         rest = after;
-        match judge(alloc, reading, text) {
+        match judge(alloc, pages, text) {
             Ok(None) => {}
             Ok(Some(line)) => return Ok(Some(FoundLine { line, rest, number })),
             Err(ReadError::NoMemory) => return Err(ScriptError::NoMemory),
             Err(ReadError::Fault(kind)) => return Err(fault_at(number - 1, kind)),
         }
     }
-    if reading.is_empty() {
+    end_of_text(pages, number)?;
+    Ok(None)
+}
+
+/// The end of a text, at this number of a line: the `image` line is missing, or all is well.
+#[tactic(auto, unfolding(crate::specs::Left::left_from))]
+fn end_of_text(pages: &ImagePages, number: u32) -> Result<(), ScriptError>
+    ensures fine { OnOk result (left_from number pages.now [] ≡ nothing_but None) }
+    ensures fault { IfErr result (λ e. (fault : TheFault) × (e ≡ errors.Fault fault)
+        × (left_from number pages.now [] ≡ nothing_but (Some fault))) }
+{
+    if pages.is_empty() {
         return Err(fault_at(number, Kind::MissingImage));
     }
-    Ok(None)
+    Ok(())
 }
 
 /// The fault of a line.

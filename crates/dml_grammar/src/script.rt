@@ -22,13 +22,13 @@ pub struct Script<'a> {
 impl<'a> Model for Script<'a> {
     ghost use Rattle.std.specs.Prelude.{◌≡◌, ◌≤◌, List, None, length};
     ghost use Rattle.dml_grammar.specs.declared.lines.Line.{Line};
-    ghost use Rattle.dml_grammar.specs.Left.{left_in};
+    ghost use Rattle.dml_grammar.specs.Left.{all_left};
 
     ghost Value = { List Line };
 
-    ghost view = { λ script. (left_in script.text.now).lines };
+    ghost view = { λ script. (all_left script.text.now).lines };
 
-    ghost invariant = { λ script. (length script.text.now ≤ 4194304) × ((left_in script.text.now).fault ≡ None) };
+    ghost invariant = { λ script. (length script.text.now ≤ 4194304) × ((all_left script.text.now).fault ≡ None) };
 }
 
 impl<'a> Script<'a> {
@@ -78,8 +78,8 @@ impl<'a> ScriptLines<'a> {
     }
 }
 
-/// Reads a script of at most `MAX_SCRIPT` bytes: its lines, or its first fault. Beside the bytes it takes memory for a mark of each page and for
-/// the bytes of one line.
+/// Reads a script of at most `MAX_SCRIPT` bytes: its lines, or its first fault. Beside the bytes it takes memory for a
+/// mark of each page and for the bytes of one line.
 #[tactic(auto, using(crate::proofs::LeftLemmas::parse_is))]
 pub fn read_script<'a>(alloc: Global, bytes: &'a [u8]) -> Result<Script<'a>, ScriptError>
     requires { length bytes.now ≤ MAX_SCRIPT }

@@ -1,7 +1,7 @@
 //! The table of lines: which words may come after a first word, and what each of them is.
 
 ghost use Rattle.std.specs.Prelude.{◌≡◌, ◌≤◌, length};
-ghost use Rattle.dml_grammar.specs.Table.{rows_seen, word_in, word_with, parts_in, suffix_text};
+ghost use Rattle.dml_grammar.specs.Table.{rows_seen, find_word, word_named, parts_of, suffix_text};
 
 /// The first word of a line.
 #[derive(Clone, Copy, PartialEq, Eq, Debug)]
@@ -73,7 +73,7 @@ const FIRST_WORDS: [(&[u8], Word); 9] = [
 
 /// The word beside a text in a table, if it is there.
 fn find_word(rows: &[(&[u8], Word)], text: &[u8]) -> Option<Word>
-    ensures { result ≡ word_in (rows_seen rows.now) text.now }
+    ensures { result ≡ find_word (rows_seen rows.now) text.now }
 {
     for (name, word) in rows {
         if text == *name {
@@ -84,15 +84,15 @@ fn find_word(rows: &[(&[u8], Word)], text: &[u8]) -> Option<Word>
 }
 
 /// The first word with this text, if it is one.
-pub fn word_of(text: &[u8]) -> Option<Word>
-    ensures { result ≡ word_with text.now }
+pub fn word_named(text: &[u8]) -> Option<Word>
+    ensures { result ≡ word_named text.now }
 {
     find_word(&FIRST_WORDS, text)
 }
 
 /// The parts of a line with this first word.
 pub fn parts_of(word: Word) -> &'static [Part]
-    ensures parts { result.now ≡ parts_in word }
+    ensures parts { result.now ≡ parts_of word }
     ensures few { length result.now ≤ MOST_PARTS }
 {
     match word {

@@ -46,6 +46,11 @@ take_pattern_bytes : (pattern n k : ℕ) → k ≤ n → take k (pattern_bytes p
 unfolding pattern_bytes
 take_pattern_bytes pattern n k within = take-map-range_with_len (pattern_byte pattern) 0 n k within
 
+-- a front of the word
+pub word_front : (pattern n : ℕ) (word : List ℕ) → word ≡ to_le_bytes w64 pattern → n ≤ 8 → take n word ≡ pattern_bytes pattern n
+word_front pattern n word is within =
+    ap (take n) (is ∙ (ap (λ (front : List ℕ). front ++ to_le_bytes w64 pattern) (pattern_bytes_none pattern) ∙ pattern_words_more pattern 0)) ∙ take_pattern_bytes pattern 8 n within
+
 -- what the last copy, of a front of a block, leaves
 pub repeated : (target part block : List ℕ) (pattern k n : ℕ) → take (32 * k) target ≡ pattern_bytes pattern (32 * k) → length target ≡ n → k ≡ n / 32 → block ≡ pattern_bytes pattern 32 → part ≡ take (length target - 32 * (n / 32)) block → put_mid (32 * (n / 32)) (length target - 32 * (n / 32)) target part ≡ pattern_bytes pattern n
 repeated target part block pattern k n front long whole is done =

@@ -1,38 +1,32 @@
--- Writes to the bytes of an image, as its fields hold them: `now` is what contracts see of them.
-use Rattle.std.proofs.Common.{◌≡◌, ℕ, ◌+◌, ◌-◌, ◌*◌, ◌/◌, ◌%◌, ◌<◌, ◌≤◌, List, [], Vec, Bool, length, get_or, set, true, false, None, rules, refl, sym, ◌∙◌, ap, subst, arith, ⊎_elim}
-use Rattle.std.specs.Vec.{with_item, with_items}
-use Rattle.std.proofs.lemmas.List.{places, with_items_is, nil_from_length, length-set, get_or-set_other, get_or-set_same}
+-- What an image keeps when bytes are written and pages brought: `inside` is what its fields hold, `now` what contracts see of them.
+use Rattle.std.proofs.Common.{◌≡◌, ℕ, ◌+◌, ◌*◌, ◌/◌, ◌<◌, ◌≤◌, List, [], length, get_or, set, true, false, Result, Ok, Err, OnOk, OnErr, rules, refl, sym, ◌∙◌, ap, subst, arith, ⊎_elim}
+use Rattle.std.proofs.lemmas.List.{places, nil_from_length, length-set, get_or-set_other, get_or-set_same}
 use Rattle.std.proofs.lemmas.Bool.{cases_lt, cases_eq, false≢true}
-use Rattle.dml_types.specs.Memory.{Memory, IsMemory, has, has_all, bytes_at, overwrite, put}
-use Rattle.dml_types.proofs.MemoryLemmas.{length_overwrite, overwrite_nil, overwrite_below, overwrite_past, has_all_within, has_within, put_keeps}
+use Rattle.dml_types.specs.Memory.{Memory, IsMemory, has, has_all, bytes_at, put}
+use Rattle.dml_types.proofs.MemoryLemmas.{length_overwrite, overwrite_nil, overwrite_below, overwrite_past, has_all_within, put_keeps}
+use Rattle.std.specs.declared.alloc.AllocError.{AllocError}
 use Rattle.dml_image.specs.Brought.{brought}
-
-abbrev of_fields : {Y Z : Type 0} → Vec Bool Y → Vec ℕ Z → Memory
-of_fields present content = record { present = present.items; bytes = content.items; home = None }
 
 all_now : (inside now : Memory) (address n : ℕ) → inside ≡ now → has_all now address n ≡ true → has_all inside address n ≡ true
 all_now inside now address n is all = subst (λ (memory : Memory). has_all memory address n ≡ true) (sym is) all
 
--- a range that is all present ends within the image, where it does not begin past it
-pub all_within : {Y Z : Type 0} (present : Vec Bool Y) (content : Vec ℕ Z) (now : Memory) (address n : ℕ) → of_fields present content ≡ now → IsMemory (of_fields present content) → has_all now address n ≡ true → address < content.len → address + n ≤ content.len
-all_within present content now address n is good all inside =
-    ⊎_elim (λ some. omega (arith, has_all_within (of_fields present content) address n good.whole (all_now _ now address n is all) some, content.ok.0))
-    (λ none. omega arith) (cases_lt 0 n)
+-- a range that is all present ends within the memory, where it does not begin past it; and past the last page it is empty
+pub range_within : (memory : Memory) (address n : ℕ) → IsMemory memory → has_all memory address n ≡ true → address < length memory.bytes → address + n ≤ length memory.bytes
+range_within memory address n good all inside =
+    ⊎_elim (λ some. has_all_within memory address n good.whole all some) (λ none. omega arith) (cases_lt 0 n)
 
--- and past the last page it is empty
-none_past : {Y Z : Type 0} (present : Vec Bool Y) (content : Vec ℕ Z) (now : Memory) (address n : ℕ) → of_fields present content ≡ now → IsMemory (of_fields present content) → has_all now address n ≡ true → content.len ≤ address → n ≡ 0
-none_past present content now address n is good all past =
-    ⊎_elim (λ some. absurd (omega (arith, has_all_within (of_fields present content) address n good.whole (all_now _ now address n is all) some, content.ok.0)))
-    (λ none. omega arith) (cases_lt 0 n)
+empty_past : (memory : Memory) (address n : ℕ) → IsMemory memory → has_all memory address n ≡ true → length memory.bytes ≤ address → n ≡ 0
+empty_past memory address n good all past =
+    ⊎_elim (λ some. absurd (omega (arith, has_all_within memory address n good.whole all some))) (λ none. omega arith) (cases_lt 0 n)
 
-pub put_past : {Y Z : Type 0} (present : Vec Bool Y) (content : Vec ℕ Z) (now : Memory) (address : ℕ) (bytes : List ℕ) → of_fields present content ≡ now → IsMemory (of_fields present content) → has_all now address (length bytes) ≡ true → content.len ≤ address → now ≡ put now address bytes
-put_past present content now address bytes is good all past =
-    let none : bytes ≡ [] = nil_from_length bytes (none_past present content now address (length bytes) is good all past) in
+pub put_behind : (memory : Memory) (address : ℕ) (bytes : List ℕ) → IsMemory memory → has_all memory address (length bytes) ≡ true → length memory.bytes ≤ address → memory ≡ put memory address bytes
+put_behind memory address bytes good all past =
+    let none : bytes ≡ [] = nil_from_length bytes (empty_past memory address (length bytes) good all past) in
     rw (none, overwrite_nil) refl
 
-pub read_past : {Y Z : Type 0} (present : Vec Bool Y) (content : Vec ℕ Z) (now : Memory) (address : ℕ) (buffer : List ℕ) → of_fields present content ≡ now → IsMemory (of_fields present content) → has_all now address (length buffer) ≡ true → content.len ≤ address → buffer ≡ bytes_at now address (length buffer)
-read_past present content now address buffer is good all past =
-    let none : buffer ≡ [] = nil_from_length buffer (none_past present content now address (length buffer) is good all past) in
+pub read_behind : (memory : Memory) (address : ℕ) (buffer : List ℕ) → IsMemory memory → has_all memory address (length buffer) ≡ true → length memory.bytes ≤ address → buffer ≡ bytes_at memory address (length buffer)
+read_behind memory address buffer good all past =
+    let none : buffer ≡ [] = nil_from_length buffer (empty_past memory address (length buffer) good all past) in
     rw none (search (rules, places))
 
 -- a page that was brought: what the image kept, it keeps
@@ -59,29 +53,11 @@ brought_keeps memory page bytes good inside long =
         (cases_lt k (4096 * page)))
         (cases_eq (k / 4096) page)
 
--- the bytes behind a `Vec` after a write to its slice
-with_overwrite : {Z : Type 0} (content : Vec ℕ Z) (place : ℕ) (bytes slice written : List ℕ) → place + length bytes ≤ length content.items → slice ≡ content.items → written ≡ overwrite slice place bytes → (with_items content written).items ≡ overwrite content.items place bytes
-with_overwrite content place bytes slice written within same is =
-    let now : written ≡ overwrite content.items place bytes = is ∙ ap (λ items. overwrite items place bytes) same in
-    let long : length written ≡ content.len = ap length now ∙ (length_overwrite content.items place bytes within ∙ sym content.ok.0) in
-    with_items_is content written long ∙ now
+-- what an image keeps, after a write and after a page was brought
+pub kept_after_put : (inside now after : Memory) (address : ℕ) (bytes : List ℕ) → inside ≡ now → IsMemory inside → has_all now address (length bytes) ≡ true → after ≡ put inside address bytes → IsMemory after
+kept_after_put inside now after address bytes is good all done =
+    rw done (put_keeps inside address bytes good (all_now inside now address (length bytes) is all))
 
-pub write_keeps : {Y Z : Type 0} (present : Vec Bool Y) (content : Vec ℕ Z) (now : Memory) (place : ℕ) (bytes slice written : List ℕ) → of_fields present content ≡ now → IsMemory (of_fields present content) → has_all now place (length bytes) ≡ true → place < content.len → slice ≡ content.items → written ≡ overwrite slice place bytes → IsMemory (of_fields present (with_items content written))
-write_keeps present content now place bytes slice written is good all inside same done =
-    let within : place + length bytes ≤ length content.items = omega (arith, all_within present content now place (length bytes) is good all inside, content.ok.0) in
-    rw (with_overwrite content place bytes slice written within same done)
-    (put_keeps (of_fields present content) place bytes good (all_now _ now place (length bytes) is all))
-
-pub bring_keeps : {Y Z : Type 0} (present : Vec Bool Y) (content : Vec ℕ Z) (page : ℕ) (bytes slice written : List ℕ) → IsMemory (of_fields present content) → page < present.len → length bytes ≡ 4096 → slice ≡ content.items → written ≡ overwrite slice (4096 * page) bytes → IsMemory (of_fields (with_item present page true) (with_items content written))
-bring_keeps present content page bytes slice written good inside long same done =
-    let below : page < length present.items = omega (arith, present.ok.0) in
-    let within : 4096 * page + length bytes ≤ length content.items = omega (arith, good.whole.each_page) in
-    rw (with_overwrite content (4096 * page) bytes slice written within same done)
-    (brought_keeps (of_fields present content) page bytes good below long)
-
--- the page of a present byte lies within the image
-pub page_within : {Y Z : Type 0} (present : Vec Bool Y) (content : Vec ℕ Z) (now : Memory) (address : ℕ) → of_fields present content ≡ now → IsMemory (of_fields present content) → has now address ≡ true → address + (4096 - address % 4096) ≤ content.len
-page_within present content now address is good here =
-    let inside : has (of_fields present content) address ≡ true = subst (λ (memory : Memory). has memory address ≡ true) (sym is) here in
-    let below = has_within (of_fields present content) address good.whole inside in
-    omega (arith, below, good.whole.each_page, content.ok.0)
+pub kept_after_bring : (inside after : Memory) (page : ℕ) (bytes : List ℕ) (result : Result Unit AllocError) → IsMemory inside → page < length inside.present → length bytes ≡ 4096 → OnOk result (after ≡ brought inside page bytes) → OnErr result (after ≡ inside) → IsMemory after
+kept_after_bring inside after page bytes (Ok _) good below long done same = rw done (brought_keeps inside page bytes good below long)
+kept_after_bring inside after page bytes (Err _) good below long done same = rw same good

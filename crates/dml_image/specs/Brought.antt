@@ -1,5 +1,5 @@
 -- A new image, and an image after a page was brought.
-use Rattle.std.specs.Prelude.{ℕ, ◌*◌, Bool, true, false, List, [], None, replicate, slice_index_or, slice_set}
+use Rattle.std.specs.Prelude.{ℕ, ◌*◌, Bool, true, false, List, None, replicate, slice_index_or, slice_set}
 use Rattle.dml_types.specs.Memory.{Memory, page_size, put}
 
 -- no page is present
@@ -13,7 +13,3 @@ has_page memory page = slice_index_or memory.present page false
 -- the page is present with these bytes
 abbrev pub brought : Memory → ℕ → List ℕ → Memory
 brought memory page bytes = put (record memory { present = slice_set memory.present page true }) (page_size * page) bytes
-
--- an image of these pages, to speak of presence alone
-abbrev pub with_pages : List Bool → Memory
-with_pages present = record { present = present; bytes = []; home = None }

@@ -1,1 +1,4 @@
 pub mod Brought
+pub mod Copied
+pub mod Kept
+pub mod Table

@@ -2,44 +2,116 @@ ghost use Rattle.std.specs.Prelude.{◌≡◌, ◌≢◌, ◌+◌, ◌-◌, ◌%
 ghost use Rattle.dml_types.specs.Memory.{IsMemory, has, has_all, byte_at, bytes_at, present_toward, put};
 ghost use Rattle.dml_types.specs.Bytewise.{pattern_bytes};
 ghost use Rattle.dml_image.specs.Brought.{all_absent, brought, has_page};
+ghost use Rattle.dml_image.specs.Kept.{kept_by, lent_memory};
 
 use crate::PAGE_SIZE;
 use crate::errors::ImageError;
-use crate::runs::{is_present, present_downwards, present_upwards};
-use crate::slices::{fill_at, write_at};
+use crate::lent::Lent;
+use crate::runs::{present_downwards, present_upwards};
+use crate::tables::Table;
 use dml_types::Direction;
-use std::alloc::Global;
+use std::alloc::{AllocError, Global};
 use std::fmt;
 use std::marker::Model;
 
 const MAX_PAGES: u32 = 4096;
 
-/// A memory of 1 to 4,096 pages of 4,096 bytes, from address 0 on.
+/// A memory of 1 to 4,096 pages of 4,096 bytes, from address 0 on: pages of its own, or memory that a caller lends.
 ///
 /// Each page is present or absent, and no byte past the last page is present.
-#[derive(Drop)]
-pub struct Image {
-    present: Vec<bool>,
-    content: Vec<u8>,
+pub struct Image<'a> {
+    pages: Pages<'a>,
 }
 
-impl Model for Image {
-    ghost use Rattle.std.specs.Prelude.{None};
+/// Whose pages they are.
+#[derive(Drop)]
+pub(crate) enum Pages<'a> {
+    Own(Table),
+    Lent(Lent<'a>),
+}
+
+impl Pages<'_> {
+    /// Makes a page present with these bytes. A page that is present needs no memory, and lent memory gets no page.
+    fn bring(&mut self, page: usize, bytes: &[u8; 4096]) -> Result<(), AllocError>
+        requires memory { IsMemory (kept_by self.old) }
+        requires page { page < length (kept_by self.old).present }
+        ensures ok { OnOk result (kept_by self.new ≡ brought (kept_by self.old) page bytes.now) }
+        ensures err { OnErr result (kept_by self.new ≡ kept_by self.old) }
+        ensures again { IsTrue (has_page (kept_by self.old) page) → IsOk result }
+    {
+        match self {
+            Pages::Own(table) => table.bring(page, bytes),
+            Pages::Lent(lent) => lent.bring(page, bytes),
+        }
+    }
+
+    fn write(&mut self, addr: u64, bytes: &[u8])
+        requires memory { IsMemory (kept_by self.old) }
+        requires present { IsTrue (has_all (kept_by self.old) addr (length bytes.now)) }
+        ensures { kept_by self.new ≡ put (kept_by self.old) addr bytes.now }
+    {
+        match self {
+            Pages::Own(table) => table.write(addr, bytes),
+            Pages::Lent(lent) => lent.write(addr, bytes),
+        }
+    }
+
+    fn fill(&mut self, addr: u64, len: u32, pattern: u64)
+        requires memory { IsMemory (kept_by self.old) }
+        requires present { IsTrue (has_all (kept_by self.old) addr len) }
+        ensures { kept_by self.new ≡ put (kept_by self.old) addr (pattern_bytes pattern len) }
+    {
+        match self {
+            Pages::Own(table) => table.fill(addr, len as usize, pattern),
+            Pages::Lent(lent) => lent.fill(addr, len, pattern),
+        }
+    }
+}
+
+impl<'a> Model for Image<'a> {
     ghost use Rattle.dml_types.specs.Memory.{Memory, IsMemory};
+    ghost use Rattle.dml_image.specs.Kept.{kept_by};
 
     ghost Value = { Memory };
 
-    ghost view = { λ i. record { present = i.present.items; bytes = i.content.items; home = None } };
+    ghost view = { λ i. kept_by i.pages };
 
-    ghost invariant = { λ i. IsMemory (record { present = i.present.items; bytes = i.content.items; home = None }) };
+    ghost invariant = { λ i. IsMemory (kept_by i.pages) };
 }
 
-impl Image {
+impl Drop for Image<'_> {
+    fn drop(self) {
+        let Image { pages } = self;
+        drop(pages);
+    }
+}
+
+impl<'a> Image<'a> {
+    /// An image over lent memory.
+    pub(crate) fn over(lent: Lent<'a>) -> Image<'a>
+        requires { IsMemory (lent_memory lent) }
+        ensures { result ≡ lent_memory lent.entry }
+    {
+        Image {
+            pages: Pages::Lent(lent),
+        }
+    }
+
+    /// The pages, for good.
+    pub(crate) fn into_pages(self) -> Pages<'a>
+        ensures { kept_by result ≡ self.entry }
+    {
+        let Image { pages } = self;
+        pages
+    }
+}
+
+impl Image<'_> {
     /// An image of so many pages, all absent.
     ///
     /// # Errors
     /// `BadPages` unless there are 1 to 4,096 pages, and `NoMemory`.
-    pub fn new(alloc: Global, pages: u32) -> Result<Image, ImageError>
+    pub fn new(alloc: Global, pages: u32) -> Result<Image<'static>, ImageError>
         ensures image { IfOk result (λ image. image ≡ all_absent pages) }
         ensures memory { IfOk result IsMemory }
         ensures bad_pages { (result ≡ Err ImageError.BadPages) ↔ ((pages < 1) ⊎ (4096 < pages)) }
@@ -48,10 +120,10 @@ impl Image {
         if pages < 1 || pages > MAX_PAGES {
             return Err(ImageError::BadPages);
         }
-        let pages = pages as usize;
-        let present = vec![in alloc; false; pages].map_err(|_| ImageError::NoMemory)?;
-        let content = vec![in alloc; 0; PAGE_SIZE * pages].map_err(|_| ImageError::NoMemory)?;
-        Ok(Image { present, content })
+        let table = Table::new(alloc, pages as usize).map_err(|_| ImageError::NoMemory)?;
+        Ok(Image {
+            pages: Pages::Own(table),
+        })
     }
 
     /// The number of pages.
@@ -59,7 +131,11 @@ impl Image {
         ensures value { result ≡ length self.now.present }
         ensures memory { IsMemory self.now }
     {
-        self.present.len() as u32
+        let pages = match &self.pages {
+            Pages::Own(table) => table.pages(),
+            Pages::Lent(lent) => lent.pages(),
+        };
+        pages as u32
     }
 
     /// Makes a page present with these bytes; a page that is present is overwritten.
@@ -67,7 +143,7 @@ impl Image {
     /// # Errors
     /// `NoSuchPage` where the image has no page of this number, and `NoMemory`, which a page that is
     /// present never meets. Both leave the image as it was.
-    #[tactic(auto, using(crate::proofs::WriteLemmas::bring_keeps))]
+    #[tactic(auto, using(crate::proofs::WriteLemmas::brought_keeps))]
     pub fn bring(&mut self, page: u32, bytes: &[u8; 4096]) -> Result<(), ImageError>
         ensures ok { OnOk result (self.new ≡ brought self.old page bytes.now) }
         ensures err { OnErr result (self.new ≡ self.old) }
@@ -76,13 +152,12 @@ impl Image {
         ensures again { IsTrue (has_page self.old page) → IsOk result }
         ensures memory { IsMemory self.new }
     {
-        let page = page as usize;
-        if page >= self.present.len() {
+        if page >= self.pages() {
             return Err(ImageError::NoSuchPage);
         }
-        write_at(self.content.as_mut_slice(), PAGE_SIZE * page, bytes);
-        self.present[page] = true;
-        Ok(())
+        self.pages
+            .bring(page as usize, bytes)
+            .map_err(|_| ImageError::NoMemory)
     }
 
     /// Whether the byte at this address is present.
@@ -90,7 +165,10 @@ impl Image {
         ensures value { result ≡ has self.now addr }
         ensures memory { IsMemory self.now }
     {
-        is_present(self.present.as_slice(), addr)
+        match &self.pages {
+            Pages::Own(table) => table.has(addr),
+            Pages::Lent(lent) => lent.has(addr),
+        }
     }
 
     /// The byte at this address, where it is present.
@@ -99,65 +177,66 @@ impl Image {
         ensures memory { IsMemory self.now }
     {
         if self.has(addr) {
-            Some(self.content[addr as usize])
+            Some(self.part(addr, 1)[0])
         } else {
             None
         }
     }
 
     /// The bytes from this address on, `len` of them or as many as there are up to the end of the page.
-    #[tactic(auto, using(crate::proofs::WriteLemmas::page_within))]
     pub fn part(&self, addr: u64, len: u32) -> &[u8]
         requires { IsTrue (has self.now addr) }
         ensures bytes { result.now ≡ bytes_at self.now addr (length result.now) }
         ensures length { length result.now ≡ min len (4096 - addr % 4096) }
         ensures memory { IsMemory self.now }
     {
-        let place = addr as usize;
-        let of_page = PAGE_SIZE - place % PAGE_SIZE;
-        &self.content[place..place + of_page.min(len as usize)]
+        match &self.pages {
+            Pages::Own(table) => table.part(addr, len as usize),
+            Pages::Lent(lent) => lent.part(addr, len),
+        }
     }
 
     /// Reads bytes from this address on into the whole buffer.
-    #[tactic(auto, using(crate::proofs::WriteLemmas::all_within, crate::proofs::WriteLemmas::read_past))]
     pub fn read_into(&self, addr: u64, buffer: &mut [u8])
         requires { IsTrue (has_all self.now addr (length buffer.old)) }
         ensures bytes { buffer.new ≡ bytes_at self.now addr (length buffer.old) }
         ensures memory { IsMemory self.now }
     {
-        let place = addr as usize;
-        if place >= self.content.len() {
-            return; // no byte there is present, so the range is empty
+        match &self.pages {
+            Pages::Own(table) => table.read_into(addr, buffer),
+            Pages::Lent(lent) => lent.read_into(addr, buffer),
         }
-        buffer.copy_from_slice(&self.content[place..place + buffer.len()]);
     }
 
     /// Writes bytes from this address on.
-    #[tactic(auto, using(crate::proofs::WriteLemmas::all_within, crate::proofs::WriteLemmas::put_past, crate::proofs::WriteLemmas::write_keeps))]
+    #[tactic(auto, using(dml_types::proofs::MemoryLemmas::put_keeps))]
     pub fn write(&mut self, addr: u64, bytes: &[u8])
         requires { IsTrue (has_all self.old addr (length bytes.now)) }
         ensures bytes { self.new ≡ put self.old addr bytes.now }
         ensures memory { IsMemory self.new }
     {
-        let place = addr as usize;
-        if place >= self.content.len() {
-            return; // no byte there is present, so the range is empty
-        }
-        write_at(self.content.as_mut_slice(), place, bytes);
+        self.pages.write(addr, bytes);
     }
 
     /// Repeats the 8 bytes of a pattern, low byte first, over `len` bytes from this address on.
-    #[tactic(auto, using(crate::proofs::WriteLemmas::all_within, crate::proofs::WriteLemmas::put_past, crate::proofs::PatternLemmas::length_pattern_bytes))]
+    #[tactic(auto, using(dml_types::proofs::MemoryLemmas::put_keeps, crate::proofs::PatternLemmas::length_pattern_bytes))]
     pub fn fill(&mut self, addr: u64, len: u32, pattern: u64)
         requires { IsTrue (has_all self.old addr len) }
         ensures bytes { self.new ≡ put self.old addr (pattern_bytes pattern len) }
         ensures memory { IsMemory self.new }
     {
-        let place = addr as usize;
-        if place >= self.content.len() {
-            return; // no byte there is present, so the range is empty
-        }
-        fill_at(self.content.as_mut_slice(), place, len as usize, pattern);
+        self.pages.fill(addr, len, pattern);
+    }
+
+    /// Copies `len` bytes from the address `source` on to those from `target` on. The two may overlap; the target then
+    /// holds the source's bytes as they stood.
+    pub fn move_within(&mut self, source: u64, target: u64, len: u32)
+        requires source { IsTrue (has_all self.old source len) }
+        requires target { IsTrue (has_all self.old target len) }
+        ensures bytes { self.new ≡ put self.old target (bytes_at self.old source len) }
+        ensures memory { IsMemory self.new }
+    {
+        self.pages.move_within(source, target, len as usize);
     }
 
     /// How many of `len` bytes from this address on come before the first absent one, in the order of
@@ -167,16 +246,16 @@ impl Image {
         ensures count { MatchOption result (present_toward direction self.now addr len ≡ len) (λ k. (k < len) × (present_toward direction self.now addr len ≡ k)) }
         ensures memory { IsMemory self.now }
     {
-        let pages = self.present.as_slice();
+        let _ = &self.pages;
         let done = match direction {
-            Direction::Forward => present_upwards(pages, addr, len),
-            Direction::Backward => present_downwards(pages, addr, len),
+            Direction::Forward => present_upwards(self, addr, len),
+            Direction::Backward => present_downwards(self, addr, len),
         };
         if done < len { Some(done) } else { None }
     }
 }
 
-impl fmt::Debug for Image {
+impl fmt::Debug for Image<'_> {
     fn fmt<W: fmt::Write>(&self, f: &mut fmt::Formatter<W>) -> fmt::Result {
         f.debug_struct("Image")
             .field("pages", &self.pages())

@@ -6,10 +6,16 @@
 
 mod errors;
 mod images;
+mod lent;
+mod moves;
+mod pages;
+mod ranges;
 mod runs;
 mod slices;
+mod tables;
 
 pub use errors::ImageError;
 pub use images::Image;
+pub use lent::Lent;
 
 const PAGE_SIZE: usize = 4096;

@@ -1,6 +1,10 @@
-ghost use Rattle.std.specs.Prelude.{◌≡◌, ◌+◌, ◌≤◌, length};
+ghost use Rattle.std.specs.Prelude.{◌≡◌, ◌+◌, ◌≤◌, length, slice_range};
 ghost use Rattle.dml_types.specs.Memory.{overwrite};
 ghost use Rattle.dml_types.specs.Bytewise.{pattern_bytes};
+ghost use Rattle.dml_image.specs.Copied.{IsOneCopy};
+
+// Bytes of ranges that overlap are held here between reading and writing.
+pub const SHORT: usize = 256;
 
 // A fill writes so many bytes at once: four times the pattern.
 const BLOCK_SIZE: usize = 32;
@@ -12,6 +16,26 @@ pub fn write_at(target: &mut [u8], place: usize, bytes: &[u8])
     ensures { target.new ≡ overwrite target.old place bytes.now }
 {
     target[place..place + bytes.len()].copy_from_slice(bytes);
+}
+
+/// Copies `len` bytes of a slice from one place to another. Ranges that overlap are short.
+#[tactic(auto, using(crate::proofs::SliceLemmas::put_mid_overwrite))]
+pub fn copy_at(content: &mut [u8], from: usize, to: usize, len: usize)
+    requires within { (from + len ≤ length content.old) × (to + len ≤ length content.old) }
+    requires apart { IsOneCopy from to len }
+    ensures { content.new ≡ overwrite content.old to (slice_range content.old from (from + len)) }
+{
+    if from + len <= to {
+        let (front, behind) = content.split_at_mut(to);
+        behind[..len].copy_from_slice(&front[from..from + len]);
+    } else if to + len <= from {
+        let (front, behind) = content.split_at_mut(from);
+        front[to..to + len].copy_from_slice(&behind[..len]);
+    } else {
+        let mut held = [0; SHORT];
+        held[..len].copy_from_slice(&content[from..from + len]);
+        content[to..to + len].copy_from_slice(&held[..len]);
+    }
 }
 
 /// Repeats the 8 bytes of a pattern, low byte first, over `len` bytes of a slice.

@@ -4,7 +4,6 @@ pub mod ApplyRows
 pub mod FillRows
 pub mod ListRows
 pub mod MoveRows
-pub mod Plain
 pub mod RefusalRows
 pub mod RestRows
 pub mod Row

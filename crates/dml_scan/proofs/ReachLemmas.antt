@@ -92,6 +92,9 @@ dualcast_done memory job from to =
     min_left : (a b c : ℕ) → min a (min b c) ≡ min (min a b) c
     min_left a b c = omega arith
 
+lt-eqb : (a b : ℕ) → a < b → eqb a b ≡ false
+lt-eqb a b h = grind arith
+
 -- how a scan ends, by how much was done
 abbrev found_of : Op → Memory → Job → ℕ → ℕ → ℕ → Found
 found_of op memory job from to done =
@@ -109,14 +112,20 @@ pub found_fault : (op : Op) (memory : Memory) (job : Job) (from to k : ℕ) (fau
 unfolding scan_found
 found_fault op memory job from to k fault is below blocked comes =
     let faults = faults_at op job (scan_offset op job from to k) in
-    let short : eqb k (to - from) ≡ false = ltb_apart k (to - from) below in
+    let short : eqb k (to - from) ≡ false = lt-eqb k (to - from) below in
     sym (ap (found_of op memory job from to) is
     ∙ (ap (λ (b : Bool). cond b All (cond (is_clear memory faults) (Differs k) (fault_found k (first_fault memory faults)))) short
     ∙ (ap (λ (b : Bool). cond b (Differs k) (fault_found k (first_fault memory faults))) blocked
     ∙ ap (fault_found k) comes)))
-  where
-    ltb_apart : (a b : ℕ) → a < b → eqb a b ≡ false
-    ltb_apart a b h = grind arith
+
+-- no byte of the next offset is absent
+pub found_differs : (op : Op) (memory : Memory) (job : Job) (from to k : ℕ) → scan_done op memory job from to ≡ k → k < to - from → is_clear memory (faults_at op job (scan_offset op job from to k)) ≡ true → Differs k ≡ scan_found op memory job from to
+unfolding scan_found
+found_differs op memory job from to k is below clear =
+    let faults = faults_at op job (scan_offset op job from to k) in
+    sym (ap (found_of op memory job from to) is
+    ∙ (ap (λ (b : Bool). cond b All (cond (is_clear memory faults) (Differs k) (fault_found k (first_fault memory faults)))) (lt-eqb k (to - from) below)
+    ∙ ap (λ (b : Bool). cond b (Differs k) (fault_found k (first_fault memory faults))) clear))
 
 -- nothing to be done
 pub found_none : (op : Op) (memory : Memory) (job : Job) (from to : ℕ) → to ≤ from → All ≡ scan_found op memory job from to
@@ -131,14 +140,14 @@ blocked_at op memory job from to k is below =
     (passes_at (to - from) (λ i. not (passes op memory job (scan_offset op job from to i)))) below)
 
 -- of one, two or three bytes that are not all present, the fault that comes
-one_fault : (memory : Memory) (one : Fault) → (has memory one.address && true) ≡ false → first_fault memory (one ∷ []) ≡ one
+pub one_fault : (memory : Memory) (one : Fault) → (has memory one.address && true) ≡ false → first_fault memory (one ∷ []) ≡ one
 one_fault memory one blocked = choose (has memory one.address) blocked
   where
     choose : (a : Bool) → (a && true) ≡ false → unwrap_or (cond (not a) (Some one) None) (read_fault 0) ≡ one
     choose true h = absurd (false≢true (sym h))
     choose false h = refl
 
-two_faults : (memory : Memory) (one other : Fault) → (has memory one.address && (has memory other.address && true)) ≡ false → first_fault memory (one ∷ other ∷ []) ≡ cond (has memory one.address) other one
+pub two_faults : (memory : Memory) (one other : Fault) → (has memory one.address && (has memory other.address && true)) ≡ false → first_fault memory (one ∷ other ∷ []) ≡ cond (has memory one.address) other one
 two_faults memory one other blocked = choose (has memory one.address) (has memory other.address) blocked
   where
     choose : (a b : Bool) → (a && (b && true)) ≡ false → unwrap_or (cond (not a) (Some one) (cond (not b) (Some other) None)) (read_fault 0) ≡ cond a other one

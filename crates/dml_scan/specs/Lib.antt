@@ -1,2 +1,4 @@
 pub mod Found
+pub mod Lanes
+pub mod Parts
 pub mod Work

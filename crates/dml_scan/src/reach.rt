@@ -33,7 +33,7 @@ pub fn done_in(found: Found, len: u32) -> u32
 }
 
 /// The end at an absent byte that was to be read.
-fn read_fault(done: u32, place: u64) -> Found
+pub fn read_fault(done: u32, place: u64) -> Found
     ensures { result ≡ Found.Fault done place false }
 {
     Found::Fault {

@@ -1,11 +1,12 @@
 ghost use Rattle.std.specs.Prelude.{◌≡◌, ◌+◌, ◌-◌, ◌^◌, ◌≤◌, ◌++◌, [], length, IsTrue};
-ghost use Rattle.dml_types.specs.declared.operations.Op.TheVariants.{Dualcast, Fill, Move};
+ghost use Rattle.dml_types.specs.declared.operations.Op.TheVariants.{Compare, ComparePattern, Dualcast, Fill, Move};
 ghost use Rattle.dml_types.specs.Job.{op_of};
 ghost use Rattle.dml_types.specs.Bytewise.{done_from};
 ghost use Rattle.dml_types.specs.Memory.{bytes_at, has_all};
 ghost use Rattle.dml_types.specs.Chunk.{scan_found, scan_staged};
 ghost use Rattle.dml_arena.specs.Piece.{SamePlace};
 
+use crate::compares::{compare_found, compare_pattern_found};
 use crate::reach::{direction_of, done_in, dualcast_found, fill_found, move_found};
 use crate::staging::stage;
 use dml_arena::Region;
@@ -63,6 +64,7 @@ pub fn scan_move<'a>(
 /// Scans the offsets from `from` up to `to` of a fill, and stages nothing.
 ///
 /// The region is empty, needs no room, and comes back as it was.
+#[tactic(auto, unfolding(dml_types::specs::Chunk::scan_staged))]
 pub fn scan_fill<'a>(
     image: &Image,
     job: &Checked,
@@ -83,6 +85,62 @@ pub fn scan_fill<'a>(
         from,
         to,
         found: fill_found(image, job, from, to),
+        staged: room,
+    }
+}
+
+/// Scans the offsets from `from` up to `to` of a compare of two ranges, and stages nothing.
+///
+/// The region is empty, needs no room, and comes back as it was.
+#[tactic(auto, unfolding(dml_types::specs::Chunk::scan_staged))]
+pub fn scan_compare<'a>(
+    image: &Image,
+    job: &Checked,
+    from: u32,
+    to: u32,
+    room: Region<'a>,
+) -> ScanPiece<'a>
+    requires operation { op_of job.now ≡ Some Compare }
+    requires order { from ≤ to }
+    requires within { to ≤ job.now.size }
+    requires empty { room.bytes ≡ [] }
+    ensures chunk { (result.from ≡ from) × (result.to ≡ to) }
+    ensures found { result.found ≡ scan_found Compare image.now job.now from to }
+    ensures staged { result.staged.bytes ≡ scan_staged Compare image.now job.now from to }
+    ensures place { SamePlace room.entry result.staged }
+{
+    ScanPiece {
+        from,
+        to,
+        found: compare_found(image, job, from, to),
+        staged: room,
+    }
+}
+
+/// Scans the offsets from `from` up to `to` of a compare with a pattern, and stages nothing.
+///
+/// The region is empty, needs no room, and comes back as it was.
+#[tactic(auto, unfolding(dml_types::specs::Chunk::scan_staged))]
+pub fn scan_compare_pattern<'a>(
+    image: &Image,
+    job: &Checked,
+    from: u32,
+    to: u32,
+    room: Region<'a>,
+) -> ScanPiece<'a>
+    requires operation { op_of job.now ≡ Some ComparePattern }
+    requires order { from ≤ to }
+    requires within { to ≤ job.now.size }
+    requires empty { room.bytes ≡ [] }
+    ensures chunk { (result.from ≡ from) × (result.to ≡ to) }
+    ensures found { result.found ≡ scan_found ComparePattern image.now job.now from to }
+    ensures staged { result.staged.bytes ≡ scan_staged ComparePattern image.now job.now from to }
+    ensures place { SamePlace room.entry result.staged }
+{
+    ScanPiece {
+        from,
+        to,
+        found: compare_pattern_found(image, job, from, to),
         staged: room,
     }
 }

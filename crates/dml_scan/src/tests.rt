@@ -1,18 +1,24 @@
 //! Pieces of many chunks against what each byte alone says, and the stops of worked jobs.
-use crate::{Found, ScanPiece, scan_dualcast, scan_fill, scan_move};
+use crate::{
+    Found, ScanPiece, scan_compare, scan_compare_pattern, scan_dualcast, scan_fill, scan_move,
+    work_direction,
+};
 use dml_arena::{Arena, Region};
 use dml_desc::{Checked, check};
 use dml_image::{Image, ImageError};
-use dml_types::{Job, Op};
+use dml_types::{Direction, Job, Op};
 use std::alloc::Global;
 use std::process::Abort;
 use std::test::Fail;
+
+mod compares;
+mod lanes;
 
 /// The staging size, in bytes.
 const STAGING: u32 = 16_384;
 
 /// An image whose present pages hold bytes that differ from place to place.
-fn image_with(alloc: Global, pages: u32, brought: &[u32]) -> Result<Image, ImageError> {
+fn image_with(alloc: Global, pages: u32, brought: &[u32]) -> Result<Image<'static>, ImageError> {
     let mut image = Image::new(alloc, pages)?;
     for page in brought {
         let mut bytes = [0; 4096];
@@ -38,6 +44,8 @@ fn piece_of<'a>(
     match job.op() {
         Op::Move => scan_move(image, job, from, to, room),
         Op::Fill => scan_fill(image, job, from, to, room),
+        Op::Compare => scan_compare(image, job, from, to, room),
+        Op::ComparePattern => scan_compare_pattern(image, job, from, to, room),
         Op::Dualcast => scan_dualcast(image, job, from, to, room),
         op => panic!(rt; "{op:?} has no scan"),
     }
@@ -52,14 +60,27 @@ fn is_downward(job: &Job) -> bool {
 fn absent_at(image: &Image, job: &Job, offset: u32) -> Option<(u64, bool)> {
     let offset = u64::from(offset);
     let source = (job.source.wrapping_add(offset), false);
+    let compared = (job.target.wrapping_add(offset), false);
     let target = (job.target.wrapping_add(offset), true);
     let extra = (job.extra.wrapping_add(offset), true);
     let touched = match job.op() {
         Some(Op::Fill) => [target, target, target],
+        Some(Op::Compare) => [source, compared, compared],
+        Some(Op::ComparePattern) => [source, source, source],
         Some(Op::Dualcast) => [source, target, extra],
         _ => [source, target, target],
     };
     touched.into_iter().find(|(place, _)| !image.has(*place))
+}
+
+/// Whether a compare's byte at an offset differs from the one that it is compared with.
+fn differs_at(image: &Image, job: &Job, offset: u32) -> bool {
+    let byte = image.byte(job.source.wrapping_add(u64::from(offset)));
+    match job.op() {
+        Some(Op::Compare) => byte != image.byte(job.target.wrapping_add(u64::from(offset))),
+        Some(Op::ComparePattern) => byte != Some(job.target.to_le_bytes()[offset as usize % 8]),
+        _ => false,
+    }
 }
 
 /// How the scan of a chunk ends, byte by byte.
@@ -74,6 +95,9 @@ fn slow_found(image: &Image, job: &Job, from: u32, to: u32) -> Found {
         };
         if let Some((place, write)) = absent_at(image, job, offset) {
             return Found::Fault { done, place, write };
+        }
+        if differs_at(image, job, offset) {
+            return Found::Differs { done };
         }
     }
     Found::All
@@ -95,7 +119,7 @@ fn expect_piece(rt: &impl Abort, image: &Image, arena: &mut Arena, job: &Job, ch
         _ => to.saturating_sub(from),
     };
     let (first, len) = match checked.op() {
-        Op::Fill => (from, 0),
+        Op::Fill | Op::Compare | Op::ComparePattern => (from, 0),
         _ if is_downward(job) => (to.saturating_sub(done), done),
         _ => (from, done),
     };
@@ -233,70 +257,88 @@ fn write_fault(done: u32, place: u64) -> Found {
 }
 
 #[test]
-fn stops_of_whole_jobs(rt: HostRuntime) -> Result<(), Fail> {
+fn stops_of_moves(rt: HostRuntime) -> Result<(), Fail> {
     let first = image_with(rt.alloc(), 2, &[0])?;
-    let first_of_one = image_with(rt.alloc(), 1, &[0])?;
     let ends = image_with(rt.alloc(), 3, &[0, 2])?;
-    let dualcast = image_with(rt.alloc(), 4, &[0, 1, 3])?;
     let mut arena = Arena::new(rt.alloc(), STAGING)?;
     let end_of_addresses = 0xffff_ffff_ffff_fff0;
-    for (name, image, job, want) in [
-        (
-            "fill_into_absent_page",
-            &first,
-            Job::fill(0x0807_0605_0403_0201, 4090, 12),
-            write_fault(6, 4096),
-        ),
+    for (name, job, want) in [
         (
             "backward_move_into_absent_page",
-            &first,
             Job::move_bytes(0, 4, 4096),
             write_fault(0, 4099),
         ),
         (
-            "forward_move_over_itself",
-            &first_of_one,
-            Job::move_bytes(4, 0, 100),
-            Found::All,
-        ),
-        (
-            "dualcast_refusals",
-            &first_of_one,
-            Job::dualcast(0, 4096, 8192, 4),
-            write_fault(0, 4096),
-        ),
-        (
             "end_of_address_space",
-            &first_of_one,
             Job::move_bytes(end_of_addresses, 0, 16),
             read_fault(0, end_of_addresses),
         ),
+    ] {
+        assert_eq!(rt; found_of(&rt, &first, &mut arena, &job), want, "{name}");
+    }
+    let stops_at_the_edge = Job::move_bytes(0, 8, 12272);
+    assert_eq!(rt;
+        found_of(&rt, &ends, &mut arena, &stops_at_the_edge),
+        read_fault(4080, 8191),
+        "backward_move_stops_at_page_edge"
+    );
+    let over_itself = Job::move_bytes(4, 0, 100);
+    assert_eq!(rt; found_of(&rt, &first, &mut arena, &over_itself), Found::All);
+    let empty_at_the_end = Job::move_bytes(u64::MAX, u64::MAX, 0);
+    assert_eq!(rt;
+        found_of(&rt, &first, &mut arena, &empty_at_the_end),
+        Found::All
+    );
+    Ok(())
+}
+
+#[test]
+fn stops_of_fills_and_dualcasts(rt: HostRuntime) -> Result<(), Fail> {
+    let first = image_with(rt.alloc(), 2, &[0])?;
+    let three = image_with(rt.alloc(), 4, &[0, 1, 3])?;
+    let mut arena = Arena::new(rt.alloc(), STAGING)?;
+    let pattern = 0x0807_0605_0403_0201;
+    for (name, job, want) in [
+        (
+            "fill_into_absent_page",
+            Job::fill(pattern, 4090, 12),
+            write_fault(6, 4096),
+        ),
         (
             "resume_a_fill",
-            &first,
-            Job::fill(0x0807_0605_0403_0201, 4091, 9),
+            Job::fill(pattern, 4091, 9),
             write_fault(5, 4096),
         ),
         (
-            "backward_move_stops_at_page_edge",
-            &ends,
-            Job::move_bytes(0, 8, 12272),
-            read_fault(4080, 8191),
-        ),
-        (
-            "dualcast_write_fault",
-            &dualcast,
-            Job::dualcast(0, 8190, 16382, 5),
-            write_fault(2, 8192),
-        ),
-        (
-            "empty_move_at_the_end",
-            &first,
-            Job::move_bytes(u64::MAX, u64::MAX, 0),
-            Found::All,
+            "dualcast_refusals",
+            Job::dualcast(0, 4096, 8192, 4),
+            write_fault(0, 4096),
         ),
     ] {
-        assert_eq!(rt; found_of(&rt, image, &mut arena, &job), want, "{name}");
+        assert_eq!(rt; found_of(&rt, &first, &mut arena, &job), want, "{name}");
+    }
+    let stops_at_the_second = Job::dualcast(0, 8190, 16382, 5);
+    assert_eq!(rt;
+        found_of(&rt, &three, &mut arena, &stops_at_the_second),
+        write_fault(2, 8192),
+        "dualcast_write_fault"
+    );
+    Ok(())
+}
+
+#[test]
+fn directions_of_work(rt: HostRuntime) -> Result<(), Fail> {
+    for (job, want) in [
+        (Job::move_bytes(100, 101, 8), Direction::Backward),
+        (Job::move_bytes(100, 107, 8), Direction::Backward),
+        (Job::move_bytes(100, 108, 8), Direction::Forward),
+        (Job::move_bytes(100, 100, 8), Direction::Forward),
+        (Job::move_bytes(101, 100, 8), Direction::Forward),
+        (Job::compare(100, 101, 8), Direction::Forward),
+        (Job::fill(100, 101, 8), Direction::Forward),
+    ] {
+        let checked = check(&job, STAGING).expect(&rt, "an accepted job");
+        assert_eq!(rt; work_direction(&checked), want, "{job:?}");
     }
     Ok(())
 }

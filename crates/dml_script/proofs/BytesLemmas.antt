@@ -1,24 +1,9 @@
 -- What reads and writes, one after another, do to known bytes.
-use Rattle.std.proofs.Common.{◌≡◌, ℕ, ◌+◌, ◌<◌, List, [], ◌++◌, length, take, drop, Option, None, Some, IfSome, refl, sym, ap, subst, ◌∙◌, append_assoc, append-nil, arith, length-append}
-use Rattle.std.proofs.Math.Seq.{take-add}
+use Rattle.std.proofs.Common.{◌≡◌, ℕ, ◌<◌, List, [], ◌++◌, length, take, drop, Option, None, Some, IfSome, refl, sym, ap, subst, ◌∙◌, append_assoc, append-nil, arith, length-append}
 use Rattle.std.proofs.lemmas.List.{take-append-drop}
 use Rattle.std.proofs.KnownBytes.{Appends-trans, Appends-kept, Appends-nil, Consumes-trans, Consumes-whole}
 use Rattle.std.specs.Io.KnownBytes.{Appends, Consumes, IsAtEnd, Keeps}
 use Rattle.dml_script.specs.Watching.{AppendsFront}
-
--- a write of the next n bytes after the first `done`
-pub appends_more : (a b c : Option (List ℕ)) (bytes : List ℕ) (done n : ℕ)
-    → Appends a b (take done bytes) → Appends b c (take n (drop done bytes)) → Appends a c (take (done + n) bytes)
-appends_more a b c bytes done n first second =
-    subst (Appends a c) (sym (take-add done n bytes)) (Appends-trans a b c _ _ first second)
-
-pub front_of : (a b c : Option (List ℕ)) (bytes : List ℕ) (done : ℕ) → Appends a b (take done bytes) → Appends b c [] → AppendsFront a c bytes
-front_of a b c bytes done first second =
-    (take done bytes, drop done bytes, sym (take-append-drop done bytes), subst (Appends a c) (append-nil _) (Appends-trans a b c _ _ first second))
-
-pub front_kept : (a b c : Option (List ℕ)) (bytes : List ℕ) (done : ℕ) → Appends a b (take done bytes) → Keeps b c → AppendsFront a c bytes
-front_kept a b c bytes done first kept =
-    (take done bytes, drop done bytes, sym (take-append-drop done bytes), Appends-kept a b c _ first kept)
 
 -- what a reader gave is all that it had, where a read with room then gives nothing
 pub consumed_all : (a b c : Option (List ℕ)) (bytes buffer : List ℕ) (n : ℕ) → Consumes a b bytes
@@ -43,6 +28,13 @@ written_start old whole = ([], Appends-nil old, refl)
 pub written_more : (a b c : Option (List ℕ)) (text left whole : List ℕ) → IsWritten a b (text ++ left) whole → Appends b c text → IsWritten a c left whole
 written_more a b c text left whole written next =
     (written.0 ++ text, Appends-trans a b c _ _ written.1 next, append_assoc written.0 text left ∙ written.2)
+
+-- a write of the first n bytes that are left
+pub written_some : (a b c : Option (List ℕ)) (left rest whole : List ℕ) (n : ℕ) → IsWritten a b left whole → Appends b c (take n left) → rest ≡ drop n left
+    → IsWritten a c rest whole
+written_some a b c left rest whole n written next behind =
+    written_more a b c (take n left) rest whole
+    (subst (λ l. IsWritten a b l whole) (sym (take-append-drop n left) ∙ ap (λ l. take n left ++ l) (sym behind)) written) next
 
 pub written_front : (a b : Option (List ℕ)) (left whole : List ℕ) → IsWritten a b left whole → AppendsFront a b whole
 written_front a b left whole written = (written.0, left, sym written.2, written.1)

@@ -17,7 +17,7 @@ use Rattle.dml_grammar.specs.declared.table.Slot.{Slot}
 use Rattle.dml_grammar.specs.Grammar as grammar
 use Rattle.dml_grammar.specs.Grammar.{Verdict, Skipped, Faulty, Fine, verdict, verdict_of, judged, longest_line, first_of, place_faults, entry_faults, faults_of, word_faults}
 use Rattle.dml_script.specs.Runnable.{IsCarried, IsCarriedBy}
-use Rattle.dml_grammar.specs.Table.{word_with, parts_in}
+use Rattle.dml_grammar.specs.Table.{word_named, parts_of}
 use Rattle.dml_grammar.specs.Text.{is_text, words}
 use Rattle.dml_grammar.proofs.LineLemmas.{Entries, fitted_slots, bytes_of_slots, all_bytes_fit}
 
@@ -52,9 +52,9 @@ none_before before second =
       | inr none ↦ nil_from_length before (omega (arith, ltb-false 0 (length before) none))
     ]
 
-page_bytes : (ws : List (List ℕ)) (entries : Entries) → grammar.fitted (parts_in word.Page) ws ≡ Some entries → length (grammar.values_of entries).bytes ≤ 4096
+page_bytes : (ws : List (List ℕ)) (entries : Entries) → grammar.fitted (parts_of word.Page) ws ≡ Some entries → length (grammar.values_of entries).bytes ≤ 4096
 page_bytes ws entries is =
-    subst (λ (slots : List Slot). length (grammar.values_of entries).bytes ≤ bytes_of_slots slots) (fitted_slots (parts_in word.Page) ws entries is) (all_bytes_fit entries)
+    subst (λ (slots : List Slot). length (grammar.values_of entries).bytes ≤ bytes_of_slots slots) (fitted_slots (parts_of word.Page) ws entries is) (all_bytes_fit entries)
 
 -- the later opcodes left out, an opcode is that of a no-op, a move, a fill or a dualcast, or of no operation
 carried_opcode : (n : ℕ) → list_any (λ opcode. nat_eq n opcode) grammar.later_opcodes ≡ false
@@ -84,7 +84,7 @@ carried_opcode n none =
 carried_later : (bytes : List ℕ) → list_any (λ opcode. nat_eq (u8_at bytes 7) opcode) grammar.later_opcodes ≡ false → IsCarried (decoded bytes)
 carried_later bytes none = subst IsCarriedBy (sym (op_of-decoded bytes)) (carried_opcode (u8_at bytes 7) none)
 
-follows_by : (first : Word) (ws : List (List ℕ)) (entries : Entries) (before : List Line) → grammar.fitted (parts_in first) ws ≡ Some entries
+follows_by : (first : Word) (ws : List (List ℕ)) (entries : Entries) (before : List Line) → grammar.fitted (parts_of first) ws ≡ Some entries
     → (nat_eq (length before) 0 && not (grammar.is_image first)) ≡ false → (nat_lt 0 (length before) && grammar.is_image first) ≡ false
     → grammar.has_later_opcode first (grammar.values_of entries) ≡ false
     → grammar.is_out_of_range first (grammar.values_of entries) before ≡ false
@@ -100,7 +100,7 @@ follows_by word.Dualcast ws entries before is missing second now range = (some_b
 follows_by word.Raw ws entries before is missing second now range = (some_before before missing, carried_later _ now)
 follows_by word.Show ws entries before is missing second now range = (some_before before missing, ltb-false _ _ (or_parts _ _ range).1)
 
-follows_in : (first : Word) (ws : List (List ℕ)) (fitted : Option Entries) (before : List Line) → grammar.fitted (parts_in first) ws ≡ fitted
+follows_in : (first : Word) (ws : List (List ℕ)) (fitted : Option Entries) (before : List Line) → grammar.fitted (parts_of first) ws ≡ fitted
     → first_of (place_faults first before ++ entry_faults first fitted before) ≡ None
     → MayFollow before (grammar.line_of first (grammar.values_of (unwrap_or fitted [])))
 follows_in first ws None before is none = cc (none_of_two (place_faults first before) ((true, WrongWords) ∷ []) none).1
@@ -120,8 +120,8 @@ follows_judged : (found : Option Word) (kind : Option Kind) (after : List (List 
 follows_judged found (Some kind) after before l is none = cc
 follows_judged None None after before l is none = cc
 follows_judged (Some first) None after before l is none =
-    let same : grammar.line_of first (grammar.values_of (unwrap_or (grammar.fitted (parts_in first) after) [])) ≡ l = cc in
-    subst (λ (l : Line). MayFollow before l) same (follows_in first after (grammar.fitted (parts_in first) after) before refl (none refl))
+    let same : grammar.line_of first (grammar.values_of (unwrap_or (grammar.fitted (parts_of first) after) [])) ≡ l = cc in
+    subst (λ (l : Line). MayFollow before l) same (follows_in first after (grammar.fitted (parts_of first) after) before refl (none refl))
 
 follows_of : (ws : List (List ℕ)) (text : List ℕ) (before : List Line) (l : Line) → verdict_of ws text before ≡ Fine l → MayFollow before l
 follows_of [] text before l is = cc
@@ -129,9 +129,9 @@ follows_of (first ∷ after) text before l is =
     elim (cases_Bool (grammar.is_comment first)) [
       | inl comment ↦ let skipped : Skipped ≡ Fine l = rw comment at is in cc
       | inr other ↦
-          let fine : judged (first_of (faults_of text first after before)) (word_with first) after ≡ Fine l = rw other at is in
+          let fine : judged (first_of (faults_of text first after before)) (word_named first) after ≡ Fine l = rw other at is in
           let text_faults = (nat_lt longest_line (length text), LongLine) ∷ (not (list_all is_text text), NotAscii) ∷ [] in
-          follows_judged (word_with first) _ after before l fine (λ none. (none_of_two text_faults (word_faults (word_with first) after before) none).1)
+          follows_judged (word_named first) _ after before l fine (λ none. (none_of_two text_faults (word_faults (word_named first) after before) none).1)
     ]
 
 pub follows : (text : List ℕ) (before : List Line) (l : Line) → verdict text before ≡ Fine l → MayFollow before l

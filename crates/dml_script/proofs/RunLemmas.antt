@@ -6,6 +6,7 @@ use Rattle.dml_grammar.specs.declared.lines.Line.TheVariants as line
 use Rattle.dml_grammar.specs.Grammar.{parse}
 use Rattle.dml_script.specs.Run.{Session, after_line, answer, answer_from, answer_if, item_of, longest_script, opening, text_if}
 use Rattle.dml_script.specs.Runnable.{AllFit}
+use Rattle.dml_script.specs.Watching.{AppendsFront}
 use Rattle.dml_script.proofs.BytesLemmas.{IsWritten}
 
 pub on_error : {T E : Type 0} (r : Result T E) (P : Type 0) → P → OnErr r P
@@ -64,6 +65,7 @@ unfolding answer
 answer_is bytes staging lines within parsed =
     rw (le-leb (length bytes) longest_script within) (ap (λ p. answer_if p staging) (sym parsed))
 
--- the lines of a script that was read from the bytes themselves
-pub parsed_lines : (bytes seen : List ℕ) (script lines : List Line) → seen ≡ bytes → parse seen ≡ Ok script → lines ≡ script → parse bytes ≡ Ok lines
-parsed_lines bytes seen script lines same parsed shown = ap parse (sym same) ∙ parsed ∙ ap (λ ls. Ok ls) (sym shown)
+pub front_of_answer : {T E : Type 0} (r : Result T E) (old new : Option (List ℕ)) (bytes : List ℕ) (staging : ℕ) (lines : List Line) → length bytes ≤ longest_script
+    → parse bytes ≡ Ok lines → AppendsFront old new (answer_from staging opening lines) → OnErr r (AppendsFront old new (answer bytes staging))
+front_of_answer r old new bytes staging lines within parsed front =
+    on_error r _ (subst (AppendsFront old new) (answer_is bytes staging lines within parsed) front)

@@ -1,6 +1,6 @@
 -- A page's content, and what a range shows.
-use Rattle.std.proofs.Common.{◌≡◌, ℕ, zero, suc, ◌+◌, ◌-◌, ◌/◌, ◌%◌, ◌<◌, ◌≤◌, true, false, List, [], ◌∷◌, ◌++◌, Option, None, Some, arith, rules, length, map, get_or, replicate, sym, ap, ◌∙◌, append_assoc, Result, Ok, Err, OnOk}
-use Rattle.std.proofs.lemmas.List.{append-nil, get_or-map, length-map, places, same_lists}
+use Rattle.std.proofs.Common.{◌≡◌, ℕ, zero, suc, ◌+◌, ◌-◌, ◌/◌, ◌%◌, ◌<◌, ◌≤◌, min, true, false, List, [], ◌∷◌, ◌++◌, Option, None, Some, arith, rules, length, map, get_or, replicate, sym, ap, ◌∙◌, append_assoc}
+use Rattle.std.proofs.lemmas.List.{append-nil, get_or-map, get_or-replicate, length-map, length-replicate, places, same_lists}
 use Rattle.std.proofs.lemmas.List.FromFn.{get_or-map-range_with_len, length-map-range_with_len, map-range_with_len_more}
 use Rattle.dml_types.specs.Memory.{Memory, IsMemory, byte_at, bytes_at, has, has_all}
 use Rattle.dml_types.proofs.MemoryLemmas.{has_all_from, has_all_within, has_within, length_bytes_at}
@@ -58,14 +58,22 @@ page_shown memory address n good within present =
     get_or-map (λ (byte : ℕ). Some byte) (bytes_at memory address n) k 0 d here ∙ ap (λ (byte : ℕ). Some byte) byte ∙ sym shows
     ∙ sym (get_or-map-range_with_len (λ i. shown_at memory (address + i)) 0 n k k d below (omega arith)))
 
-pub absent_more : (memory : Memory) (address n i : ℕ) → address % 4096 + n ≤ 4096 → has memory address ≡ false → i < n
-    → shown_bytes memory address (i + 1) ≡ shown_bytes memory address i ++ None ∷ []
-absent_more memory address n i within absent low =
-    let none : shown_at memory (address + i) ≡ None = rw (same_page memory address n i within low, absent) in
-    shown_more memory address i ∙ ap (λ shown. shown_bytes memory address i ++ shown ∷ []) none
+-- what is read of a present page is what is shown of it
+pub present_shown : (memory : Memory) (address n : ℕ) (bytes : List ℕ) → IsMemory memory → address % 4096 + n ≤ 4096 → has memory address ≡ true
+    → bytes ≡ bytes_at memory address (length bytes) → length bytes ≡ min n (4096 - address % 4096)
+    → map (λ byte. Some byte) bytes ≡ shown_bytes memory address n
+present_shown memory address n bytes good within present read long =
+    let size : length bytes ≡ n = omega (arith, long, within) in
+    ap (map (λ byte. Some byte)) (read ∙ ap (bytes_at memory address) size) ∙ page_shown memory address n good within present
 
--- what was added are the bytes that were read, which are those that are shown
-pub shown_of : {E : Type 0} (r : Result (Unit {0}) E) (new old shown : List (Option ℕ)) (buffer : List ℕ) (bytes : List ℕ) → buffer ≡ bytes
-    → map (λ byte. Some byte) bytes ≡ shown → OnOk r (new ≡ old ++ map (λ byte. Some byte) buffer) → OnOk r (new ≡ old ++ shown)
-shown_of (Ok x) new old shown buffer bytes read same added = added ∙ ap (λ bytes. old ++ map (λ byte. Some byte) bytes) read ∙ ap (λ shown. old ++ shown) same
-shown_of (Err e) new old shown buffer bytes read same added = tt
+-- of an absent page nothing is shown
+pub absent_shown : (memory : Memory) (address n : ℕ) → address % 4096 + n ≤ 4096 → has memory address ≡ false
+    → replicate n None ≡ shown_bytes memory address n
+absent_shown memory address n within absent =
+    same_lists _ _ (length-replicate n None ∙ sym (length-map-range_with_len (λ i. shown_at memory (address + i)) 0 n))
+    (λ k d low.
+    let nothing : Option ℕ = None in
+    let below : k < n = omega (arith, length-replicate n nothing) in
+    let none : shown_at memory (address + k) ≡ None = rw (same_page memory address n k within below, absent) in
+    get_or-replicate n k None d below ∙ sym none
+    ∙ sym (get_or-map-range_with_len (λ i. shown_at memory (address + i)) 0 n k k d below (omega arith)))

@@ -25,17 +25,19 @@ hexadecimal width n = let text = digits 16 false n in replicate (width - length 
 abbrev pub job_line : ℕ → Record → List ℕ
 job_line number answer =
     (codes "job " ++ decimal number ++ codes " status " ++ byte_text (code_of answer.status))
-    ++ (codes " result " ++ decimal answer.result ++ codes " completed " ++ decimal answer.completed ++ codes " fault "
-    ++ decimal answer.fault ++ codes " delta " ++ decimal answer.delta_size ++ codes "\n")
+    ++ (codes " result " ++ decimal answer.result ++ codes " completed " ++ decimal answer.completed
+    ++ codes " fault " ++ decimal answer.fault ++ codes " delta " ++ decimal answer.delta_size ++ codes "\n")
 
 -- `batch status SS completed C`
 abbrev pub batch_line : BatchRecord → List ℕ
 batch_line answer =
-    (codes "batch status " ++ byte_text (code_of answer.status)) ++ (codes " completed " ++ decimal answer.completed ++ codes "\n")
+    (codes "batch status " ++ byte_text (code_of answer.status))
+    ++ (codes " completed " ++ decimal answer.completed ++ codes "\n")
 
 -- `show ADDR BYTES`
 abbrev pub show_line : ℕ → List (Option ℕ) → List ℕ
-show_line address shown = (codes "show " ++ decimal address ++ codes " ") ++ flat_map shown_text shown ++ codes "\n"
+show_line address shown =
+    (codes "show " ++ decimal address ++ codes " ") ++ flat_map shown_text shown ++ codes "\n"
 
 -- a line of the answer, with its line feed
 abbrev pub text_of : Item → List ℕ
@@ -48,5 +50,6 @@ text_of (item.Show address shown) = show_line address shown
 abbrev pub fields_of : jobs.Job → List ℕ
 fields_of job =
     (codes "opcode " ++ byte_text job.opcode) ++ (codes " flags " ++ hexadecimal 6 job.flags)
-    ++ (codes " source " ++ decimal job.source ++ codes " target " ++ decimal job.target ++ codes " size " ++ decimal job.size
-    ++ codes " extra " ++ decimal job.extra ++ codes " delta " ++ decimal job.delta_size ++ codes " expected " ++ decimal job.expected)
+    ++ (codes " source " ++ decimal job.source ++ codes " target " ++ decimal job.target
+    ++ codes " size " ++ decimal job.size ++ codes " extra " ++ decimal job.extra
+    ++ codes " delta " ++ decimal job.delta_size ++ codes " expected " ++ decimal job.expected)

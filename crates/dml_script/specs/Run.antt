@@ -1,9 +1,11 @@
 -- What a script's run writes: its lines change a memory, one after another, and jobs and shows add text.
-use Rattle.std.specs.Prelude.{ℕ, ◌+◌, ◌-◌, if◌then◌else◌, List, [], ◌∷◌, ◌++◌, length, map, nat_le, replicate, Option, None, Some, Result, Ok, Err}
+use Rattle.std.specs.Prelude.{◌≡◌, ◌≤◌, IsOk, ℕ, ◌+◌, ◌-◌, ◌%◌, if◌then◌else◌, List, [], ◌∷◌, ◌++◌, length, map, nat_le, replicate, Option, None, Some, Result, Ok, Err}
 use Rattle.std.specs.List.{range_with_len}
 use Rattle.dml_types.specs.Memory.{Memory, page_size, has, byte_at, put}
 use Rattle.dml_types.specs.Step.{step}
 use Rattle.dml_image.specs.Brought.{all_absent, brought}
+use Rattle.dml_grammar.specs.declared.faults.ScriptError.{ScriptError}
+use Rattle.dml_grammar.specs.declared.faults.ScriptError.TheVariants as scripts
 use Rattle.dml_grammar.specs.declared.faults.ScriptFault.{ScriptFault}
 use Rattle.dml_script.specs.declared.items.Item.{Item}
 use Rattle.dml_script.specs.declared.items.Item.TheVariants as item
@@ -11,6 +13,10 @@ use Rattle.dml_grammar.specs.declared.lines.Line.{Line}
 use Rattle.dml_grammar.specs.declared.lines.Line.TheVariants as line
 use Rattle.dml_grammar.specs.Grammar.{parse}
 use Rattle.dml_script.specs.Output.{text_of}
+use Rattle.dml_script.specs.declared.running.RunFault.{RunFault}
+use Rattle.dml_script.specs.declared.running.RunFault.TheVariants as faults
+use Rattle.dml_script.specs.declared.writing.AnswerError.{AnswerError}
+use Rattle.dml_script.specs.declared.writing.AnswerError.TheVariants as answers
 
 -- the memory so far, and the number of jobs so far
 pub record Session : Type 0 where
@@ -33,10 +39,17 @@ page_of bytes = bytes ++ replicate (page_size - length bytes) 0
 -- what a line leaves, at a staging size
 abbrev pub after_line : ℕ → Session → Line → Session
 after_line staging session (line.Image pages) = record session { memory = all_absent pages }
-after_line staging session (line.Page page bytes) = record session { memory = brought session.memory page (page_of bytes) }
-after_line staging session (line.Poke address bytes) = record session { memory = put session.memory address bytes }
-after_line staging session (line.Job job) = record { memory = (step session.memory job staging).0; jobs = session.jobs + 1 }
+after_line staging session (line.Page page bytes) =
+    record session { memory = brought session.memory page (page_of bytes) }
+after_line staging session (line.Poke address bytes) =
+    record session { memory = put session.memory address bytes }
+after_line staging session (line.Job job) =
+    record { memory = (step session.memory job staging).0; jobs = session.jobs + 1 }
 after_line staging session (line.Show address len) = session
+
+-- a range that does not cross the end of a page
+abbrev pub IsInPage : ℕ → ℕ → Type 0
+IsInPage address len = address % page_size + len ≤ page_size
 
 -- what an address shows: its byte, or None where that is absent
 abbrev pub shown_at : Memory → ℕ → Option ℕ
@@ -51,7 +64,8 @@ item_of staging session (line.Image pages) = None
 item_of staging session (line.Page page bytes) = None
 item_of staging session (line.Poke address bytes) = None
 item_of staging session (line.Job job) = Some (item.Job session.jobs (step session.memory job staging).1)
-item_of staging session (line.Show address len) = Some (item.Show address (shown_bytes session.memory address len))
+item_of staging session (line.Show address len) =
+    Some (item.Show address (shown_bytes session.memory address len))
 
 abbrev pub text_if : Option Item → List ℕ
 text_if None = []
@@ -66,6 +80,14 @@ answer_from staging session (l ∷ lines) =
 abbrev pub longest_script : ℕ
 longest_script = 4194304
 
+-- bytes without a fault, few enough for a script
+abbrev pub IsScript : List ℕ → Type 0
+IsScript bytes = (length bytes ≤ longest_script) × IsOk (parse bytes)
+
+-- the first fault of bytes that are few enough for a script
+abbrev pub HasFault : List ℕ → ScriptFault → Type 0
+HasFault bytes fault = (length bytes ≤ longest_script) × (parse bytes ≡ Err fault)
+
 -- a script with a fault has no answer
 abbrev pub answer_if : Result (List Line) ScriptFault → ℕ → List ℕ
 answer_if (Ok lines) staging = answer_from staging opening lines
@@ -74,3 +96,12 @@ answer_if (Err fault) staging = []
 -- the answer of a script's bytes, at a staging size; one that is too long has none
 unfoldable pub answer : List ℕ → ℕ → List ℕ
 answer bytes staging = if nat_le (length bytes) longest_script then answer_if (parse bytes) staging else []
+
+-- what an error of reading or answering a script is called of the whole run
+abbrev pub fault_of_script : ScriptError → RunFault
+fault_of_script (scripts.Fault fault) = faults.Script fault
+fault_of_script scripts.NoMemory = faults.NoMemory
+
+abbrev pub fault_of_answer : AnswerError → RunFault
+fault_of_answer answers.NoMemory = faults.NoMemory
+fault_of_answer answers.Write = faults.Write

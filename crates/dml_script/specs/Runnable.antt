@@ -1,5 +1,5 @@
--- What is known of a script's lines where they meet the memory so far: the grammar gives it of every script without
--- a fault, and the run rests on it.
+-- What is known of a script's lines where they meet the memory so far: the grammar gives it of every script
+-- without a fault, and the run rests on it.
 use Rattle.std.specs.Prelude.{ℕ, ◌+◌, ◌^◌, ◌<◌, ◌≤◌, IsTrue, List, [], ◌∷◌, length, Option, None, Some}
 use Rattle.dml_types.specs.declared.jobs.Job.{Job}
 use Rattle.dml_types.specs.declared.operations.Op.{Op}
@@ -25,7 +25,8 @@ IsCarriedBy (Some Dualcast) = Unit {0}
 abbrev pub IsCarried : Job → Type 0
 IsCarried job = IsCarriedBy (op_of job)
 
--- of a line after the first: its page is in the image, its bytes are present, and its range ends at or below 2^64
+-- of a line after the first: its page is in the image, its bytes are present, and its range ends at or below
+-- 2^64
 abbrev pub Fits : Session → Line → Type 0
 Fits session (line.Image pages) = ⊥
 Fits session (line.Page page bytes) = (page < length session.memory.present) × (length bytes ≤ page_size)
@@ -41,5 +42,6 @@ AllFit staging session (l ∷ lines) = Fits session l × AllFit staging (after_l
 abbrev pub IsRunnable : ℕ → List Line → Type 0
 IsRunnable staging [] = ⊥
 IsRunnable staging (line.Image pages ∷ lines) =
-    (1 ≤ pages) × (pages ≤ 4096) × (length lines < 2 ^ 32) × AllFit staging (after_line staging opening (line.Image pages)) lines
+    (1 ≤ pages) × (pages ≤ 4096) × (length lines < 2 ^ 32)
+    × AllFit staging (after_line staging opening (line.Image pages)) lines
 IsRunnable staging (other ∷ lines) = ⊥

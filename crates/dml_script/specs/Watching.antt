@@ -24,4 +24,12 @@ write_fails bytes (Err e) = true
 
 -- known bytes grow by a front of some bytes
 abbrev pub AppendsFront : Option (List ℕ) → Option (List ℕ) → List ℕ → Type 0
-AppendsFront old new bytes = (front : List ℕ) × (rest : List ℕ) × (bytes ≡ front ++ rest) × Appends old new front
+AppendsFront old new bytes =
+    (front : List ℕ) × (rest : List ℕ) × (bytes ≡ front ++ rest) × Appends old new front
+
+-- these bytes, or a front of them, were written to what is watched, which holds `contents`
+abbrev pub Writes : {W : Type 0} → (W → Option (List ℕ)) → Watched W → Watched W → List ℕ → Type 0
+Writes contents old new bytes = Appends (contents (inner_of old)) (contents (inner_of new)) bytes
+
+abbrev pub WritesFront : {W : Type 0} → (W → Option (List ℕ)) → Watched W → Watched W → List ℕ → Type 0
+WritesFront contents old new bytes = AppendsFront (contents (inner_of old)) (contents (inner_of new)) bytes

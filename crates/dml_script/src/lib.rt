@@ -18,8 +18,9 @@ pub use dml_grammar::{
 pub use items::{Item, Shown};
 pub use laws::law_of_answers;
 pub use running::{RunFault, run_script};
-pub use texts::{TextError, job_text, out_text};
+pub use texts::{TextError, job_text, out_text, push_byte};
 pub use watching::Watched;
+pub use writing::write_answer;
 
 #[cfg(test)]
 mod tests;

@@ -1,21 +1,20 @@
 //! The run of a script from a reader to a writer.
 
-ghost use Rattle.std.specs.Prelude.{◌≡◌, ◌≢◌, ◌+◌, ◌^◌, ◌<◌, ◌≤◌, false, true, length, Ok, Err, OnOk, OnErr, IsErrOf, IsOk, IfSome, vec_len};
-ghost use Rattle.std.specs.Io.KnownBytes.{Appends, IsAtEnd};
+ghost use Rattle.std.specs.Prelude.{◌≡◌, ◌≢◌, ◌+◌, ◌^◌, ◌<◌, ◌≤◌, false, true, length, Err, OnOk, OnErr, IsErrOf, IfSome};
+ghost use Rattle.std.specs.Io.KnownBytes.{IsAtEnd};
 ghost use Rattle.dml_types.specs.Limits.{IsValid};
-ghost use Rattle.dml_grammar.specs.Grammar.{parse};
-ghost use Rattle.dml_script.specs.Run.{answer, answer_from, longest_script, opening, text_if};
+ghost use Rattle.dml_script.specs.Run.{HasFault, IsScript, answer, answer_from, longest_script, opening, text_if};
 ghost use Rattle.dml_script.specs.Runnable.{AllFit, IsRunnable};
-ghost use Rattle.dml_script.specs.Watching.{inner_of, has_failed, is_flushed, AppendsFront};
+ghost use Rattle.dml_script.specs.Watching.{inner_of, has_failed, is_flushed, Writes, WritesFront};
 ghost use Rattle.dml_grammar.specs.declared.faults.ScriptFault.{ScriptFault as TheFault};
 ghost use Rattle.dml_script.specs.declared.running.RunFault.TheVariants as faults;
 
-use crate::input::{InputError, read_all};
+use crate::input::read_all;
 use crate::items::Item;
 use crate::sessions::Session;
 use crate::texts::out_text;
 use crate::watching::Watched;
-use crate::writing::write_all;
+use crate::writing::{AnswerError, flush, write_all};
 use dml_engine::{Engine, EngineError};
 use dml_grammar::{
     Line, MAX_SCRIPT, ScriptError, ScriptFault, ScriptLines, fault_text, read_script,
@@ -46,6 +45,45 @@ pub enum RunFault {
     Write,
 }
 
+impl From<AllocError> for RunFault {
+    ghost use Rattle.std.specs.Prelude.{◌≡◌};
+    ghost use Rattle.dml_script.specs.declared.running.RunFault.TheVariants.{NoMemory};
+
+    ghost from_gives = { λ _ fault. fault ≡ NoMemory };
+
+    fn from(_error: AllocError) -> RunFault {
+        RunFault::NoMemory
+    }
+}
+
+impl From<ScriptError> for RunFault {
+    ghost use Rattle.std.specs.Prelude.{◌≡◌};
+    ghost use Rattle.dml_script.specs.Run.{fault_of_script};
+
+    ghost from_gives = { λ error fault. fault ≡ fault_of_script error };
+
+    fn from(error: ScriptError) -> RunFault {
+        match error {
+            ScriptError::Fault(fault) => RunFault::Script(fault),
+            ScriptError::NoMemory => RunFault::NoMemory,
+        }
+    }
+}
+
+impl From<AnswerError> for RunFault {
+    ghost use Rattle.std.specs.Prelude.{◌≡◌};
+    ghost use Rattle.dml_script.specs.Run.{fault_of_answer};
+
+    ghost from_gives = { λ error fault. fault ≡ fault_of_answer error };
+
+    fn from(error: AnswerError) -> RunFault {
+        match error {
+            AnswerError::NoMemory => RunFault::NoMemory,
+            AnswerError::Write => RunFault::Write,
+        }
+    }
+}
+
 /// Reads a whole script, and then writes its answer and flushes the writer.
 ///
 /// Each line of the answer is one write, so a writer to the outside should be buffered.
@@ -61,8 +99,8 @@ pub fn run_script<R: Read, W: Write>(
 
     // The answer of the whole input is written, and nothing else.
     ensures answered { OnOk result (IfSome (R.remaining (inner_of reader.old)) (λ bytes.
-        Appends (W.contents (inner_of writer.old)) (W.contents (inner_of writer.new)) (answer bytes settings.staging))) }
-    ensures is_script { OnOk result (IfSome (R.remaining (inner_of reader.old)) (λ bytes. (length bytes ≤ longest_script) × IsOk (parse bytes))) }
+        Writes W.contents writer.old writer.new (answer bytes settings.staging))) }
+    ensures is_script { OnOk result (IfSome (R.remaining (inner_of reader.old)) IsScript) }
     ensures all_read { OnOk result (IsAtEnd (R.remaining (inner_of reader.new))) }
     ensures flushed { OnOk result (is_flushed writer.new ≡ true) }
 
@@ -73,72 +111,44 @@ pub fn run_script<R: Read, W: Write>(
     // Whatever the error, no more than a front of the answer is written; and nothing before the script is checked. A
     // script with a fault or over the limit has no answer.
     ensures front { OnErr result (IfSome (R.remaining (inner_of reader.old)) (λ bytes.
-        AppendsFront (W.contents (inner_of writer.old)) (W.contents (inner_of writer.new)) (answer bytes settings.staging))) }
+        WritesFront W.contents writer.old writer.new (answer bytes settings.staging))) }
     ensures script { (fault : TheFault) → IsErrOf result (faults.Script fault) → (writer.new ≡ writer.old)
-        × IfSome (R.remaining (inner_of reader.old)) (λ bytes. (length bytes ≤ longest_script) × (parse bytes ≡ Err fault)) }
+        × IfSome (R.remaining (inner_of reader.old)) (λ bytes. HasFault bytes fault) }
     ensures too_long { IsErrOf result faults.TooLong → (writer.new ≡ writer.old)
         × IfSome (R.remaining (inner_of reader.old)) (λ bytes. longest_script < length bytes) }
     ensures read { IsErrOf result faults.Read → (writer.new ≡ writer.old) × (has_failed reader.new ≡ true) }
     ensures write { IsErrOf result faults.Write → (has_failed writer.new ≡ true)
-        × IfSome (R.remaining (inner_of reader.old)) (λ bytes. (length bytes ≤ longest_script) × IsOk (parse bytes)) }
+        × IfSome (R.remaining (inner_of reader.old)) IsScript }
 {
-    match read_all(alloc, reader) {
-        Ok(bytes) => answer_input(alloc, bytes, writer, settings),
-        Err(InputError::Read) => Err(RunFault::Read),
-        Err(InputError::TooLong) => Err(RunFault::TooLong),
-        Err(InputError::NoMemory) => Err(RunFault::NoMemory),
-    }
+    let bytes = read_all(alloc, reader)?;
+    answer_input(alloc, bytes.as_slice(), writer, settings)
 }
 
 /// Checks a whole script and writes its answer.
+#[tactic(auto, using(crate::proofs::FitLemmas::runnable, crate::proofs::RunLemmas::answer_is, crate::proofs::RunLemmas::front_of_answer))]
 fn answer_input<W: Write>(
     alloc: Global,
-    bytes: Vec<u8>,
+    bytes: &[u8],
     writer: &mut Watched<W>,
     settings: Settings,
 ) -> Result<(), RunFault>
     requires valid { IsValid settings }
-    requires within { vec_len bytes ≤ MAX_SCRIPT }
+    requires within { length bytes.now ≤ MAX_SCRIPT }
     requires writer { has_failed writer.old ≡ false }
-    ensures answered { OnOk result (Appends (W.contents (inner_of writer.old)) (W.contents (inner_of writer.new)) (answer bytes.items settings.staging)) }
-    ensures is_script { OnOk result (IsOk (parse bytes.items)) }
+    ensures answered { OnOk result (Writes W.contents writer.old writer.new (answer bytes.now settings.staging)) }
+    ensures is_script { OnOk result (IsScript bytes.now) }
     ensures passed { result ≢ Err faults.Write → has_failed writer.new ≡ false }
     ensures flushed { OnOk result (is_flushed writer.new ≡ true) }
-    ensures front { OnErr result (AppendsFront (W.contents (inner_of writer.old)) (W.contents (inner_of writer.new)) (answer bytes.items settings.staging)) }
+    ensures front { OnErr result (WritesFront W.contents writer.old writer.new (answer bytes.now settings.staging)) }
     ensures script { (fault : TheFault) → IsErrOf result (faults.Script fault)
-        → (writer.new ≡ writer.old) × (parse bytes.items ≡ Err fault) }
-    ensures write { IsErrOf result faults.Write → (has_failed writer.new ≡ true) × IsOk (parse bytes.items) }
+        → (writer.new ≡ writer.old) × HasFault bytes.now fault }
+    ensures write { IsErrOf result faults.Write → (has_failed writer.new ≡ true) × IsScript bytes.now }
     ensures no_read { result ≢ Err faults.Read }
     ensures no_length { result ≢ Err faults.TooLong }
 {
-    let script = match read_script(alloc, &bytes) {
-        Ok(script) => script,
-        Err(ScriptError::Fault(fault)) => return Err(RunFault::Script(fault)),
-        Err(ScriptError::NoMemory) => return Err(RunFault::NoMemory),
-    };
-    match answer_script(alloc, script.lines(alloc), writer, settings) {
-        Ok(()) => Ok(()),
-        Err(AnswerError::NoMemory) => Err(RunFault::NoMemory),
-        Err(AnswerError::Write) => Err(RunFault::Write),
-    }
-}
-
-/// Why an answer was not written to its end.
-#[derive(Clone, Copy, PartialEq, Eq, Debug)]
-enum AnswerError {
-    NoMemory,
-    Write,
-}
-
-impl From<AllocError> for AnswerError {
-    ghost use Rattle.std.specs.Prelude.{◌≡◌};
-    ghost use Rattle.dml_script.specs.declared.running.AnswerError.TheVariants.{NoMemory};
-
-    ghost from_gives = { λ _ e. e ≡ NoMemory };
-
-    fn from(_error: AllocError) -> AnswerError {
-        AnswerError::NoMemory
-    }
+    let script = read_script(alloc, bytes)?;
+    answer_script(alloc, script.lines(alloc), writer, settings)?;
+    Ok(())
 }
 
 /// Writes the answer of a script's lines, and flushes the writer.
@@ -151,11 +161,10 @@ fn answer_script<W: Write>(
     requires valid { IsValid settings }
     requires runnable { IsRunnable settings.staging lines }
     requires writer { has_failed writer.old ≡ false }
-    ensures ok { OnOk result (Appends (W.contents (inner_of writer.old)) (W.contents (inner_of writer.new))
-        (answer_from settings.staging opening lines.entry)) }
+    ensures ok { OnOk result (Writes W.contents writer.old writer.new (answer_from settings.staging opening lines.entry)) }
     ensures passed { result ≢ Err AnswerError.Write → has_failed writer.new ≡ false }
     ensures flushed { OnOk result (is_flushed writer.new ≡ true) }
-    ensures front { OnErr result (AppendsFront (W.contents (inner_of writer.old)) (W.contents (inner_of writer.new))
+    ensures front { OnErr result (WritesFront W.contents writer.old writer.new
         (answer_from settings.staging opening lines.entry)) }
     ensures failed { IsErrOf result AnswerError.Write → has_failed writer.new ≡ true }
 {
@@ -183,22 +192,19 @@ fn answer_lines<W: Write>(
     requires fits { AllFit session.staging session.session lines }
     requires counted { session.session.jobs + length lines < 2 ^ 32 }
     requires writer { has_failed writer.old ≡ false }
-    ensures ok { OnOk result (Appends (W.contents (inner_of writer.old)) (W.contents (inner_of writer.new))
-        (answer_from session.staging session.session lines.entry)) }
+    ensures ok { OnOk result (Writes W.contents writer.old writer.new
+        (answer_from session.entry.staging session.entry.session lines.entry)) }
     ensures passed { result ≢ Err AnswerError.Write → has_failed writer.new ≡ false }
     ensures flushed { OnOk result (is_flushed writer.new ≡ true) }
-    ensures front { OnErr result (AppendsFront (W.contents (inner_of writer.old)) (W.contents (inner_of writer.new))
-        (answer_from session.staging session.session lines.entry)) }
+    ensures front { OnErr result (WritesFront W.contents writer.old writer.new
+        (answer_from session.entry.staging session.entry.session lines.entry)) }
     ensures failed { IsErrOf result AnswerError.Write → has_failed writer.new ≡ true }
 {
     while let Some(line) = lines.next_line(alloc)? {
         let item = session.take(alloc, &line)?;
         write_item(alloc, item, writer)?;
     }
-    if writer.flush().is_err() {
-        return Err(AnswerError::Write);
-    }
-    Ok(())
+    flush(writer)
 }
 
 /// Writes the text of an item, if there is one.
@@ -208,19 +214,14 @@ fn write_item<W: Write>(
     writer: &mut Watched<W>,
 ) -> Result<(), AnswerError>
     requires writer { has_failed writer.old ≡ false }
-    ensures ok { OnOk result (Appends (W.contents (inner_of writer.old)) (W.contents (inner_of writer.new)) (text_if item)) }
+    ensures ok { OnOk result (Writes W.contents writer.old writer.new (text_if item)) }
     ensures passed { result ≢ Err AnswerError.Write → has_failed writer.new ≡ false }
-    ensures front { OnErr result (AppendsFront (W.contents (inner_of writer.old)) (W.contents (inner_of writer.new)) (text_if item)) }
+    ensures front { OnErr result (WritesFront W.contents writer.old writer.new (text_if item)) }
     ensures failed { IsErrOf result AnswerError.Write → has_failed writer.new ≡ true }
 {
     let Some(item) = item else {
         return Ok(());
     };
-    let Ok(text) = out_text(alloc, &item) else {
-        return Err(AnswerError::NoMemory);
-    };
-    if write_all(writer, text.as_bytes()).is_err() {
-        return Err(AnswerError::Write);
-    }
-    Ok(())
+    let text = out_text(alloc, &item)?;
+    write_all(writer, text.as_bytes())
 }

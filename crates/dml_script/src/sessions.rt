@@ -1,9 +1,8 @@
 //! A script's lines carried out on an engine, one after another.
 
-ghost use Rattle.std.specs.Prelude.{◌≡◌, ◌+◌, ◌-◌, ◌%◌, ◌^◌, ◌<◌, ◌≤◌, ◌++◌, true, false, length, map, None, Some, IfOk, OnOk, OnErr};
-ghost use Rattle.dml_types.specs.Memory.{has};
+ghost use Rattle.std.specs.Prelude.{◌≡◌, ◌+◌, ◌-◌, ◌%◌, ◌^◌, ◌<◌, ◌≤◌, ◌++◌, length, map, replicate, None, Some, IfOk, OnOk, OnErr};
 ghost use Rattle.dml_image.specs.Brought.{brought};
-ghost use Rattle.dml_script.specs.Run.{after_line, item_of, page_of, shown_bytes};
+ghost use Rattle.dml_script.specs.Run.{IsInPage, after_line, item_of, page_of, shown_bytes};
 ghost use Rattle.dml_script.specs.Runnable.{Fits};
 
 use crate::items::{Item, Shown};
@@ -32,8 +31,8 @@ impl Model for Session {
 
 impl Session {
     pub fn new(engine: Engine) -> Session
-        ensures session { result.session ≡ record { memory = engine.image; jobs = 0 } }
-        ensures staging { result.staging ≡ engine.settings.staging }
+        ensures session { result.session ≡ record { memory = engine.entry.image; jobs = 0 } }
+        ensures staging { result.staging ≡ engine.entry.settings.staging }
     {
         Session { engine, jobs: 0 }
     }
@@ -97,47 +96,46 @@ fn shown(alloc: Global, image: &Image, addr: u64, len: usize) -> Result<Shown, A
     let mut list = Vec::with_capacity(alloc, len)?;
     let mut done = 0;
     while done < len {
-        let at = addr + done as u64;
-        let part = (len - done).min(PAGE_SIZE - at as usize % PAGE_SIZE);
-        push_part(&mut list, image, at, part)?;
-        done += part;
+        let (at, count) = next_part(addr, len, done);
+        push_part(&mut list, image, at, count)?;
+        done += count;
     }
     Ok(Shown { list })
 }
 
+/// The part of a range behind its first `done` bytes that is in one page: where it begins, and its length.
+fn next_part(addr: u64, len: usize, done: usize) -> (u64, usize)
+    requires inside { addr + len ≤ 2 ^ 64 }
+    requires left { done < len }
+    ensures place { result.0 ≡ addr + done }
+    ensures in_page { IsInPage result.0 result.1 }
+    ensures some { 0 < result.1 }
+    ensures within { done + result.1 ≤ len }
+{
+    let at = addr + done as u64;
+    (at, (len - done).min(PAGE_SIZE - at as usize % PAGE_SIZE))
+}
+
 /// Adds what a range in one page shows.
+#[tactic(auto, using(crate::proofs::SessionLemmas::present_shown, crate::proofs::SessionLemmas::absent_shown))]
 fn push_part(
     list: &mut Vec<Option<u8>>,
     image: &Image,
     addr: u64,
     len: usize,
 ) -> Result<(), AllocError>
-    requires { addr % PAGE_SIZE + len ≤ PAGE_SIZE }
+    requires { IsInPage addr len }
     ensures { OnOk result (list.new.items ≡ list.old.items ++ shown_bytes image.now addr len) }
 {
     if image.has(addr) {
-        push_present(list, image, addr, len)
+        push_present(list, image.part(addr, len as u32))
     } else {
-        push_absent(list, image, addr, len)
+        push_absent(list, len)
     }
 }
 
-/// Adds the bytes of a range in one page, which is present.
-fn push_present(
-    list: &mut Vec<Option<u8>>,
-    image: &Image,
-    addr: u64,
-    len: usize,
-) -> Result<(), AllocError>
-    requires within { addr % PAGE_SIZE + len ≤ PAGE_SIZE }
-    requires present { has image.now addr ≡ true }
-    ensures { OnOk result (list.new.items ≡ list.old.items ++ shown_bytes image.now addr len) }
-{
-    push_bytes(list, image.part(addr, len as u32))
-}
-
-/// Adds bytes.
-fn push_bytes(list: &mut Vec<Option<u8>>, bytes: &[u8]) -> Result<(), AllocError>
+/// Adds present bytes.
+fn push_present(list: &mut Vec<Option<u8>>, bytes: &[u8]) -> Result<(), AllocError>
     ensures { OnOk result (list.new.items ≡ list.old.items ++ map (λ byte. Some byte) bytes.now) }
 {
     for byte in bytes {
@@ -146,18 +144,11 @@ fn push_bytes(list: &mut Vec<Option<u8>>, bytes: &[u8]) -> Result<(), AllocError
     Ok(())
 }
 
-/// Adds None for each address of a range in one page, which is absent.
-fn push_absent(
-    list: &mut Vec<Option<u8>>,
-    image: &Image,
-    addr: u64,
-    len: usize,
-) -> Result<(), AllocError>
-    requires within { addr % PAGE_SIZE + len ≤ PAGE_SIZE }
-    requires absent { has image.now addr ≡ false }
-    ensures { OnOk result (list.new.items ≡ list.old.items ++ shown_bytes image.now addr len) }
+/// Adds None for so many absent bytes.
+fn push_absent(list: &mut Vec<Option<u8>>, count: usize) -> Result<(), AllocError>
+    ensures { OnOk result (list.new.items ≡ list.old.items ++ replicate count None) }
 {
-    for _ in 0..len {
+    for _ in 0..count {
         list.push(None)?;
     }
     Ok(())

@@ -562,6 +562,16 @@ fn fields_of_jobs(rt: HostRuntime) -> Result<(), Fail> {
 }
 
 #[test]
+fn bytes_in_hexadecimal(rt: HostRuntime) -> Result<(), Fail> {
+    let mut text = String::new(rt.alloc());
+    for byte in [0x00, 0x0a, 0x7d, 0xf0, 0xff] {
+        push_byte(&mut text, byte)?;
+    }
+    assert_eq!(rt; text.as_str(), "000a7df0ff");
+    Ok(())
+}
+
+#[test]
 fn error_texts(rt: HostRuntime) -> Result<(), Fail> {
     let fault = ScriptFault {
         line: 7,
@@ -588,14 +598,26 @@ fn error_texts(rt: HostRuntime) -> Result<(), Fail> {
 // The tests below hold whichever growth is refused: the answer is the right one, or want of memory with what that
 // leaves.
 
+/// What the shown bytes of the test below are.
+fn three_bytes(alloc: Global) -> Result<Vec<Option<u8>>, AllocError> {
+    let mut list = Vec::new(alloc);
+    for byte in [Some(0x5a), None, Some(0xc3)] {
+        list.push(byte)?;
+    }
+    Ok(list)
+}
+
+#[test]
+fn set_up_of_out_text(rt: HostRuntime) -> Result<(), Fail> {
+    let _list = three_bytes(rt.alloc())?;
+    Ok(())
+}
+
 #[test]
 fn refused_out_text(rt: HostRuntime) {
-    let mut list = Vec::new(rt.alloc());
-    for byte in [Some(0x5a), None, Some(0xc3)] {
-        if list.push(byte).is_err() {
-            return;
-        }
-    }
+    let Ok(list) = three_bytes(rt.alloc()) else {
+        return;
+    };
     match out_text(
         rt.alloc(),
         &Item::Show {

@@ -88,16 +88,23 @@ fn push_shown(text: &mut String, shown: &[Option<u8>]) -> Result<(), AllocError>
     ensures { OnOk result (string_bytes text.new ≡ string_bytes text.old ++ flat_map shown_text shown.now) }
 {
     for byte in shown {
-        match *byte {
-            Some(byte) => push_byte(text, byte)?,
-            None => text.push_str("--")?,
-        }
+        push_shown_byte(text, *byte)?;
     }
     Ok(())
 }
 
-/// Adds two lower-case hexadecimal digits.
-fn push_byte(text: &mut String, byte: u8) -> Result<(), AllocError>
+/// Adds two hexadecimal digits, or two dashes for an absent byte.
+fn push_shown_byte(text: &mut String, byte: Option<u8>) -> Result<(), AllocError>
+    ensures { OnOk result (string_bytes text.new ≡ string_bytes text.old ++ shown_text byte) }
+{
+    match byte {
+        Some(byte) => push_byte(text, byte),
+        None => text.push_str("--"),
+    }
+}
+
+/// Adds a byte as two lower-case hexadecimal digits.
+pub fn push_byte(text: &mut String, byte: u8) -> Result<(), AllocError>
     ensures { OnOk result (string_bytes text.new ≡ string_bytes text.old ++ byte_text byte) }
 {
     text.push(glyph(byte / 16))?;

@@ -1,30 +1,107 @@
 //! Writing all of some bytes.
 
-ghost use Rattle.std.specs.Prelude.{◌≡◌, false, true, OnOk, OnErr};
-ghost use Rattle.std.specs.Io.KnownBytes.{Appends};
-ghost use Rattle.dml_script.specs.Watching.{inner_of, has_failed, AppendsFront};
+ghost use Rattle.std.specs.Prelude.{◌≡◌, ◌≢◌, ◌<◌, ◌≤◌, [], false, true, length, take, Err, IfErr, IfOk, OnOk, OnErr};
+ghost use Rattle.std.specs.Io.KnownBytes.{Keeps};
+ghost use Rattle.dml_script.specs.Watching.{inner_of, has_failed, is_flushed, Writes, WritesFront};
 
+use crate::running::RunFault;
+use crate::texts::TextError;
 use crate::watching::Watched;
+use std::alloc::AllocError;
 use std::io::Write;
 
-/// A call of a writer failed, or took no byte.
+/// Why an answer was not written to its end.
 #[derive(Clone, Copy, PartialEq, Eq, Debug)]
-pub struct WriteFailed;
+pub enum AnswerError {
+    NoMemory,
+    /// A call of the writer failed, or took no byte.
+    Write,
+}
 
-/// Writes all bytes.
-pub fn write_all<W: Write>(writer: &mut Watched<W>, bytes: &[u8]) -> Result<(), WriteFailed>
+impl From<AllocError> for AnswerError {
+    ghost use Rattle.std.specs.Prelude.{◌≡◌};
+    ghost use Rattle.dml_script.specs.declared.writing.AnswerError.TheVariants.{NoMemory};
+
+    ghost from_gives = { λ _ e. e ≡ NoMemory };
+
+    fn from(_error: AllocError) -> AnswerError {
+        AnswerError::NoMemory
+    }
+}
+
+impl From<TextError> for AnswerError {
+    ghost use Rattle.std.specs.Prelude.{◌≡◌};
+    ghost use Rattle.dml_script.specs.declared.writing.AnswerError.TheVariants.{NoMemory};
+
+    ghost from_gives = { λ _ e. e ≡ NoMemory };
+
+    fn from(_error: TextError) -> AnswerError {
+        AnswerError::NoMemory
+    }
+}
+
+/// Writes all of some bytes, and flushes the writer.
+///
+/// # Errors
+/// `Write` where a call of the writer failed, or took no byte; a front of the bytes is written then.
+pub fn write_answer<W: Write>(writer: &mut Watched<W>, bytes: &[u8]) -> Result<(), RunFault>
     requires { has_failed writer.old ≡ false }
-    ensures ok { OnOk result (Appends (W.contents (inner_of writer.old)) (W.contents (inner_of writer.new)) bytes.now) }
+    ensures written { OnOk result (Writes W.contents writer.old writer.new bytes.now) }
+    ensures flushed { OnOk result (is_flushed writer.new ≡ true) }
+    ensures front { OnErr result (WritesFront W.contents writer.old writer.new bytes.now) }
+    ensures write { IfErr result (λ fault. fault ≡ RunFault.Write) }
     ensures passed { OnOk result (has_failed writer.new ≡ false) }
-    ensures front { OnErr result (AppendsFront (W.contents (inner_of writer.old)) (W.contents (inner_of writer.new)) bytes.now) }
     ensures failed { OnErr result (has_failed writer.new ≡ true) }
 {
-    let mut done = 0;
-    while done < bytes.len() {
-        match writer.write(bytes.split_at(done).1) {
-            Ok(0) | Err(_) => return Err(WriteFailed),
-            Ok(count) => done += count,
-        }
+    if write_all(writer, bytes).is_err() || flush(writer).is_err() {
+        return Err(RunFault::Write);
     }
     Ok(())
+}
+
+/// Writes all bytes. The one error is `Write`.
+pub fn write_all<W: Write>(writer: &mut Watched<W>, bytes: &[u8]) -> Result<(), AnswerError>
+    requires { has_failed writer.old ≡ false }
+    ensures ok { OnOk result (Writes W.contents writer.old writer.new bytes.now) }
+    ensures passed { result ≢ Err AnswerError.Write → has_failed writer.new ≡ false }
+    ensures front { OnErr result (WritesFront W.contents writer.old writer.new bytes.now) }
+    ensures failed { OnErr result (has_failed writer.new ≡ true) }
+{
+    let mut left = bytes;
+    while !left.is_empty() {
+        let count = write_some(writer, left)?;
+        left = left.split_at(count).1;
+    }
+    Ok(())
+}
+
+/// Writes a front of some bytes, and answers how many it wrote. The one error is `Write`.
+fn write_some<W: Write>(writer: &mut Watched<W>, bytes: &[u8]) -> Result<usize, AnswerError>
+    requires some { 0 < length bytes.now }
+    requires writer { has_failed writer.old ≡ false }
+    ensures wrote { IfOk result (λ count. Writes W.contents writer.old writer.new (take count bytes.now)) }
+    ensures some { IfOk result (λ count. 0 < count) }
+    ensures within { IfOk result (λ count. count ≤ length bytes.now) }
+    ensures passed { result ≢ Err AnswerError.Write → has_failed writer.new ≡ false }
+    ensures none { OnErr result (Writes W.contents writer.old writer.new []) }
+    ensures failed { OnErr result (has_failed writer.new ≡ true) }
+{
+    match writer.write(bytes) {
+        Ok(0) | Err(_) => Err(AnswerError::Write),
+        Ok(count) => Ok(count),
+    }
+}
+
+/// Flushes a writer. The one error is `Write`.
+pub fn flush<W: Write>(writer: &mut Watched<W>) -> Result<(), AnswerError>
+    requires { has_failed writer.old ≡ false }
+    ensures same { Keeps (W.contents (inner_of writer.old)) (W.contents (inner_of writer.new)) }
+    ensures flushed { OnOk result (is_flushed writer.new ≡ true) }
+    ensures passed { result ≢ Err AnswerError.Write → has_failed writer.new ≡ false }
+    ensures failed { OnErr result (has_failed writer.new ≡ true) }
+{
+    match writer.flush() {
+        Ok(()) => Ok(()),
+        Err(_) => Err(AnswerError::Write),
+    }
 }

@@ -7,7 +7,8 @@ use Rattle.clap.specs.declared.error.kind.ErrorKind.{ErrorKind}
 use Rattle.clap.specs.declared.error.kind.ErrorKind.TheVariants as kind
 use Rattle.std.specs.declared.io.ErrorKind.{ErrorKind as ReadErrorKind}
 use Rattle.std.specs.declared.io.ErrorKind.TheVariants as io
-use Rattle.dml_script.specs.Faults.{text_of}
+use Rattle.dml_grammar.specs.Faults.{text_of}
+use Rattle.dml_grammar.specs.declared.faults.ScriptFault.{ScriptFault}
 use Rattle.dml_script.specs.declared.running.RunFault.{RunFault}
 use Rattle.dml_script.specs.declared.running.RunFault.TheVariants as run
 use Rattle.dmljob.specs.declared.refusals.Refusal.{Refusal}
@@ -83,6 +84,11 @@ refusal_of_run run.Write = refusal.Write
 -- what a run is refused by, once its settings are judged
 abbrev pub IsOfRun : Refusal → Type 0
 IsOfRun refused = (fault : RunFault) × (refused ≡ refusal_of_run fault)
+
+-- what holds of the script's fault, where it is for that that there is no answer
+abbrev pub IfScript : Result Unit Refusal → (ScriptFault → Type 0) → Type 0
+IfScript (Err (refusal.Script fault)) P = P fault
+IfScript _ P = Unit {0}
 
 -- what a description is refused by, once its digits are judged
 abbrev pub IsOfDescription : Refusal → Type 0

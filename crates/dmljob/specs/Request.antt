@@ -6,7 +6,7 @@ use Rattle.hex.specs.Hex.{decode_of, is_hex_digit}
 use Rattle.dml_types.specs.Limits.{IsValid}
 use Rattle.clap.specs.declared.error.Error.{Error}
 use Rattle.dmljob.specs.Line.{IsLine, dmljob}
-use Rattle.dmljob.specs.Refusal.{refusal_of}
+use Rattle.dmljob.specs.Refusal.{IsOfDescription, IsOfRun, refusal_of}
 use Rattle.dmljob.specs.declared.refusals.Refusal.{Refusal}
 use Rattle.dmljob.specs.declared.refusals.Refusal.TheVariants as refusal
 use Rattle.dmljob.specs.declared.requests.Request.{Request}
@@ -54,10 +54,15 @@ Asks faults command (Err refusal.NoMemory) = Unit {0}
 Asks faults command (Err _) = ⊥
 
 -- what these words ask for, the first being the program's name
-abbrev pub AsksBy : List Text → Result Request Refusal → Type 0
-AsksBy words asked = Asks (fault_of dmljob words) (subcommand_of dmljob words) asked
+abbrev pub WordsAsk : List Text → Result Request Refusal → Type 0
+WordsAsk words asked = Asks (fault_of dmljob words) (subcommand_of dmljob words) asked
 
 -- what runs has settings in their range
 abbrev pub HasValidSettings : Request → Type 0
 HasValidSettings (request.Run settings) = IsValid settings
 HasValidSettings (request.Decode bytes) = Unit {0}
+
+-- what a request is refused by, once it is judged
+abbrev pub IsOfRequest : Request → Refusal → Type 0
+IsOfRequest (request.Run settings) refused = IsOfRun refused
+IsOfRequest (request.Decode bytes) refused = IsOfDescription refused

@@ -2,11 +2,10 @@
 ghost use Rattle.std.specs.Prelude.{◌≡◌, IfOk, OnOk, string_bytes, ◌++◌};
 ghost use Rattle.dmljob.specs.Description.{accepted_line, description_of, refused_line};
 ghost use Rattle.dmljob.specs.Description.{verdict_line};
-ghost use Rattle.dml_script.specs.Output.{byte_text};
 ghost use Rattle.dml_types.specs.Refusal.{refusal};
 
 use dml_desc::{check, decode, need};
-use dml_script::{TextError, job_text};
+use dml_script::{TextError, job_text, push_byte};
 use dml_types::{Job, Status};
 use std::alloc::{AllocError, Global};
 use std::fmt::Write;
@@ -17,14 +16,6 @@ fn push_accepted(text: &mut String, need: u64) -> Result<(), AllocError>
     ensures { OnOk result (string_bytes text.new ≡ string_bytes text.old ++ accepted_line need) }
 {
     write!(text, "check accepted need {need}\n")
-}
-
-// Two lower-case hexadecimal digits.
-#[tactic(auto, using(std::proofs::lemmas::Fmt::hex_byte))]
-fn push_byte(text: &mut String, byte: u8) -> Result<(), AllocError>
-    ensures { OnOk result (string_bytes text.new ≡ string_bytes text.old ++ byte_text byte) }
-{
-    write!(text, "{byte:02x}")
 }
 
 fn push_refused(text: &mut String, status: Status) -> Result<(), AllocError>

@@ -14,11 +14,17 @@ and type:
 Exit status: 0 done, 2 the script has a fault, 3 the command line is refused, 4 out of memory, or \
 the script cannot be read or the answer cannot be written.";
 
-pub const RUN: &str = "Carry out the script on the standard input, and print each job's record";
+pub const RUN: &str =
+    "Carry out the script on the standard input, and print what its jobs answer and \
+its lines show";
 
-pub const WORKERS: &str = "How many workers carry out jobs, 1 to 16";
+pub const WORKERS: &str =
+    "How many workers are to share the jobs, 1 to 16; so far one thread carries out \
+all of them";
 
-pub const CHUNK: &str = "How many bytes one task covers, a multiple of 8 from 8 to 1048576";
+pub const CHUNK: &str =
+    "How many bytes one task is to cover, a multiple of 8 from 8 to 1048576; so far \
+each job is one task";
 
 pub const ARENA: &str = "How many bytes the staging arena has, 0 to 16777216";
 
@@ -30,7 +36,7 @@ pub const SCRIPT: &str = "The lines of a script; numbers are decimal, or hexadec
   move SRC DST N           a job that moves N bytes; the ranges may overlap
   fill PATTERN DST N       a job that fills N bytes from DST on with an 8-byte pattern
   dualcast SRC DST DST2 N  a job that copies N bytes to two places
-  raw HEX                  the job of a descriptor of 64 bytes
+  raw HEX                  the job of a descriptor of 64 bytes, not yet a compare or delta
   show ADDR LEN            show LEN bytes from ADDR on, as -- where they are absent
 A line of noop, move, fill or dualcast may end with: flags F. A line that begins with # is a
 comment.
@@ -38,7 +44,9 @@ comment.
 For example, with the script in the file first.script:
   dmljob run --workers 2 < first.script";
 
-pub const DECODE: &str = "Show the fields of a descriptor, and whether its job is accepted";
+pub const DECODE: &str =
+    "Show the fields of a descriptor, and whether its job is accepted with the \
+default arena";
 
 pub const HEX: &str = "The 64 bytes of the descriptor, as 128 hexadecimal digits in either case";
 

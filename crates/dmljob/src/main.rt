@@ -4,19 +4,20 @@
 ghost use Rattle.std.specs.Prelude.{IfErr};
 ghost use Rattle.std.specs.Process.{exit_status};
 ghost use Rattle.dml_types.specs.Limits.{IsValid};
-ghost use Rattle.dmljob.specs.Refusal.{EndsWith, IsOfDescription, IsOfRun, IsShown};
+ghost use Rattle.dmljob.specs.Refusal.{EndsWith, IsShown};
+ghost use Rattle.dmljob.specs.Request.{HasValidSettings, IsOfRequest};
 
+mod answers;
 mod descriptions;
 mod help;
 mod refusals;
 mod requests;
 mod words;
 
-use descriptions::description;
-use dml_script::{Watched, run_script};
-use dml_types::Settings;
+use answers::answer_request;
+use dml_script::Watched;
 use refusals::{Refusal, status_of};
-use requests::{Request, asked_of};
+use requests::{Request, read_request};
 use std::io::BufWriter;
 use std::process::ExitCode;
 use std::{env, io};
@@ -27,25 +28,18 @@ fn arguments_in(rt: &HostRuntime) -> io::Result<Vec<String>> {
     Ok(arguments)
 }
 
-fn carried_out(rt: &HostRuntime, settings: Settings) -> Result<(), Refusal>
-    requires { IsValid settings }
-    ensures { IfErr result IsOfRun }
+// Answers a request on the standard input and output: no contract can see those, so what is written is promised by
+// `answer_request` alone.
+fn answered(rt: &HostRuntime, request: Request) -> Result<(), Refusal>
+    requires { HasValidSettings request }
+    ensures { IfErr result (IsOfRequest request) }
 {
     let alloc = rt.alloc();
     let Ok(output) = BufWriter::new(alloc, io::writer(rt)) else {
         return Err(Refusal::NoMemory);
     };
-    let mut reader = Watched::new(rt.reader());
-    let mut writer = Watched::new(output);
-    run_script(alloc, &mut reader, &mut writer, settings)?;
-    Ok(())
-}
-
-fn described(rt: &HostRuntime, bytes: &[u8; 64]) -> Result<(), Refusal>
-    ensures { IfErr result IsOfDescription }
-{
-    let text = description(rt.alloc(), bytes)?;
-    rt.print(&text).map_err(|_| Refusal::Write)
+    let (mut reader, mut writer) = (Watched::new(rt.reader()), Watched::new(output));
+    answer_request(alloc, &mut reader, &mut writer, request)
 }
 
 // Help goes to the standard output, which may fail.
@@ -73,9 +67,8 @@ fn ended(rt: &HostRuntime, answer: Result<(), Refusal>) -> ExitCode
 }
 
 fn main(rt: HostRuntime) -> ExitCode {
-    let answer = match asked_of(rt.alloc(), arguments_in(&rt)) {
-        Ok(Request::Run(settings)) => carried_out(&rt, settings),
-        Ok(Request::Decode(bytes)) => described(&rt, &bytes),
+    let answer = match read_request(rt.alloc(), arguments_in(&rt)) {
+        Ok(request) => answered(&rt, request),
         Err(refusal) => Err(refusal),
     };
     ended(&rt, answer)

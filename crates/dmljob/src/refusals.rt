@@ -1,12 +1,12 @@
 //! How the program ends without an answer.
 ghost use Rattle.std.specs.Prelude.{◌≡◌};
-ghost use Rattle.dmljob.specs.Refusal.{refusal_of, refusal_of_run, status_in, text_in};
+ghost use Rattle.dmljob.specs.Refusal.{refusal_of, status_in, text_in};
 ghost use Rattle.dmljob.specs.Refusal.{unread_refusal};
 ghost use Rattle.dmljob.specs.declared.refusals.Refusal.TheVariants.{NoMemory};
 ghost use Rattle.std.specs.IoError.{error_kind};
 
 use clap::error::ErrorKind;
-use dml_script::{RunFault, ScriptFault, fault_text};
+use dml_script::{ScriptFault, fault_text};
 use std::alloc::{AllocError, AllocFailed};
 use std::{fmt, io};
 
@@ -78,20 +78,6 @@ impl From<clap::Error> for Refusal {
             ErrorKind::OutOfMemory => Refusal::NoMemory,
             ErrorKind::DisplayHelp | ErrorKind::DisplayVersion => Refusal::Help(error),
             _ => Refusal::Words(error),
-        }
-    }
-}
-
-impl From<RunFault> for Refusal {
-    ghost from_gives = { λ fault refusal. refusal ≡ refusal_of_run fault };
-
-    fn from(fault: RunFault) -> Refusal {
-        match fault {
-            RunFault::Read => Refusal::Read,
-            RunFault::TooLong => Refusal::TooLong,
-            RunFault::Script(fault) => Refusal::Script(fault),
-            RunFault::NoMemory => Refusal::NoMemory,
-            RunFault::Write => Refusal::Write,
         }
     }
 }

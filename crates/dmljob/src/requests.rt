@@ -2,7 +2,7 @@
 ghost use Rattle.std.specs.Prelude.{◌≡◌, Err, IfErr, IfOk, map, string_bytes};
 ghost use Rattle.std.specs.IoError.{error_kind};
 ghost use Rattle.dmljob.specs.Refusal.{unread_refusal};
-ghost use Rattle.dmljob.specs.Request.{AsksBy, ComesTo, HasValidSettings, Judges};
+ghost use Rattle.dmljob.specs.Request.{WordsAsk, ComesTo, HasValidSettings, Judges};
 
 use crate::refusals::{Refusal, refusal_of_words};
 use crate::words::{Line, command_of};
@@ -45,31 +45,31 @@ fn judged(answer: Result<Line<'_>, clap::Error>) -> Result<Request, Refusal>
 
 /// What the words of a command line ask for; the first is the program's name. The words are judged
 /// first, and then the settings or the descriptor's digits.
-pub fn asked_by<'a>(alloc: Global, words: &'a [&'a str]) -> Result<Request, Refusal>
-    ensures judged { AsksBy (map (λ word. word.now) words.entry.now) result }
+pub fn parse_words<'a>(alloc: Global, words: &'a [&'a str]) -> Result<Request, Refusal>
+    ensures judged { WordsAsk (map (λ word. word.now) words.entry.now) result }
     ensures valid { IfOk result HasValidSettings }
 {
     judged(command_of(alloc, words))
 }
 
 /// What the arguments of the program ask for.
-pub fn asked_in(alloc: Global, arguments: &[String]) -> Result<Request, Refusal>
-    ensures judged { AsksBy (map string_bytes arguments.now) result }
+pub fn parse_arguments(alloc: Global, arguments: &[String]) -> Result<Request, Refusal>
+    ensures judged { WordsAsk (map string_bytes arguments.now) result }
     ensures valid { IfOk result HasValidSettings }
 {
     let mut words = Vec::with_capacity(alloc, arguments.len())?;
     for argument in arguments {
         words.push(argument.as_str())?;
     }
-    asked_by(alloc, words.as_slice())
+    parse_words(alloc, words.as_slice())
 }
 
 /// What the arguments of the program ask for, where they could be read.
-pub fn asked_of(alloc: Global, arguments: io::Result<Vec<String>>) -> Result<Request, Refusal>
+pub fn read_request(alloc: Global, arguments: io::Result<Vec<String>>) -> Result<Request, Refusal>
     ensures unread { IfErr arguments (λ error. result ≡ Err (unread_refusal (error_kind error))) }
-    ensures judged { IfOk arguments (λ words. AsksBy (map string_bytes words.items) result) }
+    ensures judged { IfOk arguments (λ words. WordsAsk (map string_bytes words.items) result) }
     ensures valid { IfOk result HasValidSettings }
 {
     let words = arguments.map_err(refusal_of_words)?;
-    asked_in(alloc, &words)
+    parse_arguments(alloc, &words)
 }

@@ -1,12 +1,16 @@
+ghost use Rattle.dml_types.specs.Memory.{IsMemory};
+ghost use Rattle.dml_image.specs.Kept.{lent_memory};
+
 use super::Image;
 use crate::errors::ImageError;
+use crate::lent::Lent;
 use dml_types::Direction;
 use std::alloc::Global;
 use std::process::Abort;
 use std::test::Fail;
 
 /// An image of `pages` pages, those of `brought` present and full of 0.
-fn image_with(alloc: Global, pages: u32, brought: &[u32]) -> Result<Image, ImageError> {
+fn image_with(alloc: Global, pages: u32, brought: &[u32]) -> Result<Image<'static>, ImageError> {
     let mut image = Image::new(alloc, pages)?;
     for page in brought {
         image.bring(*page, &[0; 4096])?;
@@ -181,6 +185,126 @@ fn check_page(rt: &impl Abort, image: &Image, value: Option<u8>) {
     }
 }
 
+/// The bytes of three pages, no two neighbours equal.
+fn some_bytes() -> [u8; 12_288] {
+    let mut bytes = [0; 12_288];
+    for (i, byte) in bytes.iter_mut().enumerate() {
+        *byte = ((i * 7 + i / 251) % 256) as u8;
+    }
+    bytes
+}
+
+/// Source, target and length of moves inside three pages.
+const MOVES: [(u64, u64, u32); 18] = [
+    (0, 0, 100),
+    (10, 20, 8),
+    (20, 10, 8),
+    (0, 4096, 4096),
+    (100, 300, 4096),
+    (300, 100, 4096),
+    (4000, 4100, 200),
+    (4100, 4000, 200),
+    (0, 1, 8000),
+    (1, 0, 8000),
+    (0, 6144, 6144),
+    (6144, 0, 6144),
+    (0, 2048, 8192),
+    (2048, 0, 8192),
+    (3, 258, 5000),
+    (260, 3, 5000),
+    (4096, 8192, 4096),
+    (5, 5000, 0),
+];
+
+/// Moves bytes inside an image of three pages, and compares all bytes.
+fn check_move(rt: &impl Abort, image: &mut Image, (source, target, len): (u64, u64, u32)) {
+    let mut expected = [0; 12_288];
+    assert!(rt; image.first_absent(0, 12_288, Direction::Forward).is_none());
+    image.read_into(0, &mut expected);
+    let before = expected;
+    let (from, to, n) = (source as usize, target as usize, len as usize);
+    assert!(rt; from <= 12_288 && to <= 12_288 && n <= 12_288 - from && n <= 12_288 - to);
+    expected[to..to + n].copy_from_slice(&before[from..from + n]);
+    assert!(rt;
+        image
+            .first_absent(source, len, Direction::Forward)
+            .is_none()
+    );
+    assert!(rt;
+        image
+            .first_absent(target, len, Direction::Forward)
+            .is_none()
+    );
+    image.move_within(source, target, len);
+    let mut after = [0; 12_288];
+    assert!(rt; image.first_absent(0, 12_288, Direction::Forward).is_none());
+    image.read_into(0, &mut after);
+    assert!(rt; after == expected, "{len} from {source} to {target}");
+}
+
+#[test]
+fn moves_inside_own_pages(rt: HostRuntime) -> Result<(), Fail> {
+    let mut image = image_with(rt.alloc(), 3, &[0, 1, 2])?;
+    for row in MOVES {
+        assert!(rt; image.first_absent(0, 12_288, Direction::Forward).is_none());
+        image.write(0, &some_bytes());
+        check_move(&rt, &mut image, row);
+    }
+    Ok(())
+}
+
+/// Three pages of a caller's, all present.
+#[tactic(auto, using(crate::proofs::LentLemmas::all_kept))]
+fn three_pages(content: &mut [u8; 12_288]) -> Lent<'_>
+    ensures memory { IsMemory (lent_memory result) }
+{
+    Lent::new(&[true; 3], content)
+}
+
+#[test]
+fn moves_inside_lent_memory(rt: HostRuntime) {
+    for row in MOVES {
+        let mut content = some_bytes();
+        let mut lent = three_pages(&mut content);
+        let mut image = lent.take();
+        check_move(&rt, &mut image, row);
+    }
+}
+
+#[test]
+fn write_over_page_edge_of_lent_memory(rt: HostRuntime) {
+    let mut content = [0x11; 12_288];
+    let mut lent = three_pages(&mut content);
+    let mut image = lent.take();
+    assert_eq!(rt; image.pages(), 3);
+    assert!(rt; image.first_absent(4094, 4, Direction::Forward).is_none());
+    image.write(4094, &[1, 2, 3, 4]);
+    assert!(rt; image.first_absent(8190, 5, Direction::Forward).is_none());
+    image.fill(8190, 5, 0x8877_6655_4433_2211);
+    lent.put(image);
+    drop(lent);
+    let mut expected = [0x11; 12_288];
+    expected[4094..4098].copy_from_slice(&[1, 2, 3, 4]);
+    expected[8190..8195].copy_from_slice(&[0x11, 0x22, 0x33, 0x44, 0x55]);
+    assert!(rt; content == expected);
+}
+
+#[test]
+fn last_page_of_lent_memory(rt: HostRuntime) {
+    let mut content = [0; 12_288];
+    let mut lent = three_pages(&mut content);
+    let mut image = lent.take();
+    assert_eq!(rt; image.bring(3, &[7; 4096]), Err(ImageError::NoSuchPage));
+    assert_eq!(rt; image.bring(2, &[0x5a; 4096]), Ok(()));
+    assert_eq!(rt; image.byte(12_287), Some(0x5a));
+    assert_eq!(rt; image.byte(8191), Some(0));
+    assert!(rt; !image.has(12_288));
+    assert_eq!(rt;
+        image.first_absent(8192, 4097, Direction::Backward),
+        Some(0)
+    );
+}
+
 // The refused_* below take either answer: they are also run with each growth refused in turn, from the first one behind
 // those that their set-up takes.
 
@@ -202,6 +326,7 @@ fn set_up_of_bring(rt: HostRuntime) -> Result<(), Fail> {
     Ok(())
 }
 
+/// A page that is absent takes memory when it is brought; refused, it stays absent.
 #[test]
 fn refused_bring(rt: HostRuntime) -> Result<(), Fail> {
     let mut image = Image::new(rt.alloc(), 3)?;
@@ -212,5 +337,21 @@ fn refused_bring(rt: HostRuntime) -> Result<(), Fail> {
             check_page(&rt, &image, None);
         }
     }
+    Ok(())
+}
+
+/// What `refused_second_bring` does before its call.
+#[test]
+fn set_up_of_second_bring(rt: HostRuntime) -> Result<(), Fail> {
+    check_page(&rt, &image_with(rt.alloc(), 3, &[0])?, Some(0));
+    Ok(())
+}
+
+/// A page that is present takes none.
+#[test]
+fn refused_second_bring(rt: HostRuntime) -> Result<(), Fail> {
+    let mut image = image_with(rt.alloc(), 3, &[0])?;
+    assert_eq!(rt; image.bring(0, &[0x5a; 4096]), Ok(()));
+    check_page(&rt, &image, Some(0x5a));
     Ok(())
 }

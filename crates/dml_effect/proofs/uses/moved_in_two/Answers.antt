@@ -1,4 +1,4 @@
-use Rattle.std.proofs.Common.{◌≡◌, List, [], ◌∷◌, length, Option, None, Some, MatchOption, refl, ◌∙◌, ap, subst, arith, inl}
+use Rattle.std.proofs.Common.{◌≡◌, List, [], ◌∷◌, length, Option, None, Some, MatchOption, refl, ◌∙◌, ap, subst, arith}
 use Rattle.std.specs.Iterator.{AlwaysYields}
 use Rattle.std.specs.Array.Iter.{array_into_iter_items}
 use Rattle.std.proofs.lemmas.Iterator.Consumers.{YieldsList-from_shown}
@@ -25,7 +25,7 @@ join_found-requires c =
     λ k. (
       (refl, tt),
       (
-        inl c.requires.operation,
+        (λ e. absurd (cc (e, c.requires.operation)), λ e. absurd (cc (e, c.requires.operation))),
         (
           tt,
           (

@@ -1,7 +1,7 @@
 use Rattle.std.proofs.Common.{length, ◌≡◌, ◌++◌, drop, map}
 use Rattle.std.specs.List.{flat_map}
 use Rattle.dml_grammar.specs.Grammar as grammar
-use Rattle.dml_grammar.specs.Reads.{entries_seen, faults_in}
+use Rattle.dml_grammar.specs.Reads.{entries_seen, slot_faults}
 use Rattle.dml_grammar.proofs.entries.read_entries.Given as goal
 
 abbrev pub invariant-loop-slot : goal.invariant-loop-slot
@@ -9,5 +9,5 @@ invariant-loop-slot l = record {
   long : length l.numbers.items ≡ l.slot-index;
   numbers : l.numbers.items ++ map (λ e. grammar.slot_number e.0 e.1) (entries_seen (drop l.slot-index l.entries)) ≡ map (λ e. grammar.slot_number e.0 e.1) (entries_seen l.entries);
   bytes : l.bytes.items ++ flat_map (λ e. grammar.slot_bytes e.0 e.1) (entries_seen (drop l.slot-index l.entries)) ≡ flat_map (λ e. grammar.slot_bytes e.0 e.1) (entries_seen l.entries);
-  faults : grammar.first_of (faults_in (drop l.slot-index l.entries)) ≡ grammar.first_of (faults_in l.entries);
+  faults : grammar.first_of (slot_faults (drop l.slot-index l.entries)) ≡ grammar.first_of (slot_faults l.entries);
 }

@@ -1,8 +1,8 @@
 use Rattle.std.proofs.Common.{◌≡◌, Some, false, refl, sym, ◌∙◌}
 use Rattle.std.proofs.lemmas.Result.{err_from_is_err_and}
 use Rattle.dml_grammar.specs.Grammar as grammar
-use Rattle.dml_grammar.specs.Reads.{entries_seen, faults_in, values_seen}
-use Rattle.dml_grammar.specs.Table.{parts_in}
+use Rattle.dml_grammar.specs.Reads.{entries_seen, slot_faults, values_seen}
+use Rattle.dml_grammar.specs.Table.{parts_of}
 use Rattle.dml_grammar.specs.Text.{words}
 use Rattle.dml_grammar.proofs.LineLemmas.{fails_front, first_of_more, sizes_of_fitted, next_in_range}
 use Rattle.dml_grammar.proofs.judge.read_words.Goals as goal
@@ -10,27 +10,27 @@ use Rattle.dml_grammar.proofs.judge.read_words.Goals as goal
 pub returns-in_err-values-clause-err : goal.returns-in_err-values-clause-err
 returns-in_err-values-clause-err c =
     let p = err_from_is_err_and c.from_residual.result c.from_residual.ensures.1 in
-    let fitted : grammar.fitted (parts_in c.args.word) (words c.args.rest.now) ≡ Some (entries_seen c.as_slice.result.now) =
+    let fitted : grammar.fitted (parts_of c.args.word) (words c.args.rest.now) ≡ Some (entries_seen c.as_slice.result.now) =
     cc (c.in-Some.ensures, c.as_slice.ensures.value, c.parts_of.ensures.parts) in
-    rw (p.1, p.2, fitted) (fails_front c.in_err-values.field-0.0 (faults_in c.as_slice.result.now) _ c.in_err-values.ensures.err)
+    rw (p.1, p.2, fitted) (fails_front c.in_err-values.field-0.0 (slot_faults c.as_slice.result.now) _ c.in_err-values.ensures.err)
 
 pub is_out_of_range-requires : goal.is_out_of_range-requires
 is_out_of_range-requires c =
-    let fitted : grammar.fitted (parts_in c.args.word) (words c.args.rest.now) ≡ Some (entries_seen c.as_slice.result.now) =
+    let fitted : grammar.fitted (parts_of c.args.word) (words c.args.rest.now) ≡ Some (entries_seen c.as_slice.result.now) =
     cc (c.in-Some.ensures, c.as_slice.ensures.value, c.parts_of.ensures.parts) in
     rw c.in_ok-values.ensures.values (sizes_of_fitted c.args.word (words c.args.rest.now) _ fitted c.in_ok-values.ensures.fine)
 
 pub returns-clause-fine : goal.returns-clause-fine
 returns-clause-fine c =
-    let fitted : grammar.fitted (parts_in c.args.word) (words c.args.rest.now) ≡ Some (entries_seen c.as_slice.result.now) =
+    let fitted : grammar.fitted (parts_of c.args.word) (words c.args.rest.now) ≡ Some (entries_seen c.as_slice.result.now) =
     cc (c.in-Some.ensures, c.as_slice.ensures.value, c.parts_of.ensures.parts) in
-    let within : grammar.is_out_of_range c.args.word (grammar.values_of (entries_seen c.as_slice.result.now)) c.args.reading.now ≡ false =
+    let within : grammar.is_out_of_range c.args.word (grammar.values_of (entries_seen c.as_slice.result.now)) c.args.pages.now ≡ false =
     rw c.in_ok-values.ensures.values at (sym c.is_out_of_range.ensures.value ∙ c.if-is_out_of_range.false) in
     let later : grammar.has_later_opcode c.args.word (grammar.values_of (entries_seen c.as_slice.result.now)) ≡ false =
     rw c.in_ok-values.ensures.values at (sym c.has_later_opcode.ensures ∙ c.if-has_later_opcode.false)
     in
-    rw fitted (first_of_more (faults_in c.as_slice.result.now) _ c.in_ok-values.ensures.fine ∙ rw (later, within) refl)
+    rw fitted (first_of_more (slot_faults c.as_slice.result.now) _ c.in_ok-values.ensures.fine ∙ rw (later, within) refl)
 
 pub returns-clause-next : goal.returns-clause-next
 returns-clause-next c =
-    rw c.line_of.ensures (next_in_range c.args.word (values_seen c.in_ok-values.values) c.args.reading.now c.requires.image c.requires.others (sym c.is_out_of_range.ensures.value ∙ c.if-is_out_of_range.false))
+    rw c.line_of.ensures (next_in_range c.args.word (values_seen c.in_ok-values.values) c.args.pages.now c.requires.image c.requires.others (sym c.is_out_of_range.ensures.value ∙ c.if-is_out_of_range.false))

@@ -1,9 +1,9 @@
 use Rattle.std.proofs.Common.{length, ◌≡◌}
-use Rattle.dml_grammar.specs.Left.{left_in}
+use Rattle.dml_grammar.specs.Left.{all_left}
 use Rattle.dml_grammar.proofs.script.read_script.Given as goal
 
 abbrev pub invariant-loop-lines : goal.invariant-loop-lines
-invariant-loop-lines l = l.lines.fault ≡ (left_in l.bytes).fault
+invariant-loop-lines l = l.lines.fault ≡ (all_left l.bytes).fault
 
 abbrev pub decreases-loop-lines : goal.decreases-loop-lines
 decreases-loop-lines l = length l.lines.lines

@@ -1,12 +1,11 @@
 use Rattle.std.proofs.Common.{◌-◌, ◌≡◌, ◌+◌, ◌<◌, ◌≤◌, ℕ, true}
 use Rattle.dml_types.specs.Memory.{has}
-use Rattle.dml_image.specs.Brought.{with_pages}
 use Rattle.dml_image.proofs.runs.present_upwards.Given as goal
 
 abbrev pub invariant-loop-done : goal.invariant-loop-done
 invariant-loop-done l = record {
   within : l.done ≤ l.len;
-  present : (i : ℕ) → i < l.done → has (with_pages l.pages) (l.addr + i) ≡ true;
+  present : (i : ℕ) → i < l.done → has l.image (l.addr + i) ≡ true;
 }
 
 abbrev pub decreases-loop-done : goal.decreases-loop-done

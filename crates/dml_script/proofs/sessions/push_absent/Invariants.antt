@@ -1,6 +1,5 @@
-use Rattle.std.proofs.Common.{◌≡◌, ◌++◌}
-use Rattle.dml_script.specs.Run.{shown_bytes}
+use Rattle.std.proofs.Common.{◌≡◌, ◌++◌, None, replicate}
 use Rattle.dml_script.proofs.sessions.push_absent.Given as goal
 
 abbrev pub invariant-loop : goal.invariant-loop
-invariant-loop l = l.list.items ≡ l.initial.list.items ++ shown_bytes l.image l.addr l.counter
+invariant-loop l = l.list.items ≡ l.initial.list.items ++ replicate l.counter None

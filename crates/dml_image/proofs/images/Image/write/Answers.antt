@@ -1,11 +1,8 @@
-use Rattle.std.proofs.Common.{arith}
-use Rattle.dml_image.proofs.WriteLemmas.{write_keeps}
+use Rattle.dml_image.proofs.WriteLemmas.{kept_after_put}
 use Rattle.dml_image.proofs.images.Image.write.Goals as goal
 
 pub invariant_of-self : goal.invariant_of-self
-invariant_of-self c =
-    write_keeps c.self.inside.present c.self.inside.content _ _ _ _ _
-    c.self.view_is c.self.invariant c.requires (omega arith) c.as_mut_slice.ensures.value c.write_at.ensures
+invariant_of-self c = kept_after_put _ _ _ _ _ c.self.view_is c.self.invariant c.requires c.write.ensures
 
 pub returns-clause-memory : goal.returns-clause-memory
 returns-clause-memory c = invariant_of-self c

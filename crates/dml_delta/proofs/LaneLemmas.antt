@@ -1,0 +1,174 @@
+-- Blocks in lists of bytes, and the marks of those that differ.
+use Rattle.std.proofs.Common.{◌≡◌, ℕ, ◌+◌, ◌-◌, ◌*◌, ◌/◌, ◌%◌, ◌^◌, ◌<◌, ◌≤◌, Bool, true, false, not, ◌&&◌, List, [], ◌∷◌, ◌++◌, length, get_or, take, drop, cond, eqb, Fits, w8, w64, refl, sym, ◌∙◌, ap, ap₂, subst, map, replicate, arith, rules, ⊎_elim}
+use Rattle.std.specs.Prelude.{bytes_eq}
+use Rattle.std.specs.Int.{to_le_bytes, w16}
+use Rattle.std.proofs.Math.Nat.{div-div-eq-div-mul}
+use Rattle.std.proofs.lemmas.Nat.{pow-add}
+use Rattle.std.proofs.lemmas.Nat.Bits.{bit_at-trailing_zeros, bit_at-zero}
+use Rattle.std.proofs.lemmas.Bool.{cases_eq, cases_lt, eq-eqb, ne_eqb, and_left}
+use Rattle.std.proofs.lemmas.List.{places, same_lists, drop_all, drop_at, take_all, get_or_past, length-replicate, replicate-append-replicate}
+use Rattle.std.proofs.lemmas.Simd.{bit_mask_l, mask_l-mod, tops_compared, get_or-zip2, get_or_wider, chunk-fits, below_from_Fits, length-chunk}
+use Rattle.std.proofs.lemmas.Slice.Eq.{bytes_eq-Decides}
+use lib.Count.{count_trailing_zeros}
+use lib.Lanes.{Each1, zip2, mask_l, top, number_l, digits_l}
+use Rattle.dml_delta.specs.Entries.{block_in, differs_in, entry_in, gathered, is_marked}
+use Rattle.dml_types.specs.declared.jobs.Job.{Job}
+use Rattle.dml_types.specs.Memory.{Memory, bytes_at}
+use Rattle.dml_types.specs.Delta.{block_at, differs, entry_for}
+use Rattle.dml_delta.proofs.EntryLemmas.{gathered_alike}
+
+-- blocks
+block_is : (xs : List ℕ) (i : ℕ) → block_in xs i ≡ take 8 (drop (8 * i) xs)
+block_is xs i = let eight : 8 * i + 8 - 8 * i ≡ 8 = omega arith in ap (λ (n : ℕ). take n (drop (8 * i) xs)) eight
+
+pub block_past : (xs : List ℕ) (i : ℕ) → length xs ≤ 8 * i → block_in xs i ≡ []
+block_past xs i past = block_is xs i ∙ ap (take 8) (drop_all (8 * i) xs past)
+
+-- of a part of a list that begins with block a
+pub block_of_part : (xs : List ℕ) (place a m i : ℕ) → place ≡ 8 * a → 8 * i + 8 ≤ m → block_in (take m (drop place xs)) i ≡ block_in xs (a + i)
+block_of_part xs place a m i at within = same_lists _ _ (search (rules, places)) (λ k d h. grind (arith, places))
+
+-- of a list that is filled up
+pub block_of_front : (xs zs : List ℕ) (i : ℕ) → 8 * i + 8 ≤ length xs → block_in (xs ++ zs) i ≡ block_in xs i
+block_of_front xs zs i within = same_lists _ _ (search (rules, places)) (λ k d h. grind (arith, places))
+
+pub block_behind : (xs ys zs : List ℕ) (i : ℕ) → length xs ≡ length ys → length xs ≤ 8 * i → block_in (xs ++ zs) i ≡ block_in (ys ++ zs) i
+block_behind xs ys zs i same past = same_lists _ _ (search (rules, places)) (λ k d h. grind (arith, places))
+
+pub zeros_left : (m n : ℕ) → n ≤ m → drop n (replicate {A = ℕ} m 0) ≡ replicate (m - n) 0
+zeros_left m n within =
+    let long : m ≡ n + (m - n) = omega arith in
+    ap (λ (k : ℕ). drop n (replicate {A = ℕ} k 0)) long
+    ∙ (ap (λ (xs : List ℕ). drop n xs) (sym (replicate-append-replicate {A = ℕ} n (m - n) 0)) ∙ drop_at (replicate {A = ℕ} n 0) (replicate (m - n) 0) n (length-replicate {A = ℕ} n 0))
+
+-- equal blocks do not differ
+pub alike : (one other : List ℕ) (i : ℕ) → block_in one i ≡ block_in other i → differs_in one other i ≡ false
+alike one other i same = ap not ((bytes_eq-Decides (block_in one i) (block_in other i)).1 same)
+
+pub differs_filled : (one other zs : List ℕ) (i : ℕ) → length one ≡ length other → length one % 8 ≡ 0 → differs_in (one ++ zs) (other ++ zs) i ≡ differs_in one other i
+differs_filled one other zs i same whole =
+    ⊎_elim (λ inside.
+    ap₂ (λ (a b : List ℕ). not (bytes_eq a b)) (block_of_front one zs i (omega arith)) (block_of_front other zs i (omega arith)))
+    (λ past.
+    alike (one ++ zs) (other ++ zs) i (block_behind one other zs i same past)
+    ∙ sym (alike one other i (block_past one i past ∙ sym (block_past other i (omega arith)))))
+    (cases_lt (8 * i) (length one))
+
+-- the number that bytes make tells them
+number_eq : (xs ys : List ℕ) → length xs ≡ length ys → Each1 (λ x. x < 256) xs → Each1 (λ y. y < 256) ys → eqb (number_l 256 xs) (number_l 256 ys) ≡ bytes_eq xs ys
+number_eq [] [] same fit fits = refl
+number_eq [] (y ∷ ys) same fit fits = absurd (omega arith)
+number_eq (x ∷ xs) [] same fit fits = absurd (omega arith)
+number_eq (x ∷ xs) (y ∷ ys) same fit fits =
+    joined x y (number_l 256 xs) (number_l 256 ys) fit.0 fits.0 ∙ ap (λ (b : Bool). eqb x y && b) (number_eq xs ys (omega arith) fit.1 fits.1)
+  where
+    joined : (x y n m : ℕ) → x < 256 → y < 256 → eqb (x + 256 * n) (y + 256 * m) ≡ (eqb x y && eqb n m)
+    joined x y n m low small =
+        ⊎_elim (λ alike.
+        ⊎_elim (λ both. eq-eqb (x + 256 * n) (y + 256 * m) (omega arith) ∙ sym (ap₂ (λ (a b : Bool). a && b) (eq-eqb x y alike) (eq-eqb n m both)))
+        (λ apart. ne_eqb (x + 256 * n) (y + 256 * m) (λ e. apart (omega arith)) ∙ sym (ap₂ (λ (a b : Bool). a && b) (eq-eqb x y alike) (ne_eqb n m apart))) (cases_eq n m))
+        (λ apart. ne_eqb (x + 256 * n) (y + 256 * m) (λ e. apart (omega arith)) ∙ sym (and_left (eqb x y) (eqb n m) (ne_eqb x y apart))) (cases_eq x y)
+
+-- the marks that eight lanes give
+abbrev words : List ℕ → List ℕ
+words xs = digits_l 18446744073709551616 8 (number_l 256 (take 64 xs))
+
+abbrev unlike : ℕ → ℕ → Bool
+unlike a b = not (eqb a b)
+
+abbrev lane_marks : List ℕ → List ℕ → ℕ
+lane_marks xs ys = mask_l (map (top 63) (zip2 (λ a b. cond (unlike a b) 18446744073709551615 0) xs ys)) % 18446744073709551616
+
+word_is : (xs : List ℕ) (i : ℕ) → length xs ≡ 64 → ((k : ℕ) → Fits w8 (get_or xs k 0)) → i < 8 → (get_or (words xs) i 0 ≡ number_l 256 (block_in xs i)) × (Each1 (λ x. x < 256) (block_in xs i)) × (length (block_in xs i) ≡ 8)
+word_is xs i long fit below =
+    let all : take 64 xs ≡ xs = take_all 64 xs (omega arith) in
+    let bytes : Each1 (λ x. x < 256) (take 64 xs) = below_from_Fits w8 _ (chunk-fits w8 0 64 xs fit) in (
+      get_or_wider 256 8 18446744073709551616 8 (take 64 xs) i refl bytes below
+          ∙ ap (number_l 256) (ap (λ (zs : List ℕ). take 8 (drop (8 * i) zs)) all ∙ sym (block_is xs i)),
+      subst (λ (zs : List ℕ). Each1 (λ x. x < 256) zs) (sym (block_is xs i)) (below_from_Fits w8 _ (chunk-fits w8 (8 * i) 8 xs fit)),
+      ap (λ (zs : List ℕ). length zs) (block_is xs i) ∙ length-chunk (8 * i) 8 xs (omega arith),
+    )
+
+pub marks_are : (one other : List ℕ) (i : ℕ) → length one ≡ 64 → length other ≡ 64 → ((k : ℕ) → Fits w8 (get_or one k 0)) → ((k : ℕ) → Fits w8 (get_or other k 0)) → is_marked (lane_marks (words one) (words other)) i ≡ differs_in one other i
+marks_are one other i long too fit fits =
+    let bits = zip2 unlike (words one) (words other) in
+    let mask : lane_marks (words one) (words other) ≡ mask_l bits =
+    ap (λ (bs : List Bool). mask_l bs % 18446744073709551616) (tops_compared w64 unlike (words one) (words other)) ∙ mask_l-mod bits 64 (omega arith) in
+    ap (λ (m : ℕ). is_marked m i) mask
+    ∙ (ap (λ (b : ℕ). eqb b 1) (bit_mask_l bits i)
+    ∙ (one_is (get_or bits i false)
+    ∙ ⊎_elim (λ below.
+    let a = word_is one i long fit below in
+    let b = word_is other i too fits below in
+    get_or-zip2 unlike (words one) (words other) i 0 0 false below below
+    ∙ (ap₂ unlike a.0 b.0 ∙ ap not (number_eq (block_in one i) (block_in other i) (a.2 ∙ sym b.2) a.1 b.1)))
+    (λ past.
+    get_or_past bits i false past
+    ∙ sym (alike one other i (block_past one i (omega arith) ∙ sym (block_past other i (omega arith)))))
+    (cases_lt i 8)))
+  where
+    one_is : (b : Bool) → eqb (cond b 1 0) 1 ≡ b
+    one_is true = refl
+    one_is false = refl
+
+-- the lowest mark, and the marks behind it
+shifted : (n z i : ℕ) → is_marked (n / 2 ^ z / 2) i ≡ is_marked n (z + 1 + i)
+shifted n z i =
+    let lower : n / 2 ^ z / 2 ≡ n / 2 ^ (z + 1) = div-div-eq-div-mul n (2 ^ z) 2 ∙ ap (λ (m : ℕ). n / m) (sym (pow-add 2 z 1)) in
+    let same : n / 2 ^ z / 2 / 2 ^ i ≡ n / 2 ^ (z + 1 + i) =
+    ap (λ (m : ℕ). m / 2 ^ i) lower ∙ (div-div-eq-div-mul n (2 ^ (z + 1)) (2 ^ i) ∙ ap (λ (m : ℕ). n / m) (sym (pow-add 2 (z + 1) i))) in
+    ap (λ (m : ℕ). eqb (m % 2) 1) same
+
+pub record Lowest (marks all at : ℕ) : Type 0 where
+  pub here : is_marked all (at + count_trailing_zeros 64 marks) ≡ true
+  pub before : (i : ℕ) → i < count_trailing_zeros 64 marks → is_marked all (at + i) ≡ false
+  pub behind : (i : ℕ) → is_marked (marks / 2 ^ count_trailing_zeros 64 marks / 2) i ≡ is_marked all (at + count_trailing_zeros 64 marks + 1 + i)
+
+pub lowest : (marks all at : ℕ) → 0 < marks → marks < 2 ^ 64 → ((i : ℕ) → is_marked marks i ≡ is_marked all (at + i)) → Lowest marks all at
+lowest marks all at some fit same =
+    let z = count_trailing_zeros 64 marks in
+    let first = bit_at-trailing_zeros w64 marks some fit in
+    record {
+      here = sym (same z) ∙ ap (λ (b : ℕ). eqb b 1) first.1;
+      before = λ i below. sym (same i) ∙ ap (λ (b : ℕ). eqb b 1) (first.2 i below);
+      behind = λ i. shifted marks z i ∙ (same (z + 1 + i) ∙ ap (is_marked all) (omega arith));
+    }
+
+pub no_marks : (i : ℕ) → is_marked 0 i ≡ false
+no_marks i = ap (λ (b : ℕ). eqb b 1) (bit_at-zero i)
+
+-- the entries of a part of two lists are those of its blocks in the lists
+pub part_entries : (one other : List ℕ) (marks number place a m k n : ℕ) → place ≡ 8 * a → 8 * n ≤ m → 8 * n ≤ k → ((i : ℕ) → is_marked marks i ≡ differs_in (take m (drop place one)) (take k (drop place other)) i) → gathered (entry_in (number + a) (take k (drop place other))) (is_marked marks) 0 n ≡ gathered (entry_in number other) (differs_in one other) a n
+part_entries one other marks number place a m k n at within too same =
+    gathered_alike (entry_in (number + a) (take k (drop place other))) (entry_in number other) (is_marked marks) (differs_in one other) 0 a n
+    (λ i below.
+    let from_zero : 0 + i ≡ i = omega arith in
+    ap (is_marked marks) from_zero
+    ∙ (same i
+    ∙ ap₂ (λ (x y : List ℕ). not (bytes_eq x y)) (block_of_part one place a m i at (omega arith)) (block_of_part other place a k i at (omega arith))))
+    (λ i below.
+    let from_zero : 0 + i ≡ i = omega arith in
+    let numbered : number + a + i ≡ number + (a + i) = omega arith in
+    ap (entry_in (number + a) (take k (drop place other))) from_zero
+    ∙ ap₂ (λ (b : ℕ) (x : List ℕ). to_le_bytes w16 b ++ x) numbered (block_of_part other place a k i at (omega arith)))
+
+-- blocks that are read from a memory at once
+block_of_read : (memory : Memory) (address b n m i : ℕ) → 8 * i + 8 ≤ m → m ≤ n → block_in (take m (bytes_at memory (address + 8 * b) n)) i ≡ block_at memory address (b + i)
+block_of_read memory address b n m i within short = same_lists _ _ (search (rules, places)) (λ k d h. grind (arith, places))
+
+pub memory_entries : (memory : Memory) (job : Job) (one other : List ℕ) (b m n : ℕ) → one ≡ bytes_at memory (job.source + 8 * b) (length one) → other ≡ bytes_at memory (job.target + 8 * b) (length other) → m ≤ length one → m ≤ length other → 8 * n ≤ m → gathered (entry_in b (take m other)) (differs_in (take m one) (take m other)) 0 n ≡ gathered (entry_for memory job) (differs memory job) b n
+memory_entries memory job one other b m n read also short too within =
+    gathered_alike (entry_in b (take m other)) (entry_for memory job) (differs_in (take m one) (take m other)) (differs memory job) 0 b n
+    (λ i below.
+    let from_zero : 0 + i ≡ i = omega arith in
+    ap (differs_in (take m one) (take m other)) from_zero
+    ∙ ap₂ (λ (x y : List ℕ). not (bytes_eq x y)) (first i below) (second i below))
+    (λ i below.
+    let from_zero : 0 + i ≡ i = omega arith in
+    ap (entry_in b (take m other)) from_zero ∙ ap (λ (x : List ℕ). to_le_bytes w16 (b + i) ++ x) (second i below))
+  where
+    first : (i : ℕ) → i < n → block_in (take m one) i ≡ block_at memory job.source (b + i)
+    first i below = ap (λ (xs : List ℕ). block_in (take m xs) i) read ∙ block_of_read memory job.source b (length one) m i (omega arith) short
+
+    second : (i : ℕ) → i < n → block_in (take m other) i ≡ block_at memory job.target (b + i)
+    second i below = ap (λ (xs : List ℕ). block_in (take m xs) i) also ∙ block_of_read memory job.target b (length other) m i (omega arith) too

@@ -1,0 +1,6 @@
+pub mod EntryLemmas
+pub mod LaneLemmas
+pub mod LimitLemmas
+pub mod PieceLemmas
+pub mod RecordLemmas
+pub mod UnitLemmas

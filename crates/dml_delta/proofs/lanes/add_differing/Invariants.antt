@@ -1,0 +1,11 @@
+use Rattle.std.proofs.Common.{◌≡◌, ◌*◌, ◌++◌}
+use Rattle.dml_delta.specs.Entries.{differs_in, entry_in, gathered}
+use Rattle.dml_delta.proofs.lanes.add_differing.Given as goal
+
+abbrev pub invariant-loop-k : goal.invariant-loop-k
+invariant-loop-k l = record {
+  opening : l.room.opening ≡ l.initial.room.opening;
+  start : l.room.start ≡ l.initial.room.start;
+  room : l.room.room ≡ l.initial.room.room;
+  bytes : l.room.bytes ++ l.entries ≡ (l.initial.room.bytes ++ l.initial.entries) ++ gathered (entry_in l.number l.other) (differs_in l.one l.other) 0 (8 * l.k);
+}

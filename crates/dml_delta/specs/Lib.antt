@@ -1,0 +1,3 @@
+pub mod Bad
+pub mod Entries
+pub mod Record

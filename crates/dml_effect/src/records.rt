@@ -1,0 +1,87 @@
+//! Completion records.
+ghost use Rattle.std.specs.Prelude.{◌≡◌};
+ghost use Rattle.dml_types.specs.Bytewise.{result_of};
+ghost use Rattle.dml_types.specs.Effect as word;
+ghost use Rattle.dml_effect.specs.Joined as joined;
+
+use bitflags::Flags;
+use dml_types::{Direction, Found, Job, JobFlags, Op, Record, Status};
+
+/// The completion record of a job, by how its scan ended.
+pub fn scanned_record(op: Op, job: &Job, direction: Direction, found: Found) -> Record
+    ensures { result ≡ joined.scanned_record op job.now direction found }
+{
+    match op {
+        Op::NoOp => ended(Status::Success, 0, 0),
+        Op::Compare | Op::ComparePattern => compared_record(job, found),
+        _ => copied_record(job.size, direction, found),
+    }
+}
+
+/// The completion record of a compare: the whole byte of the result is expected.
+fn compared_record(job: &Job, found: Found) -> Record
+    ensures { result ≡ joined.compared_record job.now found }
+{
+    match found {
+        Found::All => ended(judged(job, job.expected == 0), 0, job.size),
+        Found::Differs { done } => ended(judged(job, job.expected == 1), 1, done),
+        Found::Fault { done, place, write } => faulted(write, place, 0, done),
+    }
+}
+
+/// The completion record of a copy or a fill of `len` bytes.
+pub fn copied_record(len: u32, direction: Direction, found: Found) -> Record
+    ensures { result ≡ joined.copied_record len (result_of direction) found }
+{
+    let outcome = match direction {
+        Direction::Forward => 0,
+        Direction::Backward => 1,
+    };
+    match found {
+        Found::All => ended(Status::Success, outcome, len),
+        Found::Differs { done } => ended(Status::Success, outcome, done),
+        Found::Fault { done, place, write } => faulted(write, place, outcome, done),
+    }
+}
+
+/// The status of a job that ended with a result which is the expected one, or not.
+fn judged(job: &Job, is_expected: bool) -> Status
+    ensures { result ≡ word.judged job.now is_expected }
+{
+    let check = JobFlags::CHECK_RESULT.bits();
+    if job.flags & check == check && !is_expected {
+        Status::FalsePredicate
+    } else {
+        Status::Success
+    }
+}
+
+/// The completion record of a job that no fault stopped.
+pub fn ended(status: Status, outcome: u8, completed: u32) -> Record
+    ensures { result ≡ word.ended status outcome completed 0 }
+{
+    Record {
+        status,
+        result: outcome,
+        completed,
+        fault: 0,
+        delta_size: 0,
+    }
+}
+
+/// The completion record of a job that stopped at an absent byte, which was to be written or else read.
+fn faulted(write: bool, place: u64, outcome: u8, completed: u32) -> Record
+    ensures { result ≡ word.faulted (joined.fault_by write place) outcome completed 0 }
+{
+    Record {
+        status: if write {
+            Status::WriteFault
+        } else {
+            Status::ReadFault
+        },
+        result: outcome,
+        completed,
+        fault: place,
+        delta_size: 0,
+    }
+}

@@ -1,0 +1,192 @@
+-- A table of pages, and the bytes of all of them, one page after another.
+use Rattle.std.proofs.Common.{◌≡◌, ◌≢◌, ℕ, zero, suc, ◌+◌, ◌-◌, ◌*◌, ◌/◌, ◌%◌, ◌<◌, ◌≤◌, Bool, true, false, List, [], ◌∷◌, ◌++◌, Option, Some, None, flat_map, is_some, length, map, get_or, replicate, set, take, drop, rules, refl, sym, ◌∙◌, ap, ap₂, arith, ⊎_elim}
+use Rattle.std.proofs.lemmas.List.{places, same_lists, map-set, get_or_past, length-map, length-replicate, get_or-set_other}
+use Rattle.std.proofs.Math.Seq.{map-set_same}
+use Rattle.std.proofs.lemmas.Bool.{cases_lt, false≢true}
+use Rattle.dml_types.specs.Memory.{Memory, has, bytes_at, overwrite, put}
+use Rattle.dml_image.specs.Brought.{all_absent, brought}
+use Rattle.dml_image.specs.Table.{page_bytes, table_memory, AreWhole}
+
+-- a write in the front or the back of two lists
+overwrite_front : (xs ys new : List ℕ) (s : ℕ) → s + length new ≤ length xs → overwrite xs s new ++ ys ≡ overwrite (xs ++ ys) s new
+unfolding overwrite
+overwrite_front xs ys new s within = same_lists _ _ (search (rules, places)) (λ k d h. grind (arith, places))
+
+overwrite_back : (xs ys new : List ℕ) (m s : ℕ) → length xs ≡ m → s + length new ≤ length ys → xs ++ overwrite ys s new ≡ overwrite (xs ++ ys) (m + s) new
+unfolding overwrite
+overwrite_back xs ys new m s long within = same_lists _ _ (search (rules, places)) (λ k d h. grind (arith, places))
+
+overwrite_all : (old new : List ℕ) → length new ≡ length old → new ≡ overwrite old 0 new
+unfolding overwrite
+overwrite_all old new same = same_lists _ _ (search (rules, places)) (λ k d h. grind (arith, places))
+
+same_front : (xs ys : List ℕ) (a s n : ℕ) → a ≡ s → s + n ≤ length xs → take n (drop a (xs ++ ys)) ≡ take n (drop s xs)
+same_front xs ys a s n is within = same_lists _ _ (search (rules, places)) (λ k d h. grind (arith, places))
+
+same_back : (xs ys : List ℕ) (m a b n : ℕ) → length xs ≡ m → a ≡ m + b → take n (drop a (xs ++ ys)) ≡ take n (drop b ys)
+same_back xs ys m a b n long is = same_lists _ _ (search (rules, places, long)) (λ k d h. grind (arith, places, long))
+
+abbrev zeros : ℕ → List ℕ
+zeros n = replicate n 0
+
+zeros_more : (m n : ℕ) → zeros m ++ zeros n ≡ zeros (m + n)
+zeros_more m n = same_lists _ _ (search (rules, places)) (λ k d h. grind (arith, places))
+
+abbrev memory_of : List Bool → List ℕ → Memory
+memory_of present items = record { present = present; bytes = items; home = None }
+
+pub length_flat : (pages : List (Option (List ℕ))) → AreWhole pages → length (flat_map page_bytes pages) ≡ 4096 * length pages
+length_flat [] whole = refl
+length_flat (page ∷ pages) whole = search (rules, places, length_flat pages whole.1, whole.0)
+
+-- the bytes of a page stand at its place
+read_flat : (pages : List (Option (List ℕ))) (k s n : ℕ) (page d : Option (List ℕ)) → AreWhole pages → k < length pages → page ≡ get_or pages k d → s + n ≤ 4096 → take n (drop (4096 * k + s) (flat_map page_bytes pages)) ≡ take n (drop s (page_bytes page))
+read_flat [] k s n page d whole below is within = absurd (omega arith)
+read_flat (old ∷ pages) zero s n page d whole below is within =
+    same_front (page_bytes old) (flat_map page_bytes pages) (4096 * 0 + s) s n (omega arith) (omega (arith, whole.0)) ∙ ap (λ (p : Option (List ℕ)). take n (drop s (page_bytes p))) (sym is)
+read_flat (old ∷ pages) (suc k) s n page d whole below is within =
+    same_back (page_bytes old) (flat_map page_bytes pages) 4096 (4096 * suc k + s) (4096 * k + s) n whole.0 (omega arith)
+    ∙ read_flat pages k s n page d whole.1 (omega arith) is within
+
+-- an overwrite inside a page changes that page alone
+write_flat : (pages : List (Option (List ℕ))) (k s : ℕ) (old page d : Option (List ℕ)) (new : List ℕ) → AreWhole pages → k < length pages → old ≡ get_or pages k d → s + length new ≤ 4096 → page_bytes page ≡ overwrite (page_bytes old) s new → flat_map page_bytes (set pages k page) ≡ overwrite (flat_map page_bytes pages) (4096 * k + s) new
+write_flat [] k s old page d new whole below at within is = absurd (omega arith)
+write_flat (first ∷ pages) zero s old page d new whole below at within is =
+    ap (λ bytes. bytes ++ flat_map page_bytes pages) (is ∙ ap (λ (p : Option (List ℕ)). overwrite (page_bytes p) s new) at)
+    ∙ (overwrite_front (page_bytes first) (flat_map page_bytes pages) new s (omega (arith, whole.0))
+    ∙ ap (λ place. overwrite (page_bytes first ++ flat_map page_bytes pages) place new) (omega arith))
+write_flat (first ∷ pages) (suc k) s old page d new whole below at within is =
+    ap (λ bytes. page_bytes first ++ bytes) (write_flat pages k s old page d new whole.1 (omega arith) at within is)
+    ∙ (overwrite_back (page_bytes first) (flat_map page_bytes pages) new 4096 (4096 * k + s) whole.0 (omega (arith, length_flat pages whole.1))
+    ∙ ap (λ place. overwrite (page_bytes first ++ flat_map page_bytes pages) place new) (omega arith))
+
+pub whole_after : (pages : List (Option (List ℕ))) (k : ℕ) (page : Option (List ℕ)) → AreWhole pages → length (page_bytes page) ≡ 4096 → AreWhole (set pages k page)
+whole_after [] k page whole long = whole
+whole_after (old ∷ pages) zero page whole long = (long, whole.1)
+whole_after (old ∷ pages) (suc k) page whole long = (whole.0, whole_after pages k page whole.1 long)
+
+whole_at : (pages : List (Option (List ℕ))) (k : ℕ) (page d : Option (List ℕ)) → AreWhole pages → k < length pages → page ≡ get_or pages k d → length (page_bytes page) ≡ 4096
+whole_at [] k page d whole below is = absurd (omega arith)
+whole_at (first ∷ pages) zero page d whole below is = ap (λ (p : Option (List ℕ)). length (page_bytes p)) is ∙ whole.0
+whole_at (first ∷ pages) (suc k) page d whole below is = whole_at pages k page d whole.1 (omega arith) is
+
+-- the page of a present byte is one of the table
+page_of_byte : (pages : List (Option (List ℕ))) (address : ℕ) → has (table_memory pages) address ≡ true → address / 4096 < length pages
+page_of_byte pages address here =
+    ⊎_elim (λ low. low) (λ high.
+    let absent : get_or (map is_some pages) (address / 4096) false ≡ false = get_or_past (map is_some pages) (address / 4096) false (omega (arith, length-map pages is_some)) in
+    absurd (false≢true (sym absent ∙ here)))
+    (cases_lt (address / 4096) (length pages))
+
+set_itself : (pages : List (Option (List ℕ))) (k : ℕ) (page d : Option (List ℕ)) → k < length pages → page ≡ get_or pages k d → set pages k page ≡ pages
+set_itself [] k page d below is = absurd (omega arith)
+set_itself (first ∷ pages) zero page d below is = ap (λ p. p ∷ pages) is
+set_itself (first ∷ pages) (suc k) page d below is = ap (λ rest. first ∷ rest) (set_itself pages k page d (omega arith) is)
+
+present_itself : (pages : List (Option (List ℕ))) (k : ℕ) (bytes other : List ℕ) (d : Option (List ℕ)) → k < length pages → Some bytes ≡ get_or pages k d → map is_some (set pages k (Some other)) ≡ map is_some pages
+present_itself pages k bytes other d below is = map-set_same is_some pages k (Some other) d (ap is_some is)
+
+-- what a part of a page says of the memory: read, and written
+pub part_read : (pages : List (Option (List ℕ))) (now : Memory) (address n : ℕ) (bytes : List ℕ) (page : Option (List ℕ)) → table_memory pages ≡ now → AreWhole pages → has now address ≡ true → page ≡ get_or pages (address / 4096) page → page ≡ Some bytes → address % 4096 + n ≤ 4096 → take n (drop (address % 4096) bytes) ≡ take n (drop address now.bytes)
+part_read pages now address n bytes page shown whole here at is within =
+    let below = page_of_byte pages address (ap (λ (m : Memory). has m address) shown ∙ here) in
+    let place : 4096 * (address / 4096) + address % 4096 ≡ address = omega arith in
+    sym (ap (λ (m : Memory). take n (drop address m.bytes)) (sym shown)
+    ∙ (ap (λ a. take n (drop a (flat_map page_bytes pages))) (sym place)
+    ∙ (read_flat pages (address / 4096) (address % 4096) n page page whole below at within
+    ∙ ap (λ (p : Option (List ℕ)). take n (drop (address % 4096) (page_bytes p))) is)))
+
+pub part_written : (pages : List (Option (List ℕ))) (now : Memory) (address : ℕ) (bytes after new : List ℕ) (page : Option (List ℕ)) → table_memory pages ≡ now → AreWhole pages → has now address ≡ true → page ≡ get_or pages (address / 4096) page → page ≡ Some bytes → address % 4096 + length new ≤ 4096 → after ≡ overwrite bytes (address % 4096) new → table_memory (set pages (address / 4096) (Some after)) ≡ put now address new
+part_written pages now address bytes after new page shown whole here at is within done =
+    let below = page_of_byte pages address (ap (λ (m : Memory). has m address) shown ∙ here) in
+    let place : 4096 * (address / 4096) + address % 4096 ≡ address = omega arith in
+    let bytes_are : flat_map page_bytes (set pages (address / 4096) (Some after)) ≡ overwrite (flat_map page_bytes pages) address new =
+    write_flat pages (address / 4096) (address % 4096) (Some bytes) (Some after) page new whole below (sym is ∙ at) within done
+    ∙ ap (λ a. overwrite (flat_map page_bytes pages) a new) place in
+    ap₂ (λ (present : List Bool) (items : List ℕ). memory_of present items)
+    (present_itself pages (address / 4096) bytes after page below (sym is ∙ at)) bytes_are
+    ∙ ap (λ (m : Memory). put m address new) shown
+
+pub part_shown : (pages : List (Option (List ℕ))) (now : Memory) (address m : ℕ) (bytes result : List ℕ) (page : Option (List ℕ)) → table_memory pages ≡ now → AreWhole pages → has now address ≡ true → page ≡ get_or pages (address / 4096) page → page ≡ Some bytes → result ≡ bytes → length bytes ≡ 4096 → address % 4096 + m ≤ 4096 → take (address % 4096 + m - address % 4096) (drop (address % 4096) result) ≡ bytes_at now address (length (take (address % 4096 + m - address % 4096) (drop (address % 4096) result)))
+part_shown pages now address m bytes result page shown whole here at is same full within =
+    let long : length result ≡ 4096 = ap length same ∙ full in
+    let count : address % 4096 + m - address % 4096 ≡ m = omega arith in
+    let size : length (take (address % 4096 + m - address % 4096) (drop (address % 4096) result)) ≡ m = search (rules, places, long, count) in
+    ap (λ n. take n (drop (address % 4096) result)) count
+    ∙ (ap (λ items. take m (drop (address % 4096) items)) same
+    ∙ (part_read pages now address m bytes page shown whole here at is within
+    ∙ ap (λ n. take n (drop address now.bytes)) (omega (arith, size))))
+
+set_twice : (pages : List (Option (List ℕ))) (k : ℕ) (first second : Option (List ℕ)) → set (set pages k first) k second ≡ set pages k second
+set_twice [] k first second = refl
+set_twice (page ∷ pages) zero first second = refl
+set_twice (page ∷ pages) (suc k) first second = ap (λ rest. page ∷ rest) (set_twice pages k first second)
+
+pub whole_after_both : (pages : List (Option (List ℕ))) (k : ℕ) (first second : Option (List ℕ)) → AreWhole pages → length (page_bytes second) ≡ 4096 → AreWhole (set (set pages k first) k second)
+whole_after_both pages k first second whole long = rw set_twice (whole_after pages k second whole long)
+
+-- the bytes that a copy reads, as a part of the page and as bytes of the memory
+bytes_read : (pages : List (Option (List ℕ))) (now : Memory) (address n : ℕ) (bytes result : List ℕ) (page : Option (List ℕ)) → table_memory pages ≡ now → AreWhole pages → has now address ≡ true → page ≡ get_or pages (address / 4096) page → page ≡ Some bytes → address % 4096 + n ≤ 4096 → result ≡ bytes → take (address % 4096 + n - address % 4096) (drop (address % 4096) result) ≡ bytes_at now address n
+bytes_read pages now address n bytes result page shown whole here at is within same =
+    ap₂ (λ (k : ℕ) (items : List ℕ). take k (drop (address % 4096) items)) (omega arith) same
+    ∙ (part_read pages now address n bytes page shown whole here at is within ∙ ap (λ k. take k (drop address now.bytes)) (omega arith))
+
+copied : (pages : List (Option (List ℕ))) (now : Memory) (from to n : ℕ) (target after part : List ℕ) (page : Option (List ℕ)) → table_memory pages ≡ now → AreWhole pages → has now to ≡ true → page ≡ get_or pages (to / 4096) page → page ≡ Some target → to % 4096 + n ≤ 4096 → part ≡ bytes_at now from n → after ≡ overwrite target (to % 4096) part → table_memory (set pages (to / 4096) (Some after)) ≡ put now to (bytes_at now from n)
+copied pages now from to n target after part page shown whole here at is within read done =
+    let most : length (bytes_at now from n) ≤ n = search (rules, places) in
+    part_written pages now to target after (bytes_at now from n) page shown whole here at is (omega (arith, most))
+    (done ∙ ap (overwrite target (to % 4096)) read)
+
+pub copied_inside : (pages : List (Option (List ℕ))) (now : Memory) (from to n : ℕ) (bytes after : List ℕ) (page : Option (List ℕ)) → table_memory pages ≡ now → AreWhole pages → has now from ≡ true → has now to ≡ true → from / 4096 ≡ to / 4096 → page ≡ get_or pages (to / 4096) page → page ≡ Some bytes → from % 4096 + n ≤ 4096 → to % 4096 + n ≤ 4096 → after ≡ overwrite bytes (to % 4096) (take (from % 4096 + n - from % 4096) (drop (from % 4096) bytes)) → table_memory (set pages (to / 4096) (Some after)) ≡ put now to (bytes_at now from n)
+copied_inside pages now from to n bytes after page shown whole at_from at_to same at is within_from within_to done =
+    copied pages now from to n bytes after _ page shown whole at_to at is within_to
+    (bytes_read pages now from n bytes bytes page shown whole at_from (at ∙ ap (λ k. get_or pages k page) (sym same)) is within_from refl) done
+
+pub copied_between : (pages : List (Option (List ℕ))) (now : Memory) (from to n : ℕ) (target source result after : List ℕ) (page other held : Option (List ℕ)) → table_memory pages ≡ now → AreWhole pages → has now from ≡ true → has now to ≡ true → from / 4096 ≢ to / 4096 → page ≡ get_or pages (to / 4096) page → page ≡ Some target → other ≡ get_or (set pages (to / 4096) held) (from / 4096) other → other ≡ Some source → from % 4096 + n ≤ 4096 → to % 4096 + n ≤ 4096 → result ≡ source → after ≡ overwrite target (to % 4096) (take (from % 4096 + n - from % 4096) (drop (from % 4096) result)) → table_memory (set (set pages (to / 4096) held) (to / 4096) (Some after)) ≡ put now to (bytes_at now from n)
+copied_between pages now from to n target source result after page other held shown whole at_from at_to apart at is other_at other_is within_from within_to same done =
+    rw set_twice (copied pages now from to n target after _ page shown whole at_to at is within_to
+    (bytes_read pages now from n source result other shown whole at_from (other_at ∙ get_or-set_other pages (to / 4096) (from / 4096) held other apart) other_is within_from same) done)
+
+-- a page that was brought
+pub page_brought : (pages : List (Option (List ℕ))) (now : Memory) (k : ℕ) (page : Option (List ℕ)) (bytes : List ℕ) → table_memory pages ≡ now → AreWhole pages → k < length now.present → page ≡ get_or pages k page → length bytes ≡ 4096 → table_memory (set (set pages k page) k (Some bytes)) ≡ brought now k bytes
+page_brought pages now k page bytes shown whole below at long =
+    let inside : k < length pages = omega (arith, ap (λ (m : Memory). length m.present) shown, length-map pages is_some) in
+    let full : bytes ≡ overwrite (page_bytes page) 0 bytes = overwrite_all (page_bytes page) bytes (long ∙ sym (whole_at pages k page page whole inside at)) in
+    rw (set_itself pages k page page inside at)
+    (ap₂ (λ (present : List Bool) (items : List ℕ). memory_of present items)
+    (map-set is_some pages k (Some bytes))
+    (write_flat pages k 0 page (Some bytes) page bytes whole inside at (omega arith) full ∙ ap (λ a. overwrite (flat_map page_bytes pages) a bytes) (omega arith))
+    ∙ ap (λ (m : Memory). brought m k bytes) shown)
+
+-- the same where a page that is present was overwritten
+pub page_renewed : (pages : List (Option (List ℕ))) (now : Memory) (k : ℕ) (page : Option (List ℕ)) (old bytes after : List ℕ) → table_memory pages ≡ now → AreWhole pages → k < length now.present → page ≡ get_or pages k page → page ≡ Some old → length bytes ≡ 4096 → after ≡ overwrite old 0 bytes → table_memory (set pages k (Some after)) ≡ brought now k bytes
+page_renewed pages now k page old bytes after shown whole below at is long done =
+    let inside : k < length pages = omega (arith, ap (λ (m : Memory). length m.present) shown, length-map pages is_some) in
+    let full : after ≡ bytes = done ∙ sym (overwrite_all old bytes (long ∙ sym (ap (λ (p : Option (List ℕ)). length (page_bytes p)) (sym is) ∙ whole_at pages k page page whole inside at))) in
+    rw full (ap (λ (items : List (Option (List ℕ))). table_memory (set items k (Some bytes))) (sym (set_itself pages k page page inside at))
+    ∙ page_brought pages now k page bytes shown whole below at long)
+
+pub page_whole : (pages : List (Option (List ℕ))) (now : Memory) (k : ℕ) (page : Option (List ℕ)) (bytes : List ℕ) → table_memory pages ≡ now → AreWhole pages → k < length now.present → page ≡ get_or pages k page → length bytes ≡ 4096 → AreWhole (set (set pages k page) k (Some bytes))
+page_whole pages now k page bytes shown whole below at long =
+    let inside : k < length pages = omega (arith, ap (λ (m : Memory). length m.present) shown, length-map pages is_some) in
+    whole_after (set pages k page) k (Some bytes) (whole_after pages k page whole (whole_at pages k page page whole inside at)) long
+
+-- a new table
+abbrev pub all_none : ℕ → List (Option (List ℕ))
+all_none n = replicate n None
+
+marks_of_none : (n : ℕ) → map is_some (all_none n) ≡ replicate n false
+marks_of_none zero = refl
+marks_of_none (suc n) = ap (λ rest. false ∷ rest) (marks_of_none n)
+
+bytes_of_none : (n : ℕ) → flat_map page_bytes (all_none n) ≡ zeros (4096 * n)
+bytes_of_none zero = refl
+bytes_of_none (suc n) =
+    ap (λ rest. zeros 4096 ++ rest) (bytes_of_none n) ∙ (zeros_more 4096 (4096 * n) ∙ ap zeros (omega arith))
+
+pub none_present : (n : ℕ) → table_memory (all_none n) ≡ all_absent n
+none_present n = ap₂ (λ (present : List Bool) (items : List ℕ). memory_of present items) (marks_of_none n) (bytes_of_none n)
+
+pub none_whole : (n : ℕ) → AreWhole (all_none n)
+none_whole zero = tt
+none_whole (suc n) = (length-replicate {A = ℕ} 4096 0, none_whole n)

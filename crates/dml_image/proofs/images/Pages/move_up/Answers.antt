@@ -1,0 +1,34 @@
+use Rattle.std.proofs.Common.{arith, rules}
+use Rattle.dml_image.specs.Kept.{kept_by}
+use Rattle.dml_image.proofs.MoveLemmas.{nothing_moved, part_after, up_kept, up_more}
+use Rattle.dml_image.proofs.RangeLemmas.{range_fits}
+use Rattle.dml_image.proofs.images.Pages.move_up.Goals as goal
+
+pub loop-done-init : goal.loop-done-init
+loop-done-init c = record { within = omega arith; moved = nothing_moved _ _ _ }
+
+pub overflow_add-from : goal.overflow_add-from
+overflow_add-from c = search (rules, range_fits _ _ _ _ c.requires.memory c.requires.source c.loop-done-test.true)
+
+pub overflow_add-to : goal.overflow_add-to
+overflow_add-to c = search (rules, range_fits _ _ _ _ c.requires.memory c.requires.target c.loop-done-test.true)
+
+pub copy_part-requires-clause-memory : goal.copy_part-requires-clause-memory
+copy_part-requires-clause-memory c =
+    up_kept _ _ c.args.source _ _ _ c.requires.memory c.requires.source c.requires.target c.loop-done.invariant.moved c.loop-done.invariant.within
+
+pub copy_part-requires-clause-from : goal.copy_part-requires-clause-from
+copy_part-requires-clause-from c =
+    part_after _ _ _ c.args.source _ _ _ _ c.loop-done.invariant.moved c.requires.source (omega arith) (omega (arith, c.part_behind-part.ensures.most))
+
+pub copy_part-requires-clause-to : goal.copy_part-requires-clause-to
+copy_part-requires-clause-to c =
+    part_after _ _ _ c.args.target _ _ _ _ c.loop-done.invariant.moved c.requires.target (omega arith) (omega (arith, c.part_behind-part.ensures.most))
+
+pub loop-done-preserved : goal.loop-done-preserved
+loop-done-preserved c = record {
+  within = omega (arith, c.part_behind-part.ensures.most);
+  moved =
+      up_more (kept_by c.args.self.now) _ _ c.args.source _ _ _ _ c.requires.memory c.requires.source c.requires.target c.requires.order
+      c.loop-done.invariant.moved c.part_behind-part.ensures.some (omega (arith, c.part_behind-part.ensures.most)) c.copy_part.ensures;
+}

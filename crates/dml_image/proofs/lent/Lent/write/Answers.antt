@@ -1,0 +1,5 @@
+use Rattle.dml_image.proofs.WriteLemmas.{put_behind}
+use Rattle.dml_image.proofs.lent.Lent.write.Goals as goal
+
+pub returns-then-place-self : goal.returns-then-place-self
+returns-then-place-self c = put_behind _ _ _ c.requires.memory c.requires.present c.if-place-self.true

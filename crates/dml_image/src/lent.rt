@@ -1,0 +1,152 @@
+ghost use Rattle.std.specs.Prelude.{◌≡◌, ◌≢◌, ◌+◌, ◌-◌, ◌%◌, ◌<◌, ◌≤◌, Some, min, length, IsOk, IsSome, IsTrue, OnErr, OnOk};
+ghost use Rattle.dml_types.specs.Memory.{IsMemory, has, has_all, bytes_at, put};
+ghost use Rattle.dml_types.specs.Bytewise.{pattern_bytes};
+ghost use Rattle.dml_image.specs.Copied.{IsOneCopy};
+ghost use Rattle.dml_image.specs.Kept.{lent_memory};
+ghost use Rattle.dml_image.specs.Brought.{brought, has_page};
+
+use crate::PAGE_SIZE;
+use crate::images::{Image, Pages};
+use crate::slices::{copy_at, fill_at, write_at};
+use std::alloc::AllocError;
+
+/// Whole pages of the caller's memory that are lent to an image: which of them are present, and their bytes.
+///
+/// `take` lends them as an image, and `put` takes the image back; afterwards the caller's bytes are those of the image.
+#[derive(Drop)]
+pub struct Lent<'a> {
+    present: &'a [bool],
+    content: &'a mut [u8],
+}
+
+impl<'a> Lent<'a> {
+    /// The memory to be lent: for each page whether it is present, and the bytes of all pages.
+    pub fn new(present: &'a [bool], content: &'a mut [u8]) -> Lent<'a>
+        ensures present { result.present.now ≡ present.now }
+        ensures content { result.content.now ≡ content.old }
+        ensures same_reference { result.content.ghost_name ≡ content.entry.ghost_name }
+    {
+        Lent { present, content }
+    }
+
+    /// The memory as an image; until it is put back, nothing is left here.
+    pub fn take(&mut self) -> Image<'a>
+        requires { IsMemory (lent_memory self.old) }
+        ensures { result ≡ lent_memory self.old }
+    {
+        Image::over(Lent {
+            present: self.present,
+            content: std::mem::take(&mut self.content),
+        })
+    }
+
+    /// Takes an image over lent memory back.
+    pub fn put(&mut self, image: Image<'a>)
+        requires { IsSome image.home }
+        ensures content { self.new.content.now ≡ image.entry.bytes }
+        ensures same_reference { Some self.new.content.ghost_name ≡ image.entry.home }
+    {
+        match image.into_pages() {
+            Pages::Lent(lent) => *self = lent,
+            Pages::Own(_) => unreachable!(),
+        }
+    }
+
+    /// The number of pages.
+    pub(crate) fn pages(&self) -> usize
+        ensures { result ≡ length self.now.present.now }
+    {
+        self.present.len()
+    }
+
+    /// Writes these bytes over a page that is present; one that is absent has no room here.
+    pub(crate) fn bring(&mut self, page: usize, bytes: &[u8; 4096]) -> Result<(), AllocError>
+        requires memory { IsMemory (lent_memory self.old) }
+        requires page { page < length self.old.present.now }
+        ensures ok { OnOk result (lent_memory self.new ≡ brought (lent_memory self.old) page bytes.now) }
+        ensures err { OnErr result (lent_memory self.new ≡ lent_memory self.old) }
+        ensures again { IsTrue (has_page (lent_memory self.old) page) → IsOk result }
+    {
+        if !self.present[page] {
+            return Err(AllocError);
+        }
+        write_at(self.content, PAGE_SIZE * page, bytes);
+        Ok(())
+    }
+
+    /// Whether the byte at this address is present.
+    pub(crate) fn has(&self, addr: u64) -> bool
+        ensures { result ≡ has (lent_memory self.now) addr }
+    {
+        self.present
+            .get(addr as usize / PAGE_SIZE)
+            .is_some_and(|present| *present)
+    }
+
+    /// The bytes from this address on, `len` of them or as many as there are up to the end of the page.
+    pub(crate) fn part(&self, addr: u64, len: u32) -> &[u8]
+        requires memory { IsMemory (lent_memory self.now) }
+        requires present { IsTrue (has (lent_memory self.now) addr) }
+        ensures bytes { result.now ≡ bytes_at (lent_memory self.now) addr (length result.now) }
+        ensures length { length result.now ≡ min len (4096 - addr % 4096) }
+    {
+        let place = addr as usize;
+        let of_page = PAGE_SIZE - place % PAGE_SIZE;
+        &self.content[place..place + of_page.min(len as usize)]
+    }
+
+    /// Reads bytes from this address on into the whole buffer.
+    #[tactic(auto, using(crate::proofs::WriteLemmas::range_within, crate::proofs::WriteLemmas::read_behind))]
+    pub(crate) fn read_into(&self, addr: u64, buffer: &mut [u8])
+        requires memory { IsMemory (lent_memory self.now) }
+        requires present { IsTrue (has_all (lent_memory self.now) addr (length buffer.old)) }
+        ensures { buffer.new ≡ bytes_at (lent_memory self.now) addr (length buffer.old) }
+    {
+        let place = addr as usize;
+        if place >= self.content.len() {
+            return; // no byte there is present, so the range is empty
+        }
+        buffer.copy_from_slice(&self.content[place..place + buffer.len()]);
+    }
+
+    /// Writes bytes from this address on.
+    #[tactic(auto, using(crate::proofs::WriteLemmas::range_within, crate::proofs::WriteLemmas::put_behind))]
+    pub(crate) fn write(&mut self, addr: u64, bytes: &[u8])
+        requires memory { IsMemory (lent_memory self.old) }
+        requires present { IsTrue (has_all (lent_memory self.old) addr (length bytes.now)) }
+        ensures { lent_memory self.new ≡ put (lent_memory self.old) addr bytes.now }
+    {
+        let place = addr as usize;
+        if place >= self.content.len() {
+            return; // no byte there is present, so the range is empty
+        }
+        write_at(self.content, place, bytes);
+    }
+
+    #[tactic(auto, using(crate::proofs::WriteLemmas::range_within, crate::proofs::WriteLemmas::put_behind, crate::proofs::PatternLemmas::length_pattern_bytes))]
+    /// Repeats the 8 bytes of a pattern, low byte first, over `len` bytes from this address on.
+    pub(crate) fn fill(&mut self, addr: u64, len: u32, pattern: u64)
+        requires memory { IsMemory (lent_memory self.old) }
+        requires present { IsTrue (has_all (lent_memory self.old) addr len) }
+        ensures { lent_memory self.new ≡ put (lent_memory self.old) addr (pattern_bytes pattern len) }
+    {
+        let place = addr as usize;
+        if place >= self.content.len() {
+            return; // no byte there is present, so the range is empty
+        }
+        fill_at(self.content, place, len as usize, pattern);
+    }
+
+    /// Copies `len` bytes from one address on to another. Ranges that overlap are short.
+    #[tactic(auto, using(dml_types::proofs::MemoryLemmas::has_all_within))]
+    pub(crate) fn copy_part(&mut self, from: u64, to: u64, len: usize)
+        requires memory { IsMemory (lent_memory self.old) }
+        requires some { 0 < len }
+        requires from { IsTrue (has_all (lent_memory self.old) from len) }
+        requires to { IsTrue (has_all (lent_memory self.old) to len) }
+        requires apart { IsOneCopy from to len }
+        ensures { lent_memory self.new ≡ put (lent_memory self.old) to (bytes_at (lent_memory self.old) from len) }
+    {
+        copy_at(self.content, from as usize, to as usize, len);
+    }
+}

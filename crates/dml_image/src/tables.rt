@@ -1,0 +1,148 @@
+ghost use Rattle.std.specs.Prelude.{◌≡◌, ◌+◌, ◌-◌, ◌%◌, ◌<◌, ◌≤◌, min, length, IfOk, OnErr, OnOk, IsOk, IsTrue};
+ghost use Rattle.dml_types.specs.Memory.{has, bytes_at, put};
+ghost use Rattle.dml_types.specs.Bytewise.{pattern_bytes};
+ghost use Rattle.dml_image.specs.Brought.{all_absent, brought, has_page};
+ghost use Rattle.dml_image.specs.Copied.{IsOneCopy};
+
+use crate::PAGE_SIZE;
+use crate::pages::Page;
+use std::alloc::{AllocError, Global};
+use std::marker::Model;
+
+/// An image's own pages: a table, and memory for each page that is present.
+#[derive(Drop)]
+pub struct Table {
+    alloc: Global,
+    pages: Vec<Option<Page>>,
+}
+
+impl Model for Table {
+    ghost use Rattle.dml_types.specs.Memory.{Memory};
+    ghost use Rattle.dml_image.specs.Table.{AreWhole, table_memory};
+
+    ghost Value = { Memory };
+
+    ghost view = { λ t. table_memory t.pages.items };
+
+    ghost invariant = { λ t. AreWhole t.pages.items };
+}
+
+impl Table {
+    /// A table of so many pages, all absent.
+    pub fn new(alloc: Global, pages: usize) -> Result<Table, AllocError>
+        requires { pages ≤ 4096 }
+        ensures { IfOk result (λ table. table ≡ all_absent pages) }
+    {
+        let mut table = Vec::with_capacity(alloc, pages)?;
+        for _ in 0..pages {
+            table.push(None)?;
+        }
+        Ok(Table {
+            alloc,
+            pages: table,
+        })
+    }
+
+    /// The number of pages.
+    pub fn pages(&self) -> usize
+        ensures { result ≡ length self.now.present }
+    {
+        self.pages.len()
+    }
+
+    /// Makes a page present with these bytes. A page that is present needs no memory.
+    pub fn bring(&mut self, page: usize, bytes: &[u8; 4096]) -> Result<(), AllocError>
+        requires { page < length self.old.present }
+        ensures ok { OnOk result (self.new ≡ brought self.old page bytes.now) }
+        ensures err { OnErr result (self.new ≡ self.old) }
+        ensures again { IsTrue (has_page self.old page) → IsOk result }
+    {
+        if let Some(present) = &mut self.pages[page] {
+            present.write(0, bytes);
+            return Ok(());
+        }
+        let made = Page::new(self.alloc, bytes)?;
+        self.pages[page] = Some(made);
+        Ok(())
+    }
+
+    /// Whether the byte at this address is present.
+    pub fn has(&self, addr: u64) -> bool
+        ensures { result ≡ has self.now addr }
+    {
+        self.pages
+            .get(addr as usize / PAGE_SIZE)
+            .is_some_and(|page| page.is_some())
+    }
+
+    /// The bytes from this address on, `len` of them or as many as there are up to the end of the page.
+    pub fn part(&self, addr: u64, len: usize) -> &[u8]
+        requires { IsTrue (has self.now addr) }
+        ensures bytes { result.now ≡ bytes_at self.now addr (length result.now) }
+        ensures length { length result.now ≡ min len (4096 - addr % 4096) }
+    {
+        let place = addr as usize % PAGE_SIZE;
+        match &self.pages[addr as usize / PAGE_SIZE] {
+            Some(page) => &page.bytes()[place..place + len.min(PAGE_SIZE - place)],
+            None => unreachable!(),
+        }
+    }
+
+    /// Writes bytes from this address on, up to the end of the page at most.
+    pub fn write_part(&mut self, addr: u64, bytes: &[u8])
+        requires present { IsTrue (has self.old addr) }
+        requires within { addr % 4096 + length bytes.now ≤ 4096 }
+        ensures { self.new ≡ put self.old addr bytes.now }
+    {
+        let place = addr as usize;
+        match &mut self.pages[place / PAGE_SIZE] {
+            Some(page) => page.write(place % PAGE_SIZE, bytes),
+            None => unreachable!(),
+        }
+    }
+
+    /// Repeats the 8 bytes of a pattern, low byte first, over `len` bytes from this address on, up to the end of the
+    /// page at most.
+    pub fn fill_part(&mut self, addr: u64, len: usize, pattern: u64)
+        requires present { IsTrue (has self.old addr) }
+        requires within { addr % 4096 + len ≤ 4096 }
+        ensures { self.new ≡ put self.old addr (pattern_bytes pattern len) }
+    {
+        let place = addr as usize;
+        match &mut self.pages[place / PAGE_SIZE] {
+            Some(page) => page.fill(place % PAGE_SIZE, len, pattern),
+            None => unreachable!(),
+        }
+    }
+
+    /// Copies `len` bytes from one address on to another, each of them up to the end of the page at most. Ranges that
+    /// overlap are short.
+    pub fn copy_part(&mut self, from: u64, to: u64, len: usize)
+        requires present { IsTrue (has self.old from) × IsTrue (has self.old to) }
+        requires within { (from % 4096 + len ≤ 4096) × (to % 4096 + len ≤ 4096) }
+        requires apart { IsOneCopy from to len }
+        ensures { self.new ≡ put self.old to (bytes_at self.old from len) }
+    {
+        let (from, to) = (from as usize, to as usize);
+        let (from_page, from) = (from / PAGE_SIZE, from % PAGE_SIZE);
+        let (to_page, to) = (to / PAGE_SIZE, to % PAGE_SIZE);
+        if from_page == to_page {
+            match &mut self.pages[to_page] {
+                Some(page) => page.copy(from, to, len),
+                None => unreachable!(),
+            }
+        } else {
+            // the target is taken out for the copy
+            match self.pages[to_page].take() {
+                Some(mut target) => {
+                    match &self.pages[from_page] {
+                        Some(source) => target.write(to, &source.bytes()[from..from + len]),
+                        None => unreachable!(),
+                    }
+                    self.pages[to_page] = Some(target);
+                }
+                None => unreachable!(),
+            }
+        }
+    }
+}

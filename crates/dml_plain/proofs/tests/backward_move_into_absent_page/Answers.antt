@@ -1,5 +1,0 @@
-use Rattle.std.proofs.Common.{refl}
-use Rattle.dml_plain.proofs.tests.backward_move_into_absent_page.Goals as goal
-
-pub run-requires-clause-accepted : goal.run-requires-clause-accepted
-run-requires-clause-accepted g c = rw c.move_bytes.ensures refl

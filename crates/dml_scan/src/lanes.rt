@@ -1,0 +1,163 @@
+//! How far bytes are alike from the front, those of two slices or those of a slice and a repeated pattern.
+//!
+//! They are compared in steps of four vectors with one test, then a vector at a time, and at the end byte by byte.
+
+ghost use Rattle.std.specs.Prelude.{◌≡◌, ℕ, ◌+◌, ◌<◌, ◌≤◌, ◌↔◌, IsTrue, length, slice_index, slice_range};
+ghost use Rattle.dml_types.specs.Bytewise.{pattern_byte};
+ghost use Rattle.dml_types.specs.Step as step;
+ghost use Rattle.dml_scan.specs.Lanes.{AreAlike, AreRepeated, AreZero};
+ghost use Rattle.dml_scan.specs.Lanes as lanes;
+
+use std::simd::prelude::*;
+
+/// The bytes of a vector.
+const LANES: usize = 32;
+
+/// The bytes of a step of four vectors.
+const STEP: usize = 128;
+
+/// The first place at which two slices of one length differ; their length where they are equal.
+pub fn first_difference(a: &[u8], b: &[u8]) -> usize
+    requires { length a.now ≡ length b.now }
+    ensures value { result ≡ lanes.first_difference a.now b.now }
+    ensures within { result ≤ length a.now }
+{
+    let mut at = 0;
+    while a.len() - at >= STEP && is_equal_step(a, b, at) {
+        at += STEP;
+    }
+    while a.len() - at >= LANES {
+        let same = first_lane(load(a, at), load(b, at));
+        at += same;
+        if same < LANES {
+            return at;
+        }
+    }
+    while at < a.len() && a[at] == b[at] {
+        at += 1;
+    }
+    at
+}
+
+/// Whether a step of two slices, from a place on, is equal.
+#[inline(always)]
+fn is_equal_step(a: &[u8], b: &[u8], at: usize) -> bool
+    requires first { at + STEP ≤ length a.now }
+    requires second { at + STEP ≤ length b.now }
+    ensures { IsTrue result ↔ AreAlike a.now b.now at 128 }
+{
+    let first = unlike(load(a, at), load(b, at));
+    let second = unlike(load(a, at + LANES), load(b, at + LANES));
+    let third = unlike(load(a, at + 2 * LANES), load(b, at + 2 * LANES));
+    let fourth = unlike(load(a, at + 3 * LANES), load(b, at + 3 * LANES));
+    are_zero(first, second, third, fourth)
+}
+
+/// Whether a step of a slice, from a place on, repeats a vector.
+#[inline(always)]
+fn is_repeated_step(bytes: &[u8], repeated: u8x32, at: usize) -> bool
+    requires { at + STEP ≤ length bytes.now }
+    ensures { IsTrue result ↔ AreRepeated bytes.now repeated at 128 }
+{
+    let first = unlike(load(bytes, at), repeated);
+    let second = unlike(load(bytes, at + LANES), repeated);
+    let third = unlike(load(bytes, at + 2 * LANES), repeated);
+    let fourth = unlike(load(bytes, at + 3 * LANES), repeated);
+    are_zero(first, second, third, fourth)
+}
+
+/// The bytes of a slice from a place on.
+#[inline(always)]
+fn load(bytes: &[u8], at: usize) -> u8x32
+    requires { at + LANES ≤ length bytes.now }
+    ensures { result ≡ slice_range bytes.now at (at + 32) }
+{
+    u8x32::from_slice(&bytes[at..at + LANES])
+}
+
+/// The bits of two vectors that differ.
+#[inline(always)]
+fn unlike(a: u8x32, b: u8x32) -> u8x32
+    ensures { AreZero result ↔ (a ≡ b) }
+{
+    a ^ b
+}
+
+/// The bits that are set in one of two vectors.
+#[inline(always)]
+fn either(a: u8x32, b: u8x32) -> u8x32
+    ensures { AreZero result ↔ (AreZero a × AreZero b) }
+{
+    a | b
+}
+
+/// Whether no bit is set in four vectors, by one test.
+#[inline(always)]
+fn are_zero(first: u8x32, second: u8x32, third: u8x32, fourth: u8x32) -> bool
+    ensures { IsTrue result ↔ (AreZero first × AreZero second × AreZero third × AreZero fourth) }
+{
+    is_zero(either(either(first, second), either(third, fourth)))
+}
+
+/// Whether no bit is set.
+#[inline(always)]
+fn is_zero(lanes: u8x32) -> bool
+    ensures { IsTrue result ↔ AreZero lanes }
+{
+    lanes.simd_ne(u8x32::splat(0)).to_bitmask() == 0
+}
+
+/// The first lane in which two vectors differ; 32 where they are equal.
+#[inline(always)]
+fn first_lane(a: u8x32, b: u8x32) -> usize
+    ensures value { result ≡ lanes.first_difference a b }
+    ensures within { result ≤ 32 }
+{
+    let unequal = a.simd_ne(b).to_bitmask();
+    if unequal == 0 {
+        LANES
+    } else {
+        unequal.trailing_zeros() as usize
+    }
+}
+
+/// The first place at which a slice differs from the 8 bytes of a pattern, low byte first, repeated from its byte
+/// `from` mod 8 on; the slice's length where there is none.
+pub fn first_unlike(bytes: &[u8], pattern: u64, from: u32) -> usize
+    ensures value { result ≡ lanes.first_unlike bytes.now pattern from }
+    ensures within { result ≤ length bytes.now }
+{
+    let repeated = repeated_from(pattern, from);
+    let mut at = 0;
+    while bytes.len() - at >= STEP && is_repeated_step(bytes, repeated, at) {
+        at += STEP;
+    }
+    while bytes.len() - at >= LANES {
+        let same = first_lane(load(bytes, at), repeated);
+        at += same;
+        if same < LANES {
+            return at;
+        }
+    }
+    let front = repeated.to_array();
+    while at < bytes.len() && bytes[at] == front[at % LANES] {
+        at += 1;
+    }
+    at
+}
+
+/// The bytes of a pattern, low byte first, repeated from its byte `from` mod 8 on.
+#[inline(always)]
+fn repeated_from(pattern: u64, from: u32) -> u8x32
+    ensures { (i : ℕ) → i < 32 → slice_index result i ≡ pattern_byte pattern (from + i) }
+{
+    u64x4::splat(turned(pattern, from)).to_le_bytes()
+}
+
+/// A pattern whose byte `from` mod 8 comes first.
+#[inline(always)]
+fn turned(pattern: u64, from: u32) -> u64
+    ensures { result ≡ step.turned pattern from }
+{
+    pattern.rotate_right(8 * (from % 8))
+}

@@ -1,0 +1,151 @@
+//! Compares against what each byte alone says, and worked rows at chunks of several sizes.
+use super::{PLACES, STAGING, expect_pieces, piece_of, read_fault};
+use crate::Found;
+use dml_arena::Arena;
+use dml_desc::check;
+use dml_image::{Image, ImageError};
+use dml_types::Job;
+use std::alloc::Global;
+use std::process::Abort;
+use std::test::Fail;
+
+const PATTERN: u64 = 0x0807_0605_0403_0201;
+
+/// An image whose present pages hold one byte everywhere, but another one at some places.
+fn image_but(
+    alloc: Global,
+    pages: &[u32],
+    byte: u8,
+    unlike: &[u64],
+) -> Result<Image<'static>, ImageError> {
+    let mut image = Image::new(alloc, 5)?;
+    for page in pages {
+        let mut bytes = [byte; 4096];
+        for place in unlike {
+            if *place / 4096 == u64::from(*page) {
+                bytes[*place as usize % 4096] = !byte;
+            }
+        }
+        image.bring(*page, &bytes)?;
+    }
+    Ok(image)
+}
+
+#[test]
+fn compares_by_bytes(rt: HostRuntime) -> Result<(), Fail> {
+    let image = image_but(rt.alloc(), &[0, 1, 3], 0x5a, &[40, 4095, 12_300, 16_383])?;
+    let mut arena = Arena::new(rt.alloc(), STAGING)?;
+    for source in PLACES {
+        for target in PLACES {
+            for size in [0, 1, 11, 37, 300] {
+                let job = Job::compare(source, target, size);
+                expect_pieces(&rt, &image, &mut arena, &job);
+            }
+        }
+    }
+    Ok(())
+}
+
+#[test]
+fn pattern_compares_by_bytes(rt: HostRuntime) -> Result<(), Fail> {
+    let image = image_but(rt.alloc(), &[0, 1, 3], 0x5a, &[40, 4095, 12_300, 16_383])?;
+    let mut arena = Arena::new(rt.alloc(), STAGING)?;
+    for source in PLACES {
+        for size in [0, 1, 11, 37, 300, 8200] {
+            for pattern in [0x5a5a_5a5a_5a5a_5a5a, 0x5a5a_5aa5_5a5a_5a5a] {
+                let job = Job::compare_pattern(source, pattern, size);
+                expect_pieces(&rt, &image, &mut arena, &job);
+            }
+        }
+    }
+    Ok(())
+}
+
+/// How a job ends that is cut in chunks of one size: the first stop of a chunk, counted from the job's start.
+fn stop_of_chunks(
+    rt: &impl Abort,
+    image: &Image,
+    arena: &mut Arena,
+    job: &Job,
+    chunk: u32,
+) -> Found {
+    assert!(rt; chunk > 0);
+    let checked = check(job, STAGING).expect(rt, "an accepted job");
+    for from in 0..job.size {
+        if from % chunk == 0 {
+            let to = from.saturating_add(chunk).min(job.size);
+            match piece_of(rt, image, &checked, (from, to), arena.open()).found {
+                Found::All => (),
+                Found::Differs { done } => {
+                    return Found::Differs {
+                        done: from.saturating_add(done),
+                    };
+                }
+                Found::Fault { done, place, write } => {
+                    return Found::Fault {
+                        done: from.saturating_add(done),
+                        place,
+                        write,
+                    };
+                }
+            }
+        }
+    }
+    Found::All
+}
+
+fn expect_stop(rt: &impl Abort, image: &Image, arena: &mut Arena, job: &Job, want: Found) {
+    for chunk in [8, 16, 32, 4096, 8192, 16_384] {
+        let found = stop_of_chunks(rt, image, arena, job, chunk);
+        assert_eq!(rt; found, want, "{job:?} in chunks of {chunk}");
+    }
+}
+
+#[test]
+fn mismatch_before_fault(rt: HostRuntime) -> Result<(), Fail> {
+    let image = image_but(rt.alloc(), &[0, 2], 0, &[4095])?;
+    let mut arena = Arena::new(rt.alloc(), STAGING)?;
+    let job = Job::compare(0, 8192, 8192);
+    expect_stop(&rt, &image, &mut arena, &job, Found::Differs { done: 4095 });
+    Ok(())
+}
+
+#[test]
+fn compare_stops_at_page_edge(rt: HostRuntime) -> Result<(), Fail> {
+    let image = image_but(rt.alloc(), &[0, 2, 3], 0, &[13_192])?;
+    let mut arena = Arena::new(rt.alloc(), STAGING)?;
+    let job = Job::compare(0, 8192, 8192);
+    expect_stop(&rt, &image, &mut arena, &job, read_fault(4096, 4096));
+    let job = Job::compare(8192, 0, 8192);
+    expect_stop(&rt, &image, &mut arena, &job, read_fault(4096, 4096));
+    Ok(())
+}
+
+#[test]
+fn first_range_is_read_first(rt: HostRuntime) -> Result<(), Fail> {
+    let image = image_but(rt.alloc(), &[0, 2], 0, &[])?;
+    let mut arena = Arena::new(rt.alloc(), STAGING)?;
+    let job = Job::compare(8192, 0, 8192);
+    expect_stop(&rt, &image, &mut arena, &job, read_fault(4096, 12_288));
+    Ok(())
+}
+
+#[test]
+fn pattern_expected(rt: HostRuntime) -> Result<(), Fail> {
+    let mut image = Image::new(rt.alloc(), 1)?;
+    let mut page = [0; 4096];
+    page[..11].copy_from_slice(&[1, 2, 3, 4, 5, 6, 7, 8, 1, 2, 3]);
+    image.bring(0, &page)?;
+    let mut arena = Arena::new(rt.alloc(), STAGING)?;
+    let equal = Job::compare_pattern(0, PATTERN, 11);
+    expect_stop(&rt, &image, &mut arena, &equal, Found::All);
+    let unequal = Job::compare_pattern(0, PATTERN, 12);
+    expect_stop(
+        &rt,
+        &image,
+        &mut arena,
+        &unequal,
+        Found::Differs { done: 11 },
+    );
+    Ok(())
+}

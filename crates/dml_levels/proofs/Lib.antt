@@ -1,0 +1,11 @@
+pub mod TouchedLemmas
+pub mod TaskLemmas
+pub mod HullLemmas
+pub mod FrameLemmas
+pub mod FrameLaws
+pub mod DeltaFrames
+pub mod CommuteLemmas
+pub mod LawLemmas
+pub mod FillingLemmas
+pub mod TestLemmas
+pub mod WaveFacts

@@ -1,0 +1,65 @@
+use Rattle.std.proofs.Common.{◌≡◌, ◌+◌, ◌-◌, ◌<◌, [], ◌++◌, length, Result, Ok, Err, OnOk, ap, subst, sym, ◌∙◌, arith, All, ⊎_elim}
+use Rattle.dml_order.specs.Waves.{cut_behind, places_from}
+use Rattle.dml_order.proofs.WaveSteps.{places_here, places_past, places_end}
+use Rattle.dml_levels.specs.Waves.{fits_wave, IsFilling, IsSmall}
+use Rattle.dml_levels.proofs.FillingLemmas.{small_push}
+use Rattle.dml_levels.proofs.waving.cut_level.Goals as goal
+use Rattle.dml_levels.proofs.waving.cut_level.Goals.{then-from-level+in_ok-take, else-from-level}
+
+pub loop-place-preserved : goal.loop-place-preserved
+loop-place-preserved c =
+    let jobs = c.args.jobs.now in
+    let fits = fits_wave jobs c.args.staging c.args.chunk in
+    let levels = c.args.levels.now in
+    let place = c.loop-place.place in
+    let below : place < length levels = omega arith in
+    let rest = places_from levels c.args.level (place + 1) (length levels - (place + 1)) in
+    let old = c.loop-place in
+    elim c.if-from-level.branch [
+      | then-from-level+in_ok-take w ↦
+          let here = places_here levels c.args.level place below (sym c.from.ensures ∙ w.if-from-level.true) in (
+            ap (λ list. list.items ++ cut_behind fits c.if-from-level.filling.list.items rest) w.waves-is
+                ∙ (ap (λ filling. w.take.new.waves.items ++ cut_behind fits filling.list.items rest) w.filling-is
+                ∙ (w.in_ok-take.ensures.cut rest
+                ∙ (ap (λ places. old.waves.items ++ cut_behind fits old.filling.list.items places) (sym here) ∙ old.invariant.0))),
+            subst (IsFilling jobs c.args.staging c.args.chunk) (sym w.filling-is) w.in_ok-take.ensures.filling,
+            subst (λ list. All (IsSmall jobs c.args.staging c.args.chunk) list.items) (sym w.waves-is) (w.in_ok-take.ensures.small old.invariant.2),
+          )
+      | else-from-level w ↦
+          let past = places_past levels c.args.level place below (λ same. w.if-from-level.false (c.from.ensures ∙ same)) in (
+            ap (λ list. list.items ++ cut_behind fits c.if-from-level.filling.list.items rest) w.waves-is
+                ∙ (ap (λ filling. old.waves.items ++ cut_behind fits filling.list.items rest) w.filling-is
+                ∙ (ap (λ places. old.waves.items ++ cut_behind fits old.filling.list.items places) (sym past) ∙ old.invariant.0)),
+            subst (IsFilling jobs c.args.staging c.args.chunk) (sym w.filling-is) old.invariant.1,
+            subst (λ list. All (IsSmall jobs c.args.staging c.args.chunk) list.items) (sym w.waves-is) old.invariant.2,
+          )
+    ]
+
+where_ok : {T E : Type 0} (r : Result T E) (P Q : Type 0) → (P → Q) → OnOk r P → OnOk r Q
+where_ok (Ok x) P Q f p = f p
+where_ok (Err e) P Q f p = p
+
+pub returns-clause-cut : goal.returns-clause-cut
+returns-clause-cut c =
+    let fits = fits_wave c.args.jobs.now c.args.staging c.args.chunk in
+    let levels = c.args.levels.now in
+    let old = c.loop-place in
+    let ended : old.place ≡ length levels = omega arith in
+    let none : places_from levels c.args.level old.place (length levels - old.place) ≡ [] =
+    ap (λ place. places_from levels c.args.level place (length levels - place)) ended ∙ places_end levels c.args.level in
+    where_ok c.finish.result _ _
+    (λ last.
+    last fits
+    ∙ (ap (λ places. old.waves.items ++ cut_behind fits old.filling.list.items places) (sym none) ∙ old.invariant.0))
+    c.finish.ensures.cut
+
+pub returns-clause-fit : goal.returns-clause-fit
+returns-clause-fit c =
+    let jobs = c.args.jobs.now in
+    let old = c.loop-place in
+    where_ok c.finish.result _ _
+    (λ pushed.
+    ⊎_elim (λ same. subst (All (IsSmall jobs c.args.staging c.args.chunk)) (sym same) old.invariant.2)
+    (λ more. subst (All (IsSmall jobs c.args.staging c.args.chunk)) (sym more) (small_push jobs c.args.staging c.args.chunk old.waves.items old.filling old.invariant.1 old.invariant.2))
+    pushed)
+    c.finish.ensures.pushed

@@ -1,0 +1,25 @@
+ghost use Rattle.dml_levels.specs.Laws.{AnyOrder, ClashesWithoutRefusedHold, FrontThenLeft, JobsCommute, OwnClashesHold, WavesInOrder, WavesThenLeft};
+
+/// The law of conflicts: two jobs that do not conflict give the same image and the same two records in either order.
+/// What a refused job names does not count. Places of a list that do not clash hold such jobs, also where a no-op
+/// stands for each refused one.
+pub fn law_of_conflicts()
+    ensures commute { JobsCommute }
+    ensures own_clashes { OwnClashesHold }
+    ensures without_refused { ClashesWithoutRefusedHold }
+{}
+
+/// The law of order, for any clashes of places that hold the conflicts of a list: each order in which no job goes
+/// before an earlier one that clashes with it gives the image and the records of the list, as does the front of such
+/// an order followed by the jobs that are left, in list order.
+pub fn law_of_order()
+    ensures any_order { AnyOrder }
+    ensures front_then_left { FrontThenLeft }
+{}
+
+/// The law of waves: in their order they give the image and the records of the list, as do the first of them,
+/// followed by the jobs that are left, in list order. What fits into a wave is of no account.
+pub fn law_of_waves()
+    ensures in_order { WavesInOrder }
+    ensures then_left { WavesThenLeft }
+{}

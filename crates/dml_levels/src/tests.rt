@@ -1,0 +1,177 @@
+ghost use Rattle.std.specs.Prelude.{◌≤◌, All, IfSome};
+ghost use Rattle.dml_types.specs.Refusal.{need};
+
+use crate::{LevelError, conflict, levels, task_count, touches, waves};
+use dml_desc::{Checked, check};
+use dml_types::{Job, Span, Status};
+use std::alloc::Global;
+use std::process::Abort;
+use std::test::Fail;
+
+/// The staging size of a run without options.
+const STAGING: u32 = 1_048_576;
+
+/// The jobs of a table, checked; none where one is refused or memory is wanting.
+fn checked(alloc: Global, staging: u32, jobs: &[Job]) -> Option<Vec<Checked>>
+    ensures { IfSome result (λ list. All (λ job. need job ≤ staging) list.items) }
+{
+    let mut list = Vec::with_capacity(alloc, jobs.len()).ok()?;
+    for job in jobs {
+        list.push(check(job, staging).ok()?).ok()?;
+    }
+    Some(list)
+}
+
+/// Two fills and two moves, of which the moves read what the fills write, and the last writes what the first reads.
+fn four_jobs() -> [Job; 4] {
+    [
+        Job::fill(1, 0, 8),
+        Job::move_bytes(0, 64, 8),
+        Job::fill(2, 512, 8),
+        Job::move_bytes(512, 0, 8),
+    ]
+}
+
+/// Checks the levels of a list of jobs.
+fn expect_levels(rt: &impl Abort, alloc: Global, jobs: &[Job], want: &[u32]) -> Option<()> {
+    let jobs = checked(alloc, STAGING, jobs)?;
+    assert!(rt; jobs.len() <= 1024);
+    let list = levels(alloc, jobs.as_slice()).ok()?;
+    assert_eq!(rt; list.as_slice(), want);
+    Some(())
+}
+
+#[test]
+fn conflict_chain(rt: HostRuntime) -> Result<(), Fail> {
+    let jobs = [
+        Job::move_bytes(0, 64, 16),
+        Job::move_bytes(64, 128, 16),
+        Job::fill(0xffff_ffff_ffff_ffff, 0, 16),
+    ];
+    expect_levels(&rt, rt.alloc(), &jobs, &[0, 1, 1]).ok_or("no memory")?;
+    Ok(())
+}
+
+#[test]
+fn levels_of_four_jobs(rt: HostRuntime) -> Result<(), Fail> {
+    expect_levels(&rt, rt.alloc(), &four_jobs(), &[0, 1, 0, 2]).ok_or("no memory")?;
+    Ok(())
+}
+
+#[test]
+fn chunk_task_counts(rt: HostRuntime) -> Result<(), Fail> {
+    let rows = [
+        (Job::move_bytes(0, 4096, 100), 8, 13),
+        (Job::create_delta(0, 64, 32, 128, 20), 16, 2),
+        (Job::apply_delta(0, 30, 256, 32), 16, 2),
+        (Job::fill(1, 0, 0), 8, 0),
+        (Job::no_op(), 8, 0),
+        (Job::move_bytes(0, 0, 1_048_576), 8, 131_072),
+    ];
+    for (job, chunk, want) in rows {
+        let job = check(&job, STAGING).map_err(|_| "refused")?;
+        assert!(rt; chunk >= 8 && chunk <= 1_048_576 && chunk % 8 == 0);
+        assert_eq!(rt; task_count(&job, chunk), want);
+    }
+    Ok(())
+}
+
+#[test]
+fn touched_ranges(rt: HostRuntime) -> Result<(), Fail> {
+    let job = check(&Job::dualcast(0, 4096, 8192, 100), STAGING).map_err(|_| "refused")?;
+    let touched = touches(&job);
+    let span = |start| Span { start, len: 100 };
+    assert_eq!(rt; touched.reads.list.as_slice(), [span(0)].as_slice());
+    assert_eq!(rt;
+        touched.writes.list.as_slice(),
+        [span(4096), span(8192)].as_slice()
+    );
+    Ok(())
+}
+
+#[test]
+fn conflicts(rt: HostRuntime) -> Result<(), Fail> {
+    let rows = [
+        (Job::compare(0, 64, 8), Job::compare(0, 64, 8), false),
+        (Job::compare(0, 64, 8), Job::fill(1, 71, 1), true),
+        (Job::compare(0, 64, 8), Job::fill(1, 72, 1), false),
+        (Job::fill(1, 8, 8), Job::move_bytes(0, 64, 9), true),
+        (Job::fill(1, 8, 8), Job::fill(2, 12, 0), false),
+        (Job::fill(1, 8, 8), Job::no_op(), false),
+    ];
+    for (a, b, want) in rows {
+        let first = check(&a, STAGING).map_err(|_| "refused")?;
+        let second = check(&b, STAGING).map_err(|_| "refused")?;
+        assert_eq!(rt; conflict(&first, &second), want, "{a:?} and {b:?}");
+        assert_eq!(rt; conflict(&second, &first), want, "{b:?} and {a:?}");
+    }
+    Ok(())
+}
+
+/// Two moves that need all the staging there is.
+fn two_moves(alloc: Global) -> Option<Vec<Checked>>
+    ensures { IfSome result (λ list. All (λ job. need job ≤ 64) list.items) }
+{
+    let jobs = [Job::move_bytes(0, 256, 64), Job::move_bytes(0, 1024, 64)];
+    checked(alloc, 64, &jobs)
+}
+
+/// Checks that two jobs of one level, which need 64 bytes of staging each, are two waves; or memory is wanting.
+fn expect_two_waves(rt: &impl Abort, alloc: Global, jobs: &[Checked]) -> Result<(), LevelError>
+    requires { All (λ job. need job ≤ 64) jobs.now }
+{
+    assert!(rt; jobs.len() <= 1024);
+    let found = levels(alloc, jobs)?;
+    assert_eq!(rt; found.as_slice(), [0, 0].as_slice());
+    let list = waves(alloc, jobs, found.as_slice(), 64, 4096)?;
+    assert_eq!(rt; list.len(), 2);
+    for (wave, place) in list.iter().zip(0..2) {
+        assert_eq!(rt; wave.list.as_slice(), [place].as_slice());
+    }
+    Ok(())
+}
+
+#[test]
+fn staging_refusal_and_two_waves(rt: HostRuntime) -> Result<(), Fail> {
+    let refused = check(&Job::move_bytes(0, 512, 65), 64);
+    assert!(rt; refused == Err(Status::StagingRefused));
+    let jobs = two_moves(rt.alloc()).ok_or("no memory")?;
+    expect_two_waves(&rt, rt.alloc(), jobs.as_slice())?;
+    Ok(())
+}
+
+/// What is made before the call of `refused_levels`.
+#[test]
+fn set_up_of_levels(rt: HostRuntime) {
+    let _ = checked(rt.alloc(), STAGING, &four_jobs());
+}
+
+/// To be run with each growth of memory refused in turn: the right levels, or want of memory.
+#[test]
+fn refused_levels(rt: HostRuntime) {
+    let Some(jobs) = checked(rt.alloc(), STAGING, &four_jobs()) else {
+        return;
+    };
+    assert!(rt; jobs.len() <= 1024);
+    match levels(rt.alloc(), jobs.as_slice()) {
+        Ok(list) => assert_eq!(rt; list.as_slice(), [0, 1, 0, 2].as_slice()),
+        Err(error) => assert_eq!(rt; error, LevelError::NoMemory),
+    }
+}
+
+/// What is made before the calls of `refused_waves`.
+#[test]
+fn set_up_of_waves(rt: HostRuntime) {
+    let _ = two_moves(rt.alloc());
+}
+
+/// To be run with each growth of memory refused in turn: the right waves, or want of memory.
+#[test]
+fn refused_waves(rt: HostRuntime) {
+    let Some(jobs) = two_moves(rt.alloc()) else {
+        return;
+    };
+    if let Err(error) = expect_two_waves(&rt, rt.alloc(), jobs.as_slice()) {
+        assert_eq!(rt; error, LevelError::NoMemory);
+    }
+}

@@ -1,0 +1,104 @@
+ghost use Rattle.std.specs.Prelude.{◌≡◌, ◌^◌, ◌≤◌, ◌++◌, All, IfOk, OnOk, length};
+ghost use Rattle.dml_types.specs.Refusal.{need};
+ghost use Rattle.dml_types.specs.Conflict as table;
+ghost use Rattle.dml_order.specs.Order.{IsOrder};
+ghost use Rattle.dml_order.specs.Waves.{AreFull, IsOfOneLevel, Rises, depth, joined, waves_at};
+ghost use Rattle.dml_levels.specs.Tasks.{IsChunk};
+ghost use Rattle.dml_levels.specs.Waves.{IsSmall, fits_wave};
+ghost use Rattle.dml_levels.specs.Waves as word;
+
+use crate::errors::LevelError;
+use crate::filling::{Filling, Wave};
+use dml_desc::Checked;
+use std::alloc::{AllocError, Global};
+
+/// The waves of a list of jobs, level by level and in list order inside a level: a wave takes jobs as long as they
+/// need at most `staging` bytes of staging together and have at most 131,072 chunks of `chunk` bytes.
+///
+/// # Errors
+/// `NoMemory` where there is no room for the lists.
+pub fn waves(
+    alloc: Global,
+    jobs: &[Checked],
+    levels: &[u32],
+    staging: u32,
+    chunk: u32,
+) -> Result<Vec<Wave>, LevelError>
+    requires few { length jobs.now ≤ 2 ^ 32 }
+    requires needs { All (λ job. need job ≤ staging) jobs.now }
+    requires levels { levels.now ≡ table.levels jobs.now }
+    requires chunk { IsChunk chunk }
+    ensures cut { IfOk result (λ list. list.items ≡ word.waves jobs.now levels.now staging chunk) }
+
+    // In the subject's own words.
+    ensures each_once { IfOk result (λ list. IsOrder (table.clash_of jobs.now) (length jobs.now) (joined list.items)) }
+    ensures level_by_level { IfOk result (λ list. Rises levels.now (joined list.items)) }
+    ensures one_level { IfOk result (λ list. All (IsOfOneLevel levels.now) list.items) }
+    ensures fit { IfOk result (λ list. All (IsSmall jobs.now staging chunk) list.items) }
+    ensures full { IfOk result (λ list. AreFull (fits_wave jobs.now staging chunk) levels.now list.items) }
+{
+    match find_waves(alloc, jobs, levels, staging, chunk) {
+        Ok(waves) => Ok(waves),
+        Err(_) => Err(LevelError::NoMemory),
+    }
+}
+
+/// The waves, or want of memory.
+fn find_waves(
+    alloc: Global,
+    jobs: &[Checked],
+    levels: &[u32],
+    staging: u32,
+    chunk: u32,
+) -> Result<Vec<Wave>, AllocError>
+    requires few { length jobs.now ≤ 2 ^ 32 }
+    requires needs { All (λ job. need job ≤ staging) jobs.now }
+    requires levels { length levels.now ≡ length jobs.now }
+    requires chunk { IsChunk chunk }
+    ensures cut { IfOk result (λ list. list.items ≡ word.waves jobs.now levels.now staging chunk) }
+    ensures fit { IfOk result (λ list. All (IsSmall jobs.now staging chunk) list.items) }
+{
+    let mut waves = Vec::new(alloc);
+    for level in 0..depth(levels) {
+        cut_level(alloc, jobs, levels, level, staging, chunk, &mut waves)?;
+    }
+    Ok(waves)
+}
+
+/// How many levels there are.
+fn depth(levels: &[u32]) -> u64
+    ensures { result ≡ depth levels.now }
+{
+    let mut depth = 0;
+    for level in levels {
+        depth = depth.max(u64::from(*level) + 1);
+    }
+    depth
+}
+
+/// Appends the waves of a level.
+fn cut_level(
+    alloc: Global,
+    jobs: &[Checked],
+    levels: &[u32],
+    level: u64,
+    staging: u32,
+    chunk: u32,
+    waves: &mut Vec<Wave>,
+) -> Result<(), AllocError>
+    requires few { length jobs.now ≤ 2 ^ 32 }
+    requires needs { All (λ job. need job ≤ staging) jobs.now }
+    requires levels { length levels.now ≡ length jobs.now }
+    requires chunk { IsChunk chunk }
+    requires fit { All (IsSmall jobs.now staging chunk) waves.old.items }
+    ensures cut { OnOk result (waves.new.items ≡ waves.old.items ++ waves_at (fits_wave jobs.now staging chunk) levels.now level) }
+    ensures fit { OnOk result (All (IsSmall jobs.now staging chunk) waves.new.items) }
+{
+    let mut filling = Filling::new(alloc);
+    for place in 0..levels.len() {
+        if u64::from(levels[place]) == level {
+            filling.take(alloc, jobs, place as u32, staging, chunk, waves)?;
+        }
+    }
+    filling.finish(waves)
+}

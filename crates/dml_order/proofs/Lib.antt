@@ -1,0 +1,7 @@
+pub mod OrderLemmas
+pub mod KeepsLemmas
+pub mod OrderLaws
+pub mod LevelLemmas
+pub mod WaveLemmas
+pub mod WaveSteps
+pub mod WaveFacts

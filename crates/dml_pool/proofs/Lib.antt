@@ -1,0 +1,4 @@
+pub mod Keeps
+pub mod Orders
+pub mod Totals
+pub mod Works

@@ -1,0 +1,13 @@
+use Rattle.std.proofs.Common.{◌≡◌}
+use Rattle.crossbeam_deque.specs.Handles.{view, IsPassOf, stealer_deque}
+use Rattle.dml_pool.specs.Rule.{Accounts}
+use Rattle.dml_pool.proofs.worker.work.Given as goal
+
+abbrev pub invariant-loop : goal.invariant-loop
+invariant-loop g l =
+    record {
+      table : IsPassOf (stealer_deque l.fn.post.thief.now) l.place;
+      tasks : (view l.place).tasks ≡ (view l.fn.post.place).tasks;
+      parts : (view l.place).parts ≡ (view l.fn.post.place).parts;
+      so_far : Accounts l.image (view l.place) l.done.items;
+    }

@@ -1,0 +1,4 @@
+pub mod Numbers
+pub mod Rule
+pub mod Slots
+pub mod Tasks

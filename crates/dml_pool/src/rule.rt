@@ -1,0 +1,101 @@
+//! The deque of a wave, and the rule that it keeps.
+
+use crate::Task;
+use crossbeam_deque::protocol::{Join, Outcome, Protocol, Split};
+use crossbeam_deque::{Pass, Stealer, Worker};
+use std::alloc::Global;
+use std::collections::LinkedList;
+
+/// A task with its place in the wave's list.
+#[derive(Drop)]
+pub struct Numbered<'a> {
+    pub number: u32,
+    pub task: Task<'a>,
+}
+
+/// What a pass of the deque knows: the tasks pushed so far, how many parts it has of the right to know the whole, and
+/// the numbers of the tasks that it took. No value of it is made.
+pub struct Hand<'a> {
+    pub tasks: LinkedList<Task<'a>>,
+    pub parts: u64,
+    pub taken: LinkedList<u32>,
+}
+
+/// The rule: each task is in the deque or was taken, once.
+pub struct Wave;
+
+impl<'a> Protocol<Numbered<'a>, Hand<'a>> for Wave {
+    ghost use Rattle.std.specs.Prelude.{[]};
+    ghost use Rattle.dml_pool.specs.Rule.{Kept, hand, all_parts};
+
+    ghost holds = { Kept };
+
+    ghost first = { hand [] all_parts [] };
+
+    ghost guest = { hand [] 0 [] };
+}
+
+/// A push before the start.
+pub struct Pushed;
+
+impl<'a> Outcome<Numbered<'a>, Hand<'a>> for Pushed {
+    ghost use Rattle.std.specs.Prelude.{◌≡◌, ◌++◌, map};
+    ghost use Rattle.dml_pool.specs.Rule.{hand};
+
+    ghost then = { λ v items w. w ≡ hand (v.tasks ++ map (λ item. item.task) items) v.parts v.taken };
+}
+
+/// A steal: one that takes, and one that finds the deque empty.
+pub struct Taken;
+
+impl<'a> Outcome<Numbered<'a>, Hand<'a>> for Taken {
+    ghost use Rattle.std.specs.Prelude.{◌≡◌, ◌++◌};
+    ghost use Rattle.std.specs.List.{All};
+    ghost use Rattle.dml_pool.specs.Rule.{hand, numbers_of, IsOf, HasTakenAll};
+
+    ghost then = { λ v items w. (w ≡ hand v.tasks v.parts (v.taken ++ numbers_of items)) × All (IsOf v.tasks) items };
+
+    ghost empty = { HasTakenAll };
+}
+
+/// A pass with one part, split off for a worker, and joined again.
+pub struct Part;
+
+impl<'a> Split<Hand<'a>> for Part {
+    ghost use Rattle.std.specs.Prelude.{◌-◌, []};
+    ghost use Rattle.dml_pool.specs.Rule.{hand};
+
+    ghost left = { λ v. hand v.tasks (v.parts - 1) v.taken };
+
+    ghost right = { λ v. hand v.tasks 1 [] };
+}
+
+impl<'a> Join<Hand<'a>> for Part {
+    ghost use Rattle.std.specs.Prelude.{◌+◌, ◌++◌, []};
+    ghost use Rattle.dml_pool.specs.Rule.{hand};
+
+    ghost both = { λ v w. hand v.tasks (v.parts + w.parts) (v.taken ++ w.taken) };
+
+    ghost spent = { hand [] 0 [] };
+}
+
+/// A pass with all that the owner knew, split off for the last look.
+pub struct Whole;
+
+impl<'a> Split<Hand<'a>> for Whole {
+    ghost use Rattle.std.specs.Prelude.{[]};
+    ghost use Rattle.dml_pool.specs.Rule.{hand};
+
+    ghost left = { λ v. hand [] 0 [] };
+
+    ghost right = { λ v. v };
+}
+
+/// The end that pushes.
+pub type Owner<'a> = Worker<Numbered<'a>, Global, Hand<'a>, Wave>;
+
+/// The end that steals.
+pub type Thief<'a> = Stealer<Numbered<'a>, Global, Hand<'a>, Wave>;
+
+/// What one thread knows of the deque.
+pub type Place<'a> = Pass<Numbered<'a>, Hand<'a>>;

@@ -55,19 +55,25 @@ awk '
     }
     function bar(text, value, most) {
         if (value > most) missed = 1
-        printf("%-40s %8.2f, at most %s: %s\n", text, value, most, (value > most) ? "missed" : "met")
+        printf("%-48s %8.2f, at most %s: %s\n", text, value, most, (value > most) ? "missed" : "met")
     }
     { times[$1, $2, $3] = $4; if ($1 > rounds) rounds = $1 }
     END {
-        printf "medians of %d rounds\n%-10s %9s %12s %10s %10s %10s\n", rounds, "row", "bytes", "ns", "memmove", "staged", "words"
-        names = split("move move_down move_up fill dualcast memmove staged words", name)
+        printf "medians of %d rounds\n%-24s %9s %12s %10s %10s %10s\n", rounds, "row", "bytes", "ns", "memmove", "staged", "words"
+        names = split("move move_down move_up fill dualcast image_move image_move_unaligned image_move_down image_move_up " \
+            "image_move_up_unaligned image_fill memmove staged words", name)
         sizes = split("64 4096 65536 1048576", size)
         for (n = 1; n <= names; n++)
             for (s = 1; s <= sizes; s++)
-                printf "%-10s %9d %12.1f %9.2fx %9.2fx %9.2fx\n", name[n], size[s], middle(name[n], size[s]), \
+                printf "%-24s %9d %12.1f %9.2fx %9.2fx %9.2fx\n", name[n], size[s], middle(name[n], size[s]), \
                     ratio(name[n], "memmove", size[s]), ratio(name[n], "staged", size[s]), ratio(name[n], "words", size[s])
         bar("move of 1 MiB, of two memcpy passes", ratio("move", "staged", 1048576), 1.3)
         bar("fill of 1 MiB, of the word loop", ratio("fill", "words", 1048576), 1.3)
         bar("move of 64 bytes, in nanoseconds", middle("move", 64), 250)
+        for (n = 6; n <= 10; n++)
+            bar(name[n] " of 1 MiB, of memmove", ratio(name[n], "memmove", 1048576), 1.25)
+        bar("image_fill of 1 MiB, of the word loop", ratio("image_fill", "words", 1048576), 1.1)
+        bar("a look at presence, in nanoseconds", middle("has_ps", 16777216) / 1000, 3)
+        bar("an image of absent pages, in nanoseconds", middle("image_new", 4096), 20000)
         exit missed
     }' "$work/times"

@@ -59,6 +59,12 @@ script 'image 1\npage 0\nfill 0 0 1048577\nnoop flags 0x10\nfill 0 0xfffffffffff
 job 1 status 11 result 0 completed 0 fault 0 delta 0
 job 2 status 7d result 0 completed 0 fault 0 delta 0
 job 3 status 83 result 0 completed 0 fault 18446744073709551608 delta 0\n' ''
+# No page of the largest image is present.
+script 'image 4096\nmove 0 8 16\nfill 1 0 8\nnoop\nshow 16777214 2\n' 0 \
+    'job 0 status 03 result 1 completed 0 fault 15 delta 0
+job 1 status 83 result 0 completed 0 fault 0 delta 0
+job 2 status 01 result 0 completed 0 fault 0 delta 0
+show 16777214 ----\n' ''
 for example in examples/*.script; do
     cp "$example" "$work/in"
     cp "${example%.script}.answer" "$work/answer" || failed=1
@@ -224,8 +230,8 @@ for words in help --help -h; do
     typed "$(cat examples/fill.answer)" $(sed -n '/^and type:$/,$s/^  dmljob \(.*\) < .*/\1/p' "$work/out")
 done
 for words in 'run --help' 'run -h' 'help run'; do
-    shows "$words" 'How many workers carry out jobs, 1 to 16 [default: 4]' \
-        'How many bytes one task covers, a multiple of 8 from 8 to 1048576 [default: 4096]' \
+    shows "$words" 'How many workers are to share the jobs, 1 to 16; so far one thread carries out all of them [default: 4]' \
+        'How many bytes one task is to cover, a multiple of 8 from 8 to 1048576; so far each job is one task [default: 4096]' \
         'How many bytes the staging arena has, 0 to 16777216 [default: 1048576]' 'fill PATTERN DST N ' 'show ADDR LEN '
     typed "$(cat examples/fill.answer)" $(sed -n 's/^  dmljob \(run .*\) < .*/\1/p' "$work/out")
 done

@@ -1,6 +1,6 @@
 #!/bin/sh
-# Refuses each growth of memory in turn, of the program and of each library's tests named refused_*, and looks at what is
-# answered. Works on the binaries that the gate leaves in crates/NAME/out; `check` calls it. Needs the GNU C library and
+# Refuses each growth of memory in turn, of the program and of each library's tests named refused_*, and looks at what
+# is answered. Works on the binaries that the gate leaves in crates/NAME/out; `check` calls it. Needs the GNU C library and
 # a C compiler (CC, or cc).
 #
 # The Nth growth is refused by tests/refuse.c, for N from 1 until a run meets no refusal. Then
@@ -8,8 +8,9 @@
 #   answer; or it does without, and answers as with ample memory;
 # - a test passes: it takes the call's right answer, or want of memory with nothing changed.
 #
-# Where a test has to make something before its call, a test set_up_of_NAME beside refused_NAME makes it alone. The growths
-# of that run come first in refused_NAME too; they are neither refused nor counted, so that each refusal meets the call.
+# Where a test has to make something before its call, a test set_up_of_NAME beside refused_NAME makes it alone. The
+# growths of that run come first in refused_NAME too; they are neither refused nor counted, so that each refusal meets
+# the call.
 cd "$(dirname "$0")/.." || exit 2
 work=$(mktemp -d) || exit 2
 trap 'rm -rf "$work"' EXIT
@@ -40,10 +41,11 @@ is_plain() { # STATUS: the last run is as the plain run was
 }
 
 # The tests whose calls take no memory, and then those whose calls do. Each has to be there.
-take_none='dml_image:refused_bring dml_engine:refused_submit'
-take_some='dml_arena:refused_new dml_image:refused_new dml_engine:refused_new dml_grammar:refused_read_script
-dml_script:refused_out_text dml_script:refused_job_text dml_script:refused_run_script dmljob:refused_command_of
-dmljob:refused_description'
+take_none='dml_image:refused_second_bring dml_engine:refused_submit'
+take_some='dml_arena:refused_new dml_image:refused_new dml_image:refused_bring dml_engine:refused_new
+dml_grammar:refused_read_script dml_script:refused_out_text dml_script:refused_job_text
+dml_script:refused_run_script dmljob:refused_command_of dmljob:refused_description dml_levels:refused_levels
+dml_levels:refused_waves dml_pool:refused_run_wave dml_pool:refused_run_wave_of_three'
 
 # Each entry of a table says that it met at least one refusal, so that none is passed over; or that none can come.
 counted() { # NAME GROWTHS [CRATE:TEST]

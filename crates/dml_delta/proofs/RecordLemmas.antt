@@ -4,6 +4,7 @@ use Rattle.std.specs.Prelude.{find, option_map}
 use Rattle.std.proofs.lemmas.Bool.{cases_Bool, cases_eq, cases_lt, not-false, not-true, and_left, and_right, eq-eqb, ne_eqb, lt-ltb, le-ltb, le-leb, lt-leb, false_from_ne_true, false≢true}
 use Rattle.dml_types.specs.declared.jobs.Job.{Job}
 use Rattle.std.proofs.lemmas.List.{places, same_lists}
+use Rattle.dml_image.proofs.RangeLemmas.{bytes_at_append}
 use Rattle.dml_delta.specs.Bad.{bad_of}
 use Rattle.dml_delta.specs.declared.applies.BadEntry.{BadEntry}
 use Rattle.dml_types.specs.Memory.{IsWhole, bytes_at, Memory, has, has_all, present_bytes}
@@ -80,10 +81,6 @@ found_alike (Some bad) None x same = absurd (cc)
 pub none_found : (p : Option Fault) → is_some p ≡ false → p ≡ None
 none_found None none = refl
 none_found (Some fault) none = absurd (cc)
-
--- neighbours that are read one after another are read at once
-pub bytes_at_append : (memory : Memory) (address a b : ℕ) → address + (a + b) ≤ length memory.bytes → bytes_at memory address a ++ bytes_at memory (address + a) b ≡ bytes_at memory address (a + b)
-bytes_at_append memory address a b within = same_lists _ _ (search (rules, places)) (λ k d h. grind (arith, places))
 
 pub none_behind : (a n : ℕ) → eqb (a + n) a ≡ eqb n 0
 none_behind a n =

@@ -1,29 +1,12 @@
 -- Runs of whole blocks or entries, by runs of present bytes.
-use Rattle.std.proofs.Common.{◌≡◌, ℕ, ◌+◌, ◌-◌, ◌*◌, ◌/◌, ◌%◌, ◌<◌, ◌≤◌, min, Bool, true, false, not, ◌&&◌, List, length, sym, ◌∙◌, ap, ap₂, arith, ⊎_elim}
-use Rattle.std.proofs.lemmas.Bool.{false≢true, cases_lt, not-false, not-true, and_from, and_parts, and_left, and_right, false_from_ne_true, eq-eqb}
+use Rattle.std.proofs.Common.{◌≡◌, ℕ, ◌+◌, ◌-◌, ◌*◌, ◌/◌, ◌%◌, ◌<◌, ◌≤◌, min, true, false, not, List, length, sym, ◌∙◌, ap, ap₂, arith}
+use Rattle.std.proofs.lemmas.Bool.{false≢true, not-false, not-true, and_parts, false_from_ne_true, eq-eqb}
 use Rattle.dml_types.specs.declared.jobs.Job.{Job}
 use Rattle.dml_types.specs.Memory.{first, Memory, has, has_all, bytes_at, present_bytes}
 use Rattle.dml_types.specs.Delta.{readable_blocks, block_at, has_block, is_readable}
 use Rattle.dml_types.proofs.FirstLemmas.{first_le, first_is, first_agree, fails_before, passes_at}
 use Rattle.dml_types.proofs.MemoryLemmas.{has_all_at, has_all_from}
-
--- the first index at which one of two facts fails is the lesser of their own
-pub first_both : (n : ℕ) (p q : ℕ → Bool) → first n (λ i. not (p i && q i)) ≡ min (first n (λ i. not (p i))) (first n (λ i. not (q i)))
-first_both n p q =
-    let a = first n (λ i. not (p i)) in
-    let b = first n (λ i. not (q i)) in
-    first_is n (λ i. not (p i && q i)) (min a b) (omega (arith, first_le n (λ i. not (p i))))
-    (λ i before.
-    let left : p i ≡ true = not-false (p i) (fails_before n (λ j. not (p j)) i (omega arith)) in
-    let right : q i ≡ true = not-false (q i) (fails_before n (λ j. not (q j)) i (omega arith)) in
-    ap not (and_from (p i) (q i) left right))
-    (λ below. ⊎_elim (λ low.
-    let is : min a b ≡ a = omega arith in
-    ap (λ k. not (p k && q k)) is ∙ ap not (and_left (p a) (q a) (not-true (p a) (passes_at n (λ i. not (p i)) (omega arith)))))
-    (λ high.
-    let is : min a b ≡ b = omega arith in
-    ap (λ k. not (p k && q k)) is ∙ ap not (and_right (p b) (q b) (not-true (q b) (passes_at n (λ i. not (q i)) (omega arith)))))
-    (cases_lt a b))
+use Rattle.dml_image.proofs.RunLemmas.{first_both}
 
 -- units of w bytes: of n bytes from an address on, the first `run` are present, which are k whole units and no further one
 pub units_is : (memory : Memory) (address w count n k : ℕ) → k ≤ count → ((i : ℕ) → i < k → w * i + w ≤ present_bytes memory address n) → (k < count → (w * k ≤ present_bytes memory address n) × (present_bytes memory address n < w * k + w) × (present_bytes memory address n < n)) → first count (λ i. not (has_all memory (address + w * i) w)) ≡ k

@@ -1,5 +1,5 @@
--- A pattern repeated by words of 8 bytes and blocks of 32.
-use Rattle.std.proofs.Common.{◌≡◌, ℕ, ◌+◌, ◌-◌, ◌*◌, ◌/◌, ◌%◌, ◌<◌, ◌≤◌, List, [], ◌++◌, length, get_or, take, drop, refl, ap, sym, ◌∙◌, arith, ⊎_elim}
+-- A pattern repeated by words of 8 bytes.
+use Rattle.std.proofs.Common.{◌≡◌, ℕ, ◌+◌, ◌-◌, ◌*◌, ◌/◌, ◌%◌, ◌<◌, ◌≤◌, List, [], ◌∷◌, ◌++◌, length, get_or, take, drop, refl, ap, sym, ◌∙◌, arith, ⊎_elim}
 use Rattle.std.proofs.lemmas.Bool.{cases_lt}
 use Rattle.std.proofs.lemmas.List.{drop_all, length-append, length-drop, append-nil, get_or_append_left, get_or-append_right, same_lists}
 use Rattle.std.proofs.lemmas.List.FromFn.{length-map-range_with_len, get_or-map-range_with_len, take-map-range_with_len}
@@ -14,6 +14,11 @@ length_pattern_bytes pattern n = length-map-range_with_len (pattern_byte pattern
 pub pattern_bytes_none : (pattern : ℕ) → [] ≡ pattern_bytes pattern 0
 unfolding pattern_bytes
 pattern_bytes_none pattern = refl
+
+pub none_to_fill : (pattern : ℕ) (bytes : List ℕ) → length bytes ≤ 0 → bytes ≡ pattern_bytes pattern (length bytes)
+unfolding pattern_bytes
+none_to_fill pattern [] none = refl
+none_to_fill pattern (byte ∷ bytes) none = absurd (omega arith)
 
 get_or_pattern_bytes : (pattern n i : ℕ) (d : ℕ) → i < n → get_or (pattern_bytes pattern n) i d ≡ pattern_byte pattern i
 unfolding pattern_bytes
@@ -34,13 +39,10 @@ pattern_bytes_append pattern a b words =
     ∙ (ap (λ n. get_or (to_le_bytes w64 pattern) n 0) turned ∙ sym (get_or_pattern_bytes pattern (a + b) i d (omega arith)))))
     (cases_lt i a))
 
--- one word more, one block more
+-- one word more
 pub pattern_words_more : (pattern k : ℕ) → pattern_bytes pattern (8 * k) ++ to_le_bytes w64 pattern ≡ pattern_bytes pattern (8 * k + 8)
 unfolding pattern_bytes
 pattern_words_more pattern k = pattern_bytes_append pattern (8 * k) 8 (omega arith)
-
-pub pattern_blocks_more : (pattern k : ℕ) → pattern_bytes pattern (32 * k) ++ pattern_bytes pattern 32 ≡ pattern_bytes pattern (32 * k + 32)
-pattern_blocks_more pattern k = pattern_bytes_append pattern (32 * k) 32 (omega arith)
 
 take_pattern_bytes : (pattern n k : ℕ) → k ≤ n → take k (pattern_bytes pattern n) ≡ pattern_bytes pattern k
 unfolding pattern_bytes
@@ -51,12 +53,10 @@ pub word_front : (pattern n : ℕ) (word : List ℕ) → word ≡ to_le_bytes w6
 word_front pattern n word is within =
     ap (take n) (is ∙ (ap (λ (front : List ℕ). front ++ to_le_bytes w64 pattern) (pattern_bytes_none pattern) ∙ pattern_words_more pattern 0)) ∙ take_pattern_bytes pattern 8 n within
 
--- what the last copy, of a front of a block, leaves
-pub repeated : (target part block : List ℕ) (pattern k n : ℕ) → take (32 * k) target ≡ pattern_bytes pattern (32 * k) → length target ≡ n → k ≡ n / 32 → block ≡ pattern_bytes pattern 32 → part ≡ take (length target - 32 * (n / 32)) block → put_mid (32 * (n / 32)) (length target - 32 * (n / 32)) target part ≡ pattern_bytes pattern n
-repeated target part block pattern k n front long whole is done =
-    let rest : ℕ = n - 32 * (n / 32) in
-    let none : drop (length target - 32 * (n / 32)) (drop (32 * (n / 32)) target) ≡ [] = drop_all (length target - 32 * (n / 32)) (drop (32 * (n / 32)) target) (omega (arith, length-drop (32 * (n / 32)) target)) in
-    let before : take (32 * (n / 32)) target ≡ pattern_bytes pattern (32 * (n / 32)) = ap (λ k. take (32 * k) target) (sym whole) ∙ (front ∙ ap (λ k. pattern_bytes pattern (32 * k)) whole) in
-    let after : part ≡ pattern_bytes pattern rest = done ∙ (ap (λ n. take n block) (omega arith) ∙ (ap (take rest) is ∙ take_pattern_bytes pattern 32 rest (omega arith))) in
-    let end : 32 * (n / 32) + rest ≡ n = omega arith in
-    rw (none, append-nil, before, after) (pattern_bytes_append pattern (32 * (n / 32)) rest (omega arith) ∙ ap (pattern_bytes pattern) end)
+-- what whole words and then less than a word leave
+pub repeated : (target part : List ℕ) (pattern k n rest : ℕ) → take (8 * k) target ≡ pattern_bytes pattern (8 * k) → length target ≡ n → k ≡ n / 8 → part ≡ pattern_bytes pattern rest → rest ≡ length target - 8 * (n / 8) → put_mid (8 * (n / 8)) (length target - 8 * (n / 8)) target part ≡ pattern_bytes pattern n
+repeated target part pattern k n rest front long whole done is =
+    let none : drop (length target - 8 * (n / 8)) (drop (8 * (n / 8)) target) ≡ [] = drop_all (length target - 8 * (n / 8)) (drop (8 * (n / 8)) target) (omega (arith, length-drop (8 * (n / 8)) target)) in
+    let before : take (8 * (n / 8)) target ≡ pattern_bytes pattern (8 * (n / 8)) = ap (λ k. take (8 * k) target) (sym whole) ∙ (front ∙ ap (λ k. pattern_bytes pattern (8 * k)) whole) in
+    let end : 8 * (n / 8) + rest ≡ n = omega arith in
+    rw (none, append-nil, before, done) (pattern_bytes_append pattern (8 * (n / 8)) rest (omega arith) ∙ ap (pattern_bytes pattern) end)

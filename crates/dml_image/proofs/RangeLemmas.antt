@@ -54,3 +54,7 @@ read_more memory address done n buffer after part before here is next =
   where
     behind : (bytes : List ℕ) (address done n : ℕ) → slice_range bytes address (address + done) ++ slice_range bytes (address + done) (address + done + n) ≡ slice_range bytes address (address + (done + n))
     behind bytes address done n = same_lists _ _ (search (rules, places)) (λ k d h. grind (arith, places))
+
+-- neighbours that are read one after another are read at once
+pub bytes_at_append : (memory : Memory) (address a b : ℕ) → address + (a + b) ≤ length memory.bytes → bytes_at memory address a ++ bytes_at memory (address + a) b ≡ bytes_at memory address (a + b)
+bytes_at_append memory address a b within = same_lists _ _ (search (rules, places)) (λ k d h. grind (arith, places))

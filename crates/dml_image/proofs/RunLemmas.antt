@@ -1,8 +1,9 @@
 -- Runs of present bytes, page by page.
-use Rattle.std.proofs.Common.{◌≡◌, ℕ, ◌+◌, ◌-◌, ◌/◌, ◌%◌, ◌<◌, ◌≤◌, true, false, not, get_or, ap, sym, ◌∙◌, arith}
-use Rattle.dml_types.specs.Memory.{Memory, has, present_toward, offset_in}
+use Rattle.std.proofs.Common.{◌≡◌, ℕ, ◌+◌, ◌-◌, ◌/◌, ◌%◌, ◌<◌, ◌≤◌, min, Bool, true, false, not, ◌&&◌, get_or, ap, sym, ◌∙◌, arith, ⊎_elim}
+use Rattle.std.proofs.lemmas.Bool.{cases_lt, not-false, not-true, and_from, and_left, and_right}
+use Rattle.dml_types.specs.Memory.{first, Memory, has, present_toward, offset_in}
 use Rattle.dml_types.specs.declared.operations.Direction.{Direction}
-use Rattle.dml_types.proofs.FirstLemmas.{first_is}
+use Rattle.dml_types.proofs.FirstLemmas.{first_le, first_is, fails_before, passes_at}
 
 -- the rest of a page upwards and downwards is as present as one of its bytes
 pub has_above : (memory : Memory) (address other : ℕ) → has memory address ≡ true → address ≤ other → other < address + (4096 - address % 4096) → has memory other ≡ true
@@ -22,3 +23,21 @@ present_toward_is direction memory address n k within before here =
 pub present_toward_stops : (direction : Direction) (memory : Memory) (address n k : ℕ) → k < n → ((i : ℕ) → i < k → has memory (address + offset_in direction n i) ≡ true) → has memory (address + offset_in direction n k) ≡ false → k ≡ present_toward direction memory address n
 present_toward_stops direction memory address n k within before here =
     present_toward_is direction memory address n k (omega arith) before (λ _. here)
+
+-- the first index at which one of two facts fails is the lesser of their own
+pub first_both : (n : ℕ) (p q : ℕ → Bool) → first n (λ i. not (p i && q i)) ≡ min (first n (λ i. not (p i))) (first n (λ i. not (q i)))
+first_both n p q =
+    let a = first n (λ i. not (p i)) in
+    let b = first n (λ i. not (q i)) in
+    first_is n (λ i. not (p i && q i)) (min a b) (omega (arith, first_le n (λ i. not (p i))))
+    (λ i before.
+    let left : p i ≡ true = not-false (p i) (fails_before n (λ j. not (p j)) i (omega arith)) in
+    let right : q i ≡ true = not-false (q i) (fails_before n (λ j. not (q j)) i (omega arith)) in
+    ap not (and_from (p i) (q i) left right))
+    (λ below. ⊎_elim (λ low.
+    let is : min a b ≡ a = omega arith in
+    ap (λ k. not (p k && q k)) is ∙ ap not (and_left (p a) (q a) (not-true (p a) (passes_at n (λ i. not (p i)) (omega arith)))))
+    (λ high.
+    let is : min a b ≡ b = omega arith in
+    ap (λ k. not (p k && q k)) is ∙ ap not (and_right (p b) (q b) (not-true (q b) (passes_at n (λ i. not (q i)) (omega arith)))))
+    (cases_lt a b))

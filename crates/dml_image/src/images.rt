@@ -141,8 +141,8 @@ impl Image<'_> {
     /// Makes a page present with these bytes; a page that is present is overwritten.
     ///
     /// # Errors
-    /// `NoSuchPage` where the image has no page of this number, and `NoMemory`, which a page that is
-    /// present never meets. Both leave the image as it was.
+    /// `NoSuchPage` where the image has no page of this number, and `NoMemory`, which a page that is present never
+    /// meets, and an absent one of lent memory always, though no allocation is refused. Both leave the image as it was.
     #[tactic(auto, using(crate::proofs::WriteLemmas::brought_keeps))]
     pub fn bring(&mut self, page: u32, bytes: &[u8; 4096]) -> Result<(), ImageError>
         ensures ok { OnOk result (self.new ≡ brought self.old page bytes.now) }

@@ -43,6 +43,7 @@ impl<'a> Lent<'a> {
     /// Takes an image over lent memory back.
     pub fn put(&mut self, image: Image<'a>)
         requires { IsSome image.home }
+        ensures present { self.new.present.now ≡ image.entry.present }
         ensures content { self.new.content.now ≡ image.entry.bytes }
         ensures same_reference { Some self.new.content.ghost_name ≡ image.entry.home }
     {

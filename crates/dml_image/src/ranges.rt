@@ -4,10 +4,8 @@ ghost use Rattle.dml_types.specs.Memory.{IsMemory, has_all, bytes_at, put};
 ghost use Rattle.dml_types.specs.Bytewise.{pattern_bytes};
 
 use crate::PAGE_SIZE;
+use crate::slices::WORD_SIZE;
 use crate::tables::Table;
-
-// The bytes of a pattern.
-const WORD_SIZE: usize = 8;
 
 /// How many bytes of a page there are from an address on.
 pub fn rest_of_page(addr: u64) -> usize

@@ -1,4 +1,4 @@
-ghost use Rattle.std.specs.Prelude.{◌≡◌, ◌+◌, ◌≤◌, length, slice_range};
+ghost use Rattle.std.specs.Prelude.{◌≡◌, ◌+◌, ◌<◌, ◌≤◌, length, slice_range};
 ghost use Rattle.dml_types.specs.Memory.{overwrite};
 ghost use Rattle.dml_types.specs.Bytewise.{pattern_bytes};
 ghost use Rattle.dml_image.specs.Copied.{IsOneCopy};
@@ -6,8 +6,8 @@ ghost use Rattle.dml_image.specs.Copied.{IsOneCopy};
 // Bytes of ranges that overlap are held here between reading and writing.
 pub const SHORT: usize = 256;
 
-// A fill writes so many bytes at once: four times the pattern.
-const BLOCK_SIZE: usize = 32;
+// The bytes of a pattern.
+pub const WORD_SIZE: usize = 8;
 
 /// Writes bytes over a slice from a place on.
 #[tactic(auto, using(crate::proofs::SliceLemmas::put_mid_overwrite))]
@@ -48,28 +48,27 @@ pub fn fill_at(target: &mut [u8], place: usize, len: usize, pattern: u64)
 }
 
 /// Repeats the 8 bytes of a pattern, low byte first, over a slice.
-#[tactic(auto, using(crate::proofs::PatternLemmas::pattern_bytes_none, crate::proofs::PatternLemmas::pattern_blocks_more, std::proofs::lemmas::Slice::overwrites))]
+#[tactic(auto, using(crate::proofs::PatternLemmas::pattern_bytes_none, crate::proofs::PatternLemmas::pattern_words_more, std::proofs::lemmas::Slice::overwrites))]
 fn repeat(target: &mut [u8], pattern: u64)
     ensures { target.new ≡ pattern_bytes pattern (length target.old) }
 {
-    let block = block_of(pattern);
-    let whole = target.len() / BLOCK_SIZE;
+    let word = pattern.to_le_bytes();
+    let whole = target.len() / WORD_SIZE;
     for k in 0..whole {
-        target[BLOCK_SIZE * k..BLOCK_SIZE * k + BLOCK_SIZE].copy_from_slice(&block);
+        target[WORD_SIZE * k..WORD_SIZE * k + WORD_SIZE].copy_from_slice(&word);
     }
-    let rest = target.len() - BLOCK_SIZE * whole;
-    target[BLOCK_SIZE * whole..].copy_from_slice(&block[..rest]);
+    repeat_short(&mut target[WORD_SIZE * whole..], pattern);
 }
 
-/// The 8 bytes of a pattern, low byte first, four times.
-#[tactic(auto, using(crate::proofs::PatternLemmas::pattern_bytes_none, crate::proofs::PatternLemmas::pattern_words_more, std::proofs::lemmas::Slice::overwrites))]
-fn block_of(pattern: u64) -> [u8; BLOCK_SIZE]
-    ensures { result ≡ pattern_bytes pattern 32 }
+/// Writes the first bytes of a pattern, low byte first, over less than a word. It makes the word again: so no part of
+/// that of `repeat` is ever borrowed, and it stays in registers.
+#[tactic(auto, using(crate::proofs::PatternLemmas::none_to_fill, crate::proofs::PatternLemmas::word_front))]
+fn repeat_short(target: &mut [u8], pattern: u64)
+    requires { length target.old < 8 }
+    ensures { target.new ≡ pattern_bytes pattern (length target.old) }
 {
-    let bytes = pattern.to_le_bytes();
-    let mut block = [0; BLOCK_SIZE];
-    for k in 0..BLOCK_SIZE / 8 {
-        block[8 * k..8 * k + 8].copy_from_slice(&bytes);
+    let rest = target.len();
+    if rest > 0 {
+        target.copy_from_slice(&pattern.to_le_bytes()[..rest]);
     }
-    block
 }

@@ -80,6 +80,11 @@ effect_behind memory a b staging whole apart =
     ∙ (framed_job b staging).agree memory (bytes_after memory.bytes puts)
     (puts_agree (read_by staging b) (written_by staging a) (length memory.bytes) memory.bytes puts refl ((framed_job a staging).puts_in memory whole) apart)
 
+pub effect_stands : (memory : Memory) (a b : Job) (staging : ℕ) → IsWhole memory → conflict (unless_refused staging a) (unless_refused staging b) ≡ false → effect (step memory a staging).0 b staging ≡ effect memory b staging
+effect_stands memory a b staging whole apart =
+    effect_behind memory a b staging whole
+    (λ x here. apart_swapped (written_by staging a) (read_by staging b) x (or_parts _ _ (or_parts _ _ apart).0).0 here)
+
 made_twice : (memory : Memory) (first second : List Put) → puts_made (puts_made memory first) second ≡ with_bytes memory (bytes_after (bytes_after memory.bytes first) second)
 made_twice memory first second =
     ap (λ (m : Memory). puts_made m second) (puts_made_is memory first) ∙ puts_made_is (with_bytes memory (bytes_after memory.bytes first)) second

@@ -1,4 +1,5 @@
 pub mod TouchedLemmas
+pub mod LevelLemmas
 pub mod TaskLemmas
 pub mod HullLemmas
 pub mod FrameLemmas

@@ -1,11 +1,15 @@
 -- Ranges without the empty ones.
-use Rattle.std.proofs.Common.{◌≡◌, false, cond, List, [], ◌∷◌, refl, sym, ◌∙◌, ap, arith, ⊎_elim}
+use Rattle.std.proofs.Common.{◌≡◌, ℕ, ◌<◌, false, cond, List, [], ◌∷◌, length, get_or, map, refl, sym, ◌∙◌, ap, arith, ⊎_elim}
 use Rattle.std.proofs.lemmas.Bool.{cases_lt, le-ltb, lt-ltb}
 use Rattle.std.specs.Prelude.{◌||◌}
 use Rattle.dml_types.specs.declared.spans.Span.{Span}
 use Rattle.std.specs.List.{list_any}
-use Rattle.dml_types.specs.Job.{shares, any_shares}
-use Rattle.dml_levels.specs.Touched.{some_spans}
+use Rattle.std.proofs.lemmas.List.{get_or-map}
+use Rattle.dml_types.specs.declared.jobs.Job.{Job}
+use Rattle.dml_types.specs.Job.{no_op_job, shares, any_shares, reads, writes}
+use Rattle.dml_types.specs.Conflict.{ranges_of, clash_of}
+use Rattle.dml_levels.specs.declared.touched.Touches.{Touches}
+use Rattle.dml_levels.specs.Touched.{some_spans, touched_by}
 
 -- an empty range shares no byte
 shares_empty_left : (a b : Span) → a.len ≡ 0 → shares a b ≡ false
@@ -40,3 +44,10 @@ any_shares_some (x ∷ xs) ys =
     ap (λ b. any_shares (cond b (x ∷ some_spans xs) (some_spans xs)) (some_spans ys)) (le-ltb 0 x.len empty)
     ∙ (any_shares_some xs ys ∙ sym (ap (λ b. b || any_shares xs ys) (none_shared x ys (omega arith)))))
     (cases_lt 0 x.len)
+
+-- the jobs at two places, by the list of what each touches
+pub clash_at : (jobs : List Job) (i k : ℕ) (d e : Touches) → i < length jobs → k < length jobs → any_shares (get_or (map touched_by jobs) i d).writes (get_or (map touched_by jobs) k e).reads || any_shares (get_or (map touched_by jobs) i d).writes (get_or (map touched_by jobs) k e).writes || any_shares (get_or (map touched_by jobs) i d).reads (get_or (map touched_by jobs) k e).writes ≡ clash_of jobs i k
+clash_at jobs i k d e first second =
+    let a : Job = get_or jobs i no_op_job in
+    let b : Job = get_or jobs k no_op_job in
+    rw (get_or-map touched_by jobs i no_op_job d first, get_or-map touched_by jobs k no_op_job e second, any_shares_some (ranges_of writes a) (ranges_of reads b), any_shares_some (ranges_of writes a) (ranges_of writes b), any_shares_some (ranges_of reads a) (ranges_of writes b)) refl

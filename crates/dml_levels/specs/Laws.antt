@@ -7,7 +7,7 @@ use Rattle.dml_types.specs.Job.{no_op_job}
 use Rattle.dml_types.specs.Memory.{Memory, IsWhole}
 use Rattle.dml_types.specs.Refusal.{refusal}
 use Rattle.dml_types.specs.Conflict.{conflict, clash_of}
-use Rattle.dml_types.specs.Step.{step, memory_after, records_of}
+use Rattle.dml_types.specs.Step.{effect, step, memory_after, records_of}
 use Rattle.dml_order.specs.Order.{run_all, IsOrder, left_in_order}
 use Rattle.dml_order.specs.Waves.{joined, waves_for}
 use Rattle.dml_levels.specs.Waves.{job_at}
@@ -26,6 +26,13 @@ abbrev pub JobsCommute : Type 0
 JobsCommute =
     (memory : Memory) (a b : Job) (staging : ℕ) → IsWhole memory
     → conflict (unless_refused staging a) (unless_refused staging b) ≡ false → MayChange memory a b staging
+
+-- what a job does is the same behind one with which it does not conflict
+abbrev pub EffectStands : Type 0
+EffectStands =
+    (memory : Memory) (a b : Job) (staging : ℕ) → IsWhole memory
+    → conflict (unless_refused staging a) (unless_refused staging b) ≡ false
+    → effect (step memory a staging).0 b staging ≡ effect memory b staging
 
 -- the image so far, and a record at the place of each job
 pub record Progress : Type 0 where

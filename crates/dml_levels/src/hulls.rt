@@ -57,7 +57,7 @@ impl Hull {
     fn meets(self, other: Hull) -> bool
         ensures { result ≡ hulls_meet self other }
     {
-        self.first <= other.last && other.first <= self.last
+        (self.first <= other.last) & (other.first <= self.last)
     }
 }
 
@@ -105,7 +105,7 @@ impl Reach {
         ensures { result ≡ reaches_meet self other }
     {
         self.writes.meets(other.reads)
-            || self.writes.meets(other.writes)
-            || self.reads.meets(other.writes)
+            | self.writes.meets(other.writes)
+            | self.reads.meets(other.writes)
     }
 }

@@ -1,10 +1,11 @@
-ghost use Rattle.dml_levels.specs.Laws.{AnyOrder, ClashesWithoutRefusedHold, FrontThenLeft, JobsCommute, OwnClashesHold, WavesInOrder, WavesThenLeft};
+ghost use Rattle.dml_levels.specs.Laws.{AnyOrder, ClashesWithoutRefusedHold, EffectStands, FrontThenLeft, JobsCommute, OwnClashesHold, WavesInOrder, WavesThenLeft};
 
-/// The law of conflicts: two jobs that do not conflict give the same image and the same two records in either order.
-/// What a refused job names does not count. Places of a list that do not clash hold such jobs, also where a no-op
-/// stands for each refused one.
+/// The law of conflicts: two jobs that do not conflict give the same image and the same two records in either order,
+/// and the effect of each, found before the other is carried out, stands afterwards. What a refused job names does not
+/// count. Places of a list that do not clash hold such jobs, also where a no-op stands for each refused one.
 pub fn law_of_conflicts()
     ensures commute { JobsCommute }
+    ensures effect_stands { EffectStands }
     ensures own_clashes { OwnClashesHold }
     ensures without_refused { ClashesWithoutRefusedHold }
 {}

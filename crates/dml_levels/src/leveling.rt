@@ -2,10 +2,11 @@ ghost use Rattle.std.specs.Prelude.{◌≡◌, ◌^◌, ◌<◌, ◌≤◌, IfOk
 ghost use Rattle.dml_types.specs.Conflict.{clash_of, level_over, levels_of};
 ghost use Rattle.dml_types.specs.Conflict as word;
 ghost use Rattle.dml_levels.specs.Hulls.{reach_of};
+ghost use Rattle.dml_levels.specs.Touched.{touched_by};
 
-use crate::clashing::conflict;
 use crate::errors::LevelError;
 use crate::hulls::Reach;
+use crate::touched::Touches;
 use dml_desc::Checked;
 use std::alloc::{AllocError, Global};
 
@@ -27,12 +28,19 @@ fn find_levels(alloc: Global, jobs: &[Checked]) -> Result<Vec<u32>, AllocError>
     ensures { IfOk result (λ list. list.items ≡ word.levels jobs.now) }
 {
     let reaches = find_reaches(alloc, jobs)?;
+    let touched = find_touched(alloc, jobs)?;
     let mut levels = Vec::with_capacity(alloc, jobs.len())?;
     let mut seen = Reach::none();
     for i in 0..jobs.len() {
         let reach = reaches[i];
         let level = if seen.meets(reach) {
-            level_at(jobs, reaches.as_slice(), levels.as_slice(), i)
+            level_at(
+                jobs,
+                reaches.as_slice(),
+                touched.as_slice(),
+                levels.as_slice(),
+                i,
+            )
         } else {
             0
         };
@@ -49,31 +57,49 @@ fn find_reaches(alloc: Global, jobs: &[Checked]) -> Result<Vec<Reach>, AllocErro
     jobs.iter().map(Reach::of).collect(alloc)
 }
 
-#[tactic(auto, using(dml_order::proofs::LevelLemmas::length_levels_of, dml_order::proofs::LevelLemmas::level_le, dml_order::proofs::LevelLemmas::level_more))]
-/// The level of the job at a place, by those of the jobs before it.
-fn level_at(jobs: &[Checked], reaches: &[Reach], levels: &[u32], place: usize) -> u32
+/// What each job touches.
+fn find_touched(alloc: Global, jobs: &[Checked]) -> Result<Vec<Touches>, AllocError>
+    ensures { IfOk result (λ list. list.items ≡ map touched_by jobs.now) }
+{
+    jobs.iter().map(Touches::of).collect(alloc)
+}
+
+/// The level of the job at a place, by those of the jobs before it: from the last of them down, as far as one may
+/// stand as high.
+#[tactic(auto, using(dml_order::proofs::LevelLemmas::length_levels_of, dml_order::proofs::LevelLemmas::level_le, crate::proofs::LevelLemmas::highest_raised))]
+fn level_at(
+    jobs: &[Checked],
+    reaches: &[Reach],
+    touched: &[Touches],
+    levels: &[u32],
+    place: usize,
+) -> u32
     requires in_bounds { place < length jobs.now }
     requires few { length jobs.now ≤ 2 ^ 32 }
     requires reaches { reaches.now ≡ map reach_of jobs.now }
+    requires touched { touched.now ≡ map touched_by jobs.now }
     requires levels { levels.now ≡ levels_of (clash_of jobs.now) place }
     ensures { result ≡ level_over (clash_of jobs.now) levels.now place }
 {
     let mut level = 0;
-    for k in 0..place {
-        if levels[k] >= level && clashes(jobs, reaches, k, place) {
+    let mut k = place;
+    while k > level as usize {
+        k -= 1;
+        if levels[k] >= level && clashes(jobs, reaches, touched, k, place) {
             level = levels[k] + 1;
         }
     }
     level
 }
 
-#[tactic(auto, using(crate::proofs::HullLemmas::apart_at))]
 /// Whether the jobs at two places conflict.
-fn clashes(jobs: &[Checked], reaches: &[Reach], i: usize, k: usize) -> bool
+#[tactic(auto, using(crate::proofs::HullLemmas::apart_at, crate::proofs::TouchedLemmas::clash_at))]
+fn clashes(jobs: &[Checked], reaches: &[Reach], touched: &[Touches], i: usize, k: usize) -> bool
     requires first_in_bounds { i < length jobs.now }
     requires second_in_bounds { k < length jobs.now }
     requires reaches { reaches.now ≡ map reach_of jobs.now }
+    requires touched { touched.now ≡ map touched_by jobs.now }
     ensures { result ≡ clash_of jobs.now i k }
 {
-    reaches[i].meets(reaches[k]) && conflict(&jobs[i], &jobs[k])
+    reaches[i].meets(reaches[k]) && touched[i].conflict_with(&touched[k])
 }

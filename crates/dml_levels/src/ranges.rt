@@ -79,9 +79,6 @@ impl Spans {
 fn shares(a: &Span, b: &Span) -> bool
     ensures { result ≡ shares a.now b.now }
 {
-    if a.start <= b.start {
-        b.start - a.start < u64::from(a.len) && b.len > 0
-    } else {
-        a.start - b.start < u64::from(b.len) && a.len > 0
-    }
+    let (low, high) = if a.start <= b.start { (a, b) } else { (b, a) };
+    (high.start - low.start < u64::from(low.len)) & (high.len > 0)
 }

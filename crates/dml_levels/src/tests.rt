@@ -159,10 +159,14 @@ fn refused_levels(rt: HostRuntime) {
     }
 }
 
-/// What is made before the calls of `refused_waves`.
+/// What is made before the call of `waves` in `refused_waves`: the jobs and their levels.
 #[test]
 fn set_up_of_waves(rt: HostRuntime) {
-    let _ = two_moves(rt.alloc());
+    let Some(jobs) = two_moves(rt.alloc()) else {
+        return;
+    };
+    assert!(rt; jobs.len() <= 1024);
+    let _ = levels(rt.alloc(), jobs.as_slice());
 }
 
 /// To be run with each growth of memory refused in turn: the right waves, or want of memory.

@@ -1,7 +1,7 @@
 ghost use Rattle.std.specs.Prelude.{◌≡◌, ◌++◌, false};
 ghost use Rattle.std.specs.List.{list_any};
 ghost use Rattle.dml_types.specs.Job.{is_past};
-ghost use Rattle.dml_levels.specs.Touched.{read_spans, written_spans};
+ghost use Rattle.dml_levels.specs.Touched.{read_spans, touched_by, written_spans};
 
 use crate::ranges::Spans;
 use crate::touched::Touches;
@@ -41,4 +41,13 @@ pub fn touches(job: &Checked) -> Touches
         ),
     };
     Touches { reads, writes }
+}
+
+impl Touches {
+    /// Of a job.
+    pub(crate) fn of(job: &Checked) -> Touches
+        ensures { result ≡ touched_by job.now }
+    {
+        touches(job)
+    }
 }

@@ -1,6 +1,6 @@
 -- How far a scan goes, by the runs of present bytes of its ranges.
-use Rattle.std.proofs.Common.{◌≡◌, ℕ, ◌+◌, ◌-◌, ◌<◌, ◌≤◌, min, Bool, true, false, not, ◌&&◌, [], ◌∷◌, refl, sym, ◌∙◌, ap, ap₂, subst, arith, ◌⊎◌, inl, inr, ⊎_elim, cond, eqb, Some, None, unwrap_or}
-use Rattle.std.proofs.lemmas.Bool.{false≢true, eqb-true, cases_lt, not-false, not-true, and_from, and_left, and_right, eq-eqb}
+use Rattle.std.proofs.Common.{◌≡◌, ℕ, ◌+◌, ◌-◌, ◌<◌, ◌≤◌, min, Bool, true, false, not, ◌&&◌, [], ◌∷◌, refl, sym, ◌∙◌, ap, ap₂, subst, arith, cond, eqb, Some, None, unwrap_or}
+use Rattle.std.proofs.lemmas.Bool.{false≢true, eqb-true, not-true, eq-eqb}
 use Rattle.dml_types.specs.declared.findings.Found.{Found}
 use Rattle.dml_types.specs.declared.findings.Found.TheVariants.{All, Differs, Fault as Faults}
 use Rattle.dml_types.specs.declared.jobs.Job.{Job}
@@ -13,28 +13,8 @@ use Rattle.dml_types.specs.Effect.{Fault, is_clear, first_fault, read_fault, wri
 use Rattle.dml_types.specs.Bytewise.{direction_by, faults_at, passes}
 use Rattle.dml_types.specs.Chunk.{scan_done, scan_found, scan_offset, fault_found}
 use Rattle.dml_scan.specs.Found.{done_of}
-use Rattle.dml_types.proofs.FirstLemmas.{first_le, first_is, first_agree, fails_before, passes_at}
-
--- the first index at which one of two facts fails is the lesser of their own
-pub first_both : (n : ℕ) (p q : ℕ → Bool) → first n (λ i. not (p i && q i)) ≡ min (first n (λ i. not (p i))) (first n (λ i. not (q i)))
-first_both n p q =
-    let a = first n (λ i. not (p i)) in
-    let b = first n (λ i. not (q i)) in
-    first_is n (λ i. not (p i && q i)) (min a b) (omega (arith, first_le n (λ i. not (p i))))
-    (λ i before.
-    let left : p i ≡ true = not-false (p i) (fails_before n (λ j. not (p j)) i (omega arith)) in
-    let right : q i ≡ true = not-false (q i) (fails_before n (λ j. not (q j)) i (omega arith)) in
-    ap not (and_from (p i) (q i) left right))
-    (λ below. ⊎_elim (λ first_a. at_least n p q (min a b) (inl (omega arith)) below) (λ first_b. at_least n p q (min a b) (inr (omega arith)) below) (cases_lt a b))
-  where
-    at_least : (n : ℕ) (p q : ℕ → Bool) (k : ℕ) → (first n (λ i. not (p i)) ≡ k) ⊎ (first n (λ i. not (q i)) ≡ k) → k < n → not (p k && q k) ≡ true
-    at_least n p q k which below =
-        ⊎_elim (λ is.
-        let stops : not (p k) ≡ true = subst (λ (j : ℕ). j < n → not (p j) ≡ true) is (passes_at n (λ i. not (p i))) below in
-        ap not (and_left (p k) (q k) (not-true (p k) stops)))
-        (λ is.
-        let stops : not (q k) ≡ true = subst (λ (j : ℕ). j < n → not (q j) ≡ true) is (passes_at n (λ i. not (q i))) below in
-        ap not (and_right (p k) (q k) (not-true (q k) stops))) which
+use Rattle.dml_types.proofs.FirstLemmas.{first_le, first_agree, passes_at}
+use Rattle.dml_image.proofs.RunLemmas.{first_both}
 
 -- how many of n bytes come before the first that is absent in one of two ranges, in a direction, or of three, upwards
 abbrev pub run_of_two : Direction → Memory → ℕ → ℕ → ℕ → ℕ

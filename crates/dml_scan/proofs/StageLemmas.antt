@@ -1,12 +1,11 @@
 -- Bytes that are staged page part by page part.
-use Rattle.std.proofs.Common.{◌≡◌, ℕ, ◌+◌, ◌-◌, ◌<◌, ◌≤◌, true, not, ◌++◌, length, refl, ◌∙◌, ap, arith, rules}
-use Rattle.std.proofs.lemmas.List.{places, same_lists}
+use Rattle.std.proofs.Common.{◌≡◌, ℕ, ◌+◌, ◌-◌, ◌<◌, ◌≤◌, true, not, refl, ◌∙◌, ap, arith}
 use Rattle.std.proofs.lemmas.Bool.{and_parts, not-false}
 use Rattle.dml_types.specs.declared.jobs.Job.{Job}
 use Rattle.dml_types.specs.declared.operations.Direction.{Direction}
 use Rattle.dml_types.specs.declared.operations.Direction.TheVariants.{Forward, Backward}
 use Rattle.dml_types.specs.declared.operations.Op.TheVariants.{Dualcast, Move}
-use Rattle.dml_types.specs.Memory.{Memory, has, has_all, bytes_at, offset_in}
+use Rattle.dml_types.specs.Memory.{Memory, has, has_all, offset_in}
 use Rattle.dml_types.specs.Bytewise.{direction_by, done_from, passes}
 use Rattle.dml_types.specs.Chunk.{scan_done, scan_offset}
 use Rattle.dml_types.proofs.FirstLemmas.{fails_before, first_le}
@@ -15,10 +14,6 @@ use Rattle.dml_types.proofs.MemoryLemmas.{has_all_at, has_all_from}
 -- the byte at which a part begins is present
 pub part_here : (memory : Memory) (address n done place : ℕ) → has_all memory address n ≡ true → done < n → place ≡ address + done → has memory place ≡ true
 part_here memory address n done place all below at = ap (has memory) at ∙ has_all_at memory address n done all below
-
--- neighbours that are read one after another are read at once
-pub bytes_at_append : (memory : Memory) (address a b : ℕ) → address + (a + b) ≤ length memory.bytes → bytes_at memory address a ++ bytes_at memory (address + a) b ≡ bytes_at memory address (a + b)
-bytes_at_append memory address a b within = same_lists _ _ (search (rules, places)) (λ k d h. grind (arith, places))
 
 -- the bytes that were done are present in the source
 pub move_source_present : (memory : Memory) (job : Job) (from to k : ℕ) → scan_done Move memory job from to ≡ k → has_all memory (job.source + (from + done_from (direction_by Move job) (to - from) k)) k ≡ true

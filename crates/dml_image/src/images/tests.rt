@@ -1,3 +1,4 @@
+ghost use Rattle.std.specs.Prelude.{◌≡◌, replicate};
 ghost use Rattle.dml_types.specs.Memory.{IsMemory};
 ghost use Rattle.dml_image.specs.Kept.{lent_memory};
 
@@ -216,15 +217,25 @@ const MOVES: [(u64, u64, u32); 18] = [
     (5, 5000, 0),
 ];
 
-/// Moves bytes inside an image of three pages, and compares all bytes.
-fn check_move(rt: &impl Abort, image: &mut Image, (source, target, len): (u64, u64, u32)) {
-    let mut expected = [0; 12_288];
-    assert!(rt; image.first_absent(0, 12_288, Direction::Forward).is_none());
-    image.read_into(0, &mut expected);
-    let before = expected;
+/// The bytes of three pages after a move inside them, by hand.
+fn moved(
+    rt: &impl Abort,
+    before: &[u8; 12_288],
+    (source, target, len): (u64, u64, u32),
+) -> [u8; 12_288] {
     let (from, to, n) = (source as usize, target as usize, len as usize);
     assert!(rt; from <= 12_288 && to <= 12_288 && n <= 12_288 - from && n <= 12_288 - to);
-    expected[to..to + n].copy_from_slice(&before[from..from + n]);
+    let mut after = *before;
+    after[to..to + n].copy_from_slice(&before[from..from + n]);
+    after
+}
+
+/// Moves bytes inside an image, where they must be present.
+fn move_inside(rt: &impl Abort, image: &mut Image, row: (u64, u64, u32))
+    ensures home { image.new.home ≡ image.old.home }
+{
+    let (source, target, len) = row;
+    assert!(rt; source <= 12_288 && target <= 12_288 && len <= 12_288);
     assert!(rt;
         image
             .first_absent(source, len, Direction::Forward)
@@ -236,10 +247,6 @@ fn check_move(rt: &impl Abort, image: &mut Image, (source, target, len): (u64, u
             .is_none()
     );
     image.move_within(source, target, len);
-    let mut after = [0; 12_288];
-    assert!(rt; image.first_absent(0, 12_288, Direction::Forward).is_none());
-    image.read_into(0, &mut after);
-    assert!(rt; after == expected, "{len} from {source} to {target}");
 }
 
 #[test]
@@ -248,7 +255,11 @@ fn moves_inside_own_pages(rt: HostRuntime) -> Result<(), Fail> {
     for row in MOVES {
         assert!(rt; image.first_absent(0, 12_288, Direction::Forward).is_none());
         image.write(0, &some_bytes());
-        check_move(&rt, &mut image, row);
+        move_inside(&rt, &mut image, row);
+        let mut after = [0; 12_288];
+        assert!(rt; image.first_absent(0, 12_288, Direction::Forward).is_none());
+        image.read_into(0, &mut after);
+        assert!(rt; after == moved(&rt, &some_bytes(), row), "{row:?}");
     }
     Ok(())
 }
@@ -261,13 +272,24 @@ fn three_pages(content: &mut [u8; 12_288]) -> Lent<'_>
     Lent::new(&[true; 3], content)
 }
 
+/// Three pages of a caller's, full of 0; the last alone is present.
+fn last_of_three(content: &mut [u8; 12_288]) -> Lent<'_>
+    requires blank { content.old ≡ replicate 12288 0 }
+    ensures memory { IsMemory (lent_memory result) }
+{
+    Lent::new(&[false, false, true], content)
+}
+
 #[test]
 fn moves_inside_lent_memory(rt: HostRuntime) {
     for row in MOVES {
         let mut content = some_bytes();
         let mut lent = three_pages(&mut content);
         let mut image = lent.take();
-        check_move(&rt, &mut image, row);
+        move_inside(&rt, &mut image, row);
+        lent.put(image);
+        drop(lent);
+        assert!(rt; content == moved(&rt, &some_bytes(), row), "{row:?}");
     }
 }
 
@@ -279,30 +301,78 @@ fn write_over_page_edge_of_lent_memory(rt: HostRuntime) {
     assert_eq!(rt; image.pages(), 3);
     assert!(rt; image.first_absent(4094, 4, Direction::Forward).is_none());
     image.write(4094, &[1, 2, 3, 4]);
+    let mut read = [9; 6];
+    assert!(rt; image.first_absent(4093, 6, Direction::Forward).is_none());
+    image.read_into(4093, &mut read);
+    assert_eq!(rt; read, [0x11, 1, 2, 3, 4, 0x11]);
+    assert_eq!(rt; bring_full(&mut image, 0, 0), Ok(()));
     assert!(rt; image.first_absent(8190, 5, Direction::Forward).is_none());
     image.fill(8190, 5, 0x8877_6655_4433_2211);
     lent.put(image);
     drop(lent);
     let mut expected = [0x11; 12_288];
-    expected[4094..4098].copy_from_slice(&[1, 2, 3, 4]);
+    expected[..4096].fill(0);
+    expected[4096..4098].copy_from_slice(&[3, 4]);
     expected[8190..8195].copy_from_slice(&[0x11, 0x22, 0x33, 0x44, 0x55]);
     assert!(rt; content == expected);
+}
+
+/// Brings a page full of one byte.
+fn bring_full(image: &mut Image, page: u32, byte: u8) -> Result<(), ImageError>
+    ensures home { image.new.home ≡ image.old.home }
+{
+    match image.bring(page, &[byte; 4096]) {
+        Ok(()) => Ok(()),
+        Err(error) => Err(error),
+    }
 }
 
 #[test]
 fn last_page_of_lent_memory(rt: HostRuntime) {
     let mut content = [0; 12_288];
-    let mut lent = three_pages(&mut content);
+    let mut lent = last_of_three(&mut content);
     let mut image = lent.take();
-    assert_eq!(rt; image.bring(3, &[7; 4096]), Err(ImageError::NoSuchPage));
-    assert_eq!(rt; image.bring(2, &[0x5a; 4096]), Ok(()));
+    assert_eq!(rt; bring_full(&mut image, 3, 7), Err(ImageError::NoSuchPage));
+    assert_eq!(rt; bring_full(&mut image, 2, 0x5a), Ok(()));
+    assert!(rt; image.has(12_287));
     assert_eq!(rt; image.byte(12_287), Some(0x5a));
-    assert_eq!(rt; image.byte(8191), Some(0));
+    assert!(rt; !image.has(8191));
     assert!(rt; !image.has(12_288));
     assert_eq!(rt;
-        image.first_absent(8192, 4097, Direction::Backward),
-        Some(0)
+        image.first_absent(8192, 4097, Direction::Forward),
+        Some(4096)
     );
+    lent.put(image);
+    drop(lent);
+    let mut expected = [0; 12_288];
+    expected[8192..].fill(0x5a);
+    assert!(rt; content == expected);
+}
+
+/// No growth is refused here: lent memory has no room for a page that is absent.
+#[test]
+fn absent_page_of_lent_memory(rt: HostRuntime) {
+    let mut content = [0; 12_288];
+    let mut lent = last_of_three(&mut content);
+    let mut image = lent.take();
+    assert_eq!(rt; bring_full(&mut image, 1, 0x5a), Err(ImageError::NoMemory));
+    assert!(rt; !image.has(4096) && !image.has(8191) && image.has(8192));
+    assert_eq!(rt; image.byte(8191), None);
+    for (addr, len, forward, backward) in [
+        (8190, 4, Some(0), Some(2)),
+        (8192, 4096, None, None),
+        (8192, 4097, Some(4096), Some(0)),
+        (0, 12_288, Some(0), Some(4096)),
+    ] {
+        assert_eq!(rt; image.first_absent(addr, len, Direction::Forward), forward);
+        assert_eq!(rt;
+            image.first_absent(addr, len, Direction::Backward),
+            backward
+        );
+    }
+    lent.put(image);
+    drop(lent);
+    assert!(rt; content == [0; 12_288]);
 }
 
 // The refused_* below take either answer: they are also run with each growth refused in turn, from the first one behind
@@ -354,4 +424,42 @@ fn refused_second_bring(rt: HostRuntime) -> Result<(), Fail> {
     assert_eq!(rt; image.bring(0, &[0x5a; 4096]), Ok(()));
     check_page(&rt, &image, Some(0x5a));
     Ok(())
+}
+
+/// An image of the most pages, with so many present.
+fn hold(alloc: Global, present: u32) -> Result<(), Fail> {
+    let mut image = Image::new(alloc, 4096)?;
+    for page in 0..present {
+        image.bring(page, &[0x5a; 4096])?;
+    }
+    Ok(())
+}
+
+/// What the tests `holds_*` are measured against by `tests/image_memory.sh`, which looks at the peak of the process.
+#[test]
+fn holds_no_image(_rt: HostRuntime) {}
+
+#[test]
+fn holds_0_pages(rt: HostRuntime) -> Result<(), Fail> {
+    hold(rt.alloc(), 0)
+}
+
+#[test]
+fn holds_3_pages(rt: HostRuntime) -> Result<(), Fail> {
+    hold(rt.alloc(), 3)
+}
+
+#[test]
+fn holds_64_pages(rt: HostRuntime) -> Result<(), Fail> {
+    hold(rt.alloc(), 64)
+}
+
+#[test]
+fn holds_2048_pages(rt: HostRuntime) -> Result<(), Fail> {
+    hold(rt.alloc(), 2048)
+}
+
+#[test]
+fn holds_4096_pages(rt: HostRuntime) -> Result<(), Fail> {
+    hold(rt.alloc(), 4096)
 }

@@ -17,7 +17,7 @@ loop-i-preserved c =
     let level : c.if-meets.level ≡ level_over clash levels i =
     elim c.if-meets.branch [
       | then-meets w ↦
-          w.level-is ∙ (w.level_at-level.ensures ∙ ap (λ list. level_over clash list i) w.as_slice-then-meets.ensures.value)
+          w.level-is ∙ (w.level_at-level.ensures ∙ ap (λ list. level_over clash list i) w.as_slice-then-meets-2.ensures.value)
       | else-meets w ↦
           w.level-is ∙ lowest jobs reaches c.loop-i.seen reach levels i c.in_ok-reaches.ensures c.loop-i.invariant.1 below c.index-reach.ensures (sym c.meets.ensures ∙ w.if-meets.false)
     ] in (

@@ -1,7 +1,8 @@
 use Rattle.std.proofs.Common.{◌≡◌, ℕ, ◌+◌, ◌-◌, ◌<◌, ◌≤◌, ◌++◌, List, length, ap, sym, ◌∙◌, arith, append_assoc}
 use Rattle.dml_types.specs.Memory.{bytes_at}
 use Rattle.dml_types.proofs.MemoryLemmas.{has_all_within}
-use Rattle.dml_scan.proofs.StageLemmas.{bytes_at_append, part_here}
+use Rattle.dml_image.proofs.RangeLemmas.{bytes_at_append}
+use Rattle.dml_scan.proofs.StageLemmas.{part_here}
 use Rattle.dml_scan.proofs.staging.stage.Goals as goal
 
 pub overflow_add-place : goal.overflow_add-place

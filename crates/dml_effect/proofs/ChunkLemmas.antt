@@ -182,7 +182,7 @@ module _ (op : Op) (memory : Memory) (job : Job) (from to : ℕ) where
   done_whole all = ap is_all (sym (found_all op memory job from to all))
 
 -- bytes beside one another
-bytes_append : (memory : Memory) (p q a b : ℕ) → q ≡ p + a → bytes_at memory p (a + b) ≡ bytes_at memory p a ++ bytes_at memory q b
+pub bytes_append : (memory : Memory) (p q a b : ℕ) → q ≡ p + a → bytes_at memory p (a + b) ≡ bytes_at memory p a ++ bytes_at memory q b
 bytes_append memory p q a b beside = rw beside (sym (same_lists _ _ (search (rules, places)) (λ k d h. grind (arith, places))))
 
 -- the bytes that two neighbouring chunks stage

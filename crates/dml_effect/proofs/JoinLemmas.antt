@@ -1,8 +1,9 @@
 -- The pieces of a job that were joined so far are one chunk from its start on; those that are to come go on from there.
-use Rattle.std.proofs.Common.{◌≡◌, ℕ, ◌+◌, ◌-◌, ◌≤◌, Bool, false, List, [], ◌∷◌, Option, None, Some, MatchOption, sym, ◌∙◌, ap, ap₂, subst, arith}
+use Rattle.std.proofs.Common.{◌≡◌, ℕ, ◌+◌, ◌-◌, ◌≤◌, Bool, false, List, [], ◌∷◌, length, Option, None, Some, MatchOption, sym, ◌∙◌, ap, ap₂, subst, arith}
 use Rattle.std.specs.Iterator.{AlwaysYields}
 use Rattle.std.specs.Iterator.Adapters.{once_item, once_steps}
 use Rattle.std.specs.declared.iter.Once.{Once}
+use Rattle.std.proofs.lemmas.Iterator.Consumers.{YieldsList-from_shown}
 use Rattle.dml_types.specs.declared.findings.Found.{Found}
 use Rattle.dml_types.specs.declared.findings.Found.TheVariants.{All, Differs, Fault}
 use Rattle.dml_types.specs.declared.jobs.Job.{Job}
@@ -109,6 +110,14 @@ once_yields {P} piece pieces item = (
       let first : Some x ≡ Some piece = step.0 ∙ item in
       (cc, λ y k next. let none : ◌≡◌ {A = Option P} (Some y) None = next.0 ∙ step.1 in absurd (cc)),
 )
+
+-- an array's pieces come in its order
+pub array_yields : {P S : Type 0} (shown : S → List P) (pieces : S) (list : List P) → shown pieces ≡ list
+    → AlwaysYields (λ s r t. MatchOption r ((length (shown s) ≡ 0) × (t ≡ s)) (λ x. shown s ≡ x ∷ shown t)) (λ piece. piece) pieces list
+array_yields {P} {S} shown pieces list is =
+    let steps : S → Option P → S → Type 0 = λ s r t. MatchOption r ((length (shown s) ≡ 0) × (t ≡ s)) (λ x. shown s ≡ x ∷ shown t) in
+    subst (AlwaysYields steps (λ piece. piece) pieces) is
+    (YieldsList-from_shown steps (λ piece. piece) shown (λ (s t : S) (h : steps s None t). h.0) (λ (s : S) (x : P) (t : S) (h : steps s (Some x) t). h) pieces).runs
 
 -- Scans: what is joined so far, and what is to come
 abbrev pub IsScanJoined : Op → Memory → Job → Direction → {S : Type 0} → (S → Option ScanPiece → S → Type 0) → Option ScanPiece → S → Type 0

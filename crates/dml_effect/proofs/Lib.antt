@@ -1,4 +1,11 @@
+pub mod AppliedLemmas
+pub mod ApplyChunkLemmas
 pub mod ChunkLemmas
+pub mod ChunkListLemmas
+pub mod CreateChunkLemmas
+pub mod CreateJoinLemmas
+pub mod CreatedLemmas
+pub mod EntryLemmas
 pub mod JoinLemmas
 pub mod PageLemmas
 pub mod PutLemmas

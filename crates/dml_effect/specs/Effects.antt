@@ -5,14 +5,16 @@ use Rattle.dml_types.specs.Memory.{Memory, Put, put_of, has_all}
 use Rattle.dml_types.specs.Effect.{Effect, effect_of}
 use Rattle.dml_types.specs.Bytewise.{pattern_bytes}
 use Rattle.dml_effect.specs.declared.effects.Puts.{Puts}
-use Rattle.dml_effect.specs.declared.effects.Puts.TheVariants.{Nothing, Staged, Pattern}
+use Rattle.dml_effect.specs.declared.effects.Puts.TheVariants.{Nothing, Staged, Pattern, Entries}
 use Rattle.dml_effect.specs.declared.effects.Effect.TheInside.{Inside}
+use Rattle.dml_effect.specs.Applies.{block_puts}
 
 abbrev pub puts_of : Puts → List Put
 puts_of Nothing = []
 puts_of (Staged first None bytes) = put_of first bytes.bytes ∷ []
 puts_of (Staged first (Some second) bytes) = put_of first bytes.bytes ∷ put_of second bytes.bytes ∷ []
 puts_of (Pattern address len pattern) = put_of address (pattern_bytes pattern len) ∷ []
+puts_of (Entries target entries) = block_puts target entries.bytes
 
 abbrev pub effect_view : Inside → Effect
 effect_view e = effect_of (puts_of e.puts) e.answer

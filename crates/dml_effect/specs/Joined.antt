@@ -1,5 +1,5 @@
 -- How two neighbouring chunks of a job end together, and what a job does whose scan ended so.
-use Rattle.std.specs.Prelude.{ℕ, ◌+◌, ◌*◌, Bool, true, false, Option, None, Some, List, [], ◌∷◌, ◌++◌, if◌then◌else◌, ◌==◌, nat_eq, slice_range}
+use Rattle.std.specs.Prelude.{ℕ, ◌+◌, ◌*◌, Bool, true, false, Option, None, Some, List, [], ◌∷◌, ◌++◌, if◌then◌else◌, ◌==◌, nat_eq, slice_range, take}
 use Rattle.std.specs.Int.{from_le_bytes, w16}
 use Rattle.dml_types.specs.declared.findings.Found.{Found}
 use Rattle.dml_types.specs.declared.findings.Found.TheVariants.{All, Differs, Fault as Stopped}
@@ -91,3 +91,7 @@ entries_joined (Some fault) low high = low
 -- the number in front of an entry
 abbrev pub number_at : List ℕ → ℕ → ℕ
 number_at entries x = from_le_bytes w16 (slice_range entries (10 * x) (10 * x + 2))
+
+-- the put of a create's first n entries, one at least
+abbrev pub record_puts : Job → ℕ → List ℕ → List Put
+record_puts job n entries = if nat_eq n 0 then [] else put_of job.extra (take (10 * n) entries) ∷ []

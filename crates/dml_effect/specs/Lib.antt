@@ -1,3 +1,4 @@
+pub mod Applies
 pub mod Chunks
 pub mod Effects
 pub mod Joined

@@ -1,17 +1,20 @@
 //! Jobs carried out on an image, each as one chunk.
-ghost use Rattle.std.specs.Prelude.{◌≡◌, ◌⊎◌, ◌≤◌, [], Some, IsTrue};
-ghost use Rattle.dml_types.specs.declared.operations.Op.TheVariants.{Compare, ComparePattern, Dualcast, Fill, Move};
+ghost use Rattle.std.specs.Prelude.{◌≡◌, ◌≢◌, ◌⊎◌, ◌≤◌, [], Some, IsTrue};
+ghost use Rattle.dml_types.specs.declared.operations.Op.TheVariants.{ApplyDelta, Compare, ComparePattern, CreateDelta, Dualcast, Fill, Move, NoOp};
 ghost use Rattle.dml_types.specs.Job.{op_of};
 ghost use Rattle.dml_types.specs.Memory.{puts_made};
 ghost use Rattle.dml_types.specs.Refusal.{need};
 ghost use Rattle.dml_types.specs.Step.{step};
-ghost use Rattle.dml_effect.specs.Chunks.{IsScanned, IsWholeScan};
+ghost use Rattle.dml_effect.specs.Chunks.{IsWholeScan};
 ghost use Rattle.dml_effect.specs.Effects.{are_present};
 
+use crate::applying::join_apply;
+use crate::creating::join_create;
 use crate::effects::{Effect, commit};
 use crate::joining::{first_done, join_found};
 use crate::records::{copied_record, ended};
 use dml_arena::{Arena, Region};
+use dml_delta::{scan_apply, scan_create};
 use dml_desc::{Checked, check};
 use dml_image::Image;
 use dml_scan::{
@@ -24,7 +27,6 @@ use std::iter;
 /// Checks a job and carries it out on an image, or answers its refusal. A refused job changes nothing.
 #[tactic(auto, using(dml_types::proofs::StepLemmas::effect_refused, crate::proofs::WholeLemmas::effect_at_need, crate::proofs::WholeLemmas::need_under))]
 pub fn submit_to(image: &mut Image, arena: &mut Arena, job: &Job, staging: u32) -> Record
-    requires operation { IsScanned job.now }
     requires staging { staging ≤ arena.old.size }
     ensures image { image.new ≡ (step image.old job.now staging).0 }
     ensures answer { result ≡ (step image.old job.now staging).1 }
@@ -41,7 +43,6 @@ pub fn submit_to(image: &mut Image, arena: &mut Arena, job: &Job, staging: u32) 
 /// A move and a dualcast go straight within the image, which has no other job. Nothing is allocated.
 pub fn carry_out(image: &mut Image, arena: &mut Arena, job: &Checked) -> Record
     requires staging { need job.now ≤ arena.old.size }
-    requires operation { IsScanned job.now }
     ensures image { image.new ≡ (step image.old job.now (need job.now)).0 }
     ensures answer { result ≡ (step image.old job.now (need job.now)).1 }
     ensures arena { arena.new ≡ arena.old }
@@ -52,7 +53,7 @@ pub fn carry_out(image: &mut Image, arena: &mut Arena, job: &Checked) -> Record
         Op::Dualcast => dualcast_straight(image, job),
         _ => {
             let room = arena.open();
-            let effect = effect_in(image, job, room);
+            let effect = whole_effect(image, job, room);
             commit(image, effect)
         }
     }
@@ -107,8 +108,24 @@ fn dualcast_straight(image: &mut Image, job: &Checked) -> Record
     answer
 }
 
+/// The effect of a whole job that does not go straight.
+fn whole_effect<'a>(image: &Image, job: &Checked, room: Region<'a>) -> Effect<'a>
+    requires operation { (op_of job.now ≢ Some NoOp) × (op_of job.now ≢ Some Move) × (op_of job.now ≢ Some Dualcast) }
+    requires empty { room.bytes ≡ [] }
+    requires fits { need job.now ≤ room.room }
+    ensures answer { result.answer ≡ (step image.now job.now (need job.now)).1 }
+    ensures image { puts_made image.now result.puts ≡ (step image.now job.now (need job.now)).0 }
+    ensures present { IsTrue (are_present image.now result.puts) }
+{
+    match job.op() {
+        Op::CreateDelta => create_in(image, job, room),
+        Op::ApplyDelta => apply_in(image, job, room),
+        _ => scan_in(image, job, room),
+    }
+}
+
 /// The effect of a whole fill or compare, which stages nothing.
-fn effect_in<'a>(image: &Image, job: &Checked, room: Region<'a>) -> Effect<'a>
+fn scan_in<'a>(image: &Image, job: &Checked, room: Region<'a>) -> Effect<'a>
     requires operation { (op_of job.now ≡ Some Fill) ⊎ (op_of job.now ≡ Some Compare) ⊎ (op_of job.now ≡ Some ComparePattern) }
     requires empty { room.bytes ≡ [] }
     ensures answer { result.answer ≡ (step image.now job.now (need job.now)).1 }
@@ -131,4 +148,32 @@ fn scan_whole<'a>(image: &Image, job: &Checked, room: Region<'a>) -> ScanPiece<'
         Op::ComparePattern => scan_compare_pattern(image, job, 0, size, room),
         _ => scan_fill(image, job, 0, size, room),
     }
+}
+
+/// The effect of a whole create.
+fn create_in<'a>(image: &Image, job: &Checked, room: Region<'a>) -> Effect<'a>
+    requires operation { op_of job.now ≡ Some CreateDelta }
+    requires empty { room.bytes ≡ [] }
+    requires fits { need job.now ≤ room.room }
+    ensures answer { result.answer ≡ (step image.now job.now (need job.now)).1 }
+    ensures image { puts_made image.now result.puts ≡ (step image.now job.now (need job.now)).0 }
+    ensures present { IsTrue (are_present image.now result.puts) }
+{
+    let blocks = job.job().size / 8;
+    let piece = scan_create(image, job, 0, blocks, room);
+    join_create(image, job, iter::once(piece))
+}
+
+/// The effect of a whole apply, whose record is staged.
+fn apply_in<'a>(image: &Image, job: &Checked, room: Region<'a>) -> Effect<'a>
+    requires operation { op_of job.now ≡ Some ApplyDelta }
+    requires empty { room.bytes ≡ [] }
+    requires fits { need job.now ≤ room.room }
+    ensures answer { result.answer ≡ (step image.now job.now (need job.now)).1 }
+    ensures image { puts_made image.now result.puts ≡ (step image.now job.now (need job.now)).0 }
+    ensures present { IsTrue (are_present image.now result.puts) }
+{
+    let entries = job.job().delta_size / 10;
+    let piece = scan_apply(image, job, 0, entries, room);
+    join_apply(image, job, iter::once(piece))
 }

@@ -1,12 +1,17 @@
 //! Effects, and their commit.
-ghost use Rattle.std.specs.Prelude.{◌≡◌, IsTrue};
+ghost use Rattle.std.specs.Prelude.{◌≡◌, ◌+◌, ◌*◌, ◌≤◌, length, IsTrue};
 ghost use Rattle.dml_types.specs.Memory.{IsMemory, puts_made};
+ghost use Rattle.dml_effect.specs.Applies.{block_puts};
 ghost use Rattle.dml_effect.specs.Effects.{are_present, puts_of};
+ghost use Rattle.dml_effect.specs.Joined.{number_at};
 
 use dml_arena::Region;
 use dml_image::Image;
 use dml_types::Record;
 use std::marker::Model;
+
+/// The bytes of an entry: 2 of its block's number, and 8 of the block.
+const ENTRY: usize = 10;
 
 /// What a job does: its completion record, and the bytes that it puts.
 ///
@@ -32,6 +37,11 @@ pub(crate) enum Puts<'a> {
         addr: u64,
         len: u32,
         pattern: u64,
+    },
+    /// The 8 bytes of each staged entry of a delta record, at the block from `target` on that it numbers.
+    Entries {
+        target: u64,
+        entries: Region<'a>,
     },
 }
 
@@ -74,6 +84,28 @@ pub fn commit(image: &mut Image, effect: Effect<'_>) -> Record
             }
         }
         Puts::Pattern { addr, len, pattern } => image.fill(addr, len, pattern),
+        Puts::Entries { target, entries } => put_blocks(image, target, entries.bytes()),
     }
     answer
+}
+
+/// Puts the 8 bytes of each entry at the block from `target` on that it numbers, in the order of the entries.
+fn put_blocks(image: &mut Image, target: u64, entries: &[u8])
+    requires present { IsTrue (are_present image.old (block_puts target entries.now)) }
+    ensures image { image.new ≡ puts_made image.old (block_puts target entries.now) }
+{
+    let _pages = image.pages();
+    let count = entries.len() / ENTRY;
+    for i in 0..count {
+        let addr = target + 8 * u64::from(number_at(entries, i));
+        image.write(addr, &entries[ENTRY * i + 2..ENTRY * i + ENTRY]);
+    }
+}
+
+/// The number in front of an entry: that of its block.
+pub(crate) fn number_at(entries: &[u8], i: usize) -> u16
+    requires { 10 * i + 2 ≤ length entries.now }
+    ensures { result ≡ number_at entries.now i }
+{
+    u16::from_le_bytes([entries[ENTRY * i], entries[ENTRY * i + 1]])
 }

@@ -2,7 +2,6 @@
 ghost use Rattle.std.specs.Prelude.{◌≡◌, ◌↔◌, ◌≤◌, true, replicate, IsTrue};
 ghost use Rattle.dml_types.specs.Memory.{IsMemory};
 ghost use Rattle.dml_types.specs.Step.{step};
-ghost use Rattle.dml_effect.specs.Chunks.{IsScanned};
 ghost use Rattle.dml_effect.specs.Pages.{IsPages, all_present};
 
 use crate::carrying::submit_to;
@@ -29,7 +28,6 @@ pub fn are_pages(content: &[u8]) -> bool
 /// present; or answers its refusal, and changes nothing then. `are_pages` is the test of its condition.
 pub fn submit_over(content: &mut [u8], arena: &mut Arena, job: &Job, staging: u32) -> Record
     requires pages { IsPages content.old }
-    requires operation { IsScanned job.now }
     requires staging { staging ≤ arena.old.size }
     ensures content { content.new ≡ (step (all_present content.old) job.now staging).0.bytes }
     ensures answer { result ≡ (step (all_present content.old) job.now staging).1 }

@@ -4,7 +4,13 @@
 //! makes its puts. [`carry_out`] is a whole job as one chunk, and [`submit_to`] its check before.
 #![tactic(auto)]
 
+#[cfg(test)]
+mod apply_tests;
+mod applying;
 mod carrying;
+#[cfg(test)]
+mod create_tests;
+mod creating;
 mod effects;
 mod joining;
 mod lending;
@@ -14,7 +20,9 @@ mod tests;
 #[cfg(test)]
 mod uses;
 
+pub use applying::join_apply;
 pub use carrying::{carry_out, submit_to};
+pub use creating::join_create;
 pub use effects::{Effect, commit};
 pub use joining::join_found;
 pub use lending::{are_pages, submit_over};

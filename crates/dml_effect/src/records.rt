@@ -45,7 +45,7 @@ pub fn copied_record(len: u32, direction: Direction, found: Found) -> Record
 }
 
 /// The status of a job that ended with a result which is the expected one, or not.
-fn judged(job: &Job, is_expected: bool) -> Status
+pub fn judged(job: &Job, is_expected: bool) -> Status
     ensures { result ≡ word.judged job.now is_expected }
 {
     let check = JobFlags::CHECK_RESULT.bits();

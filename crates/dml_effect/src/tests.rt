@@ -12,7 +12,11 @@ use std::test::Fail;
 const STAGING: u32 = 1_048_576;
 
 /// An image of `pages` pages, those of `brought` present and full of 0.
-fn image_with(alloc: Global, pages: u32, brought: &[u32]) -> Result<Image<'static>, ImageError> {
+pub fn image_with(
+    alloc: Global,
+    pages: u32,
+    brought: &[u32],
+) -> Result<Image<'static>, ImageError> {
     let mut image = Image::new(alloc, pages)?;
     for page in brought {
         image.bring(*page, &[0; 4096])?;
@@ -21,7 +25,7 @@ fn image_with(alloc: Global, pages: u32, brought: &[u32]) -> Result<Image<'stati
 }
 
 /// Writes bytes, which must be present.
-fn poke(rt: &impl Abort, image: &mut Image, addr: u64, bytes: &[u8]) {
+pub fn poke(rt: &impl Abort, image: &mut Image, addr: u64, bytes: &[u8]) {
     for (place, byte) in (addr..u64::MAX).zip(bytes) {
         assert!(rt; image.first_absent(place, 1, Direction::Forward).is_none());
         image.write(place, &[*byte]);
@@ -29,14 +33,14 @@ fn poke(rt: &impl Abort, image: &mut Image, addr: u64, bytes: &[u8]) {
 }
 
 /// Whether the bytes from `addr` on are present and these.
-fn shows(image: &Image, addr: u64, bytes: &[u8]) -> bool {
+pub fn shows(image: &Image, addr: u64, bytes: &[u8]) -> bool {
     (addr..u64::MAX)
         .zip(bytes)
         .all(|(place, byte)| image.byte(place) == Some(*byte))
 }
 
 /// A record without a delta size.
-fn record(status: Status, outcome: u8, completed: u32, fault: u64) -> Record {
+pub fn record(status: Status, outcome: u8, completed: u32, fault: u64) -> Record {
     Record {
         status,
         result: outcome,
@@ -237,67 +241,180 @@ fn pages_that_can_be_lent(rt: HostRuntime) -> Result<(), Fail> {
     Ok(())
 }
 
-/// Carries out a job of the rows of `jobs_over_lent_pages` over bytes that are pages.
-fn carried_over(rt: &impl Abort, bytes: &mut [u8], arena: &mut Arena, job: &Job) -> Record {
+/// Writes bytes over others, from a place on.
+pub fn write_over(rt: &impl Abort, bytes: &mut [u8], place: usize, new: &[u8]) {
+    assert!(rt; place <= bytes.len() && new.len() <= bytes.len() - place);
+    bytes[place..place + new.len()].copy_from_slice(new);
+}
+
+/// Carries out a job over bytes that are pages.
+pub fn carried_over(rt: &impl Abort, bytes: &mut [u8], arena: &mut Arena, job: &Job) -> Record {
     assert!(rt; are_pages(bytes) && arena.size() >= 4096);
-    assert!(rt; job.op() != Some(Op::CreateDelta) && job.op() != Some(Op::ApplyDelta));
     submit_over(bytes, arena, job, 4096)
 }
 
-/// The bytes of a caller over which the rows of `jobs_over_lent_pages` are carried out: 01, 02, 03, 04, 05 in front.
-const FRONT: [u8; 5] = [1, 2, 3, 4, 5];
+/// A job over so many whole pages of a caller's, which hold 01, 02, 03, 04, 05 and then 0; its answer, and what it leaves
+/// in two places. All other bytes stay as they were.
+#[derive(Clone, Copy)]
+struct LentRow {
+    pages: u16,
+    job: Job,
+    answer: Record,
+    first: (u32, [u8; 12]),
+    second: (u32, [u8; 12]),
+}
 
-#[test]
-fn jobs_over_lent_pages(rt: HostRuntime) -> Result<(), Fail> {
-    let mut arena = Arena::new(rt.alloc(), 4096)?;
-    for (job, answer, at, shown) in [
-        (
-            Job::fill(0x0807_0605_0403_0201, 4092, 12),
+impl LentRow {
+    /// Carries the job out over the caller's bytes, and compares all of them.
+    fn expect(self, rt: &impl Abort, alloc: Global, arena: &mut Arena) -> Result<(), Fail> {
+        let mut bytes = vec![in alloc; 0; usize::from(self.pages) * 4096]?;
+        write_over(rt, &mut bytes, 0, &[1, 2, 3, 4, 5]);
+        let mut after = bytes.clone()?;
+        for (place, shown) in [self.first, self.second] {
+            write_over(rt, &mut after, place as usize, &shown);
+        }
+        let job = self.job;
+        assert_eq!(rt;
+            carried_over(rt, &mut bytes, arena, &job),
+            self.answer,
+            "{job:?}"
+        );
+        assert!(rt; bytes == after, "{job:?}");
+        Ok(())
+    }
+}
+
+/// The first 12 bytes of a caller's as they stand before.
+const FRONT: (u32, [u8; 12]) = (0, [1, 2, 3, 4, 5, 0, 0, 0, 0, 0, 0, 0]);
+
+/// A job that changes nothing.
+fn unchanged(pages: u16, job: Job, answer: Record) -> LentRow {
+    LentRow {
+        pages,
+        job,
+        answer,
+        first: FRONT,
+        second: FRONT,
+    }
+}
+
+/// A job that leaves these bytes from a place on.
+fn changed(pages: u16, job: Job, answer: Record, place: u32, shown: [u8; 12]) -> LentRow {
+    LentRow {
+        pages,
+        job,
+        answer,
+        first: (place, shown),
+        second: (place, shown),
+    }
+}
+
+/// Fills, among them the row fill_into_absent_page at the end of the caller's bytes.
+fn fills() -> [LentRow; 2] {
+    let pattern = 0x0807_0605_0403_0201;
+    [
+        changed(
+            2,
+            Job::fill(pattern, 4092, 12),
             record(Status::Success, 0, 12, 0),
-            4090,
-            [0, 0, 1, 2, 3, 4, 5, 6, 7, 8, 1, 2, 3, 4, 0, 0],
+            4092,
+            [1, 2, 3, 4, 5, 6, 7, 8, 1, 2, 3, 4],
         ),
-        (
-            Job::fill(0x0807_0605_0403_0201, 8186, 12),
-            record(Status::WriteFault, 0, 6, 8192),
-            8176,
-            [0, 0, 0, 0, 0, 0, 0, 0, 0, 0, 1, 2, 3, 4, 5, 6],
+        changed(
+            1,
+            Job::fill(pattern, 4090, 12),
+            record(Status::WriteFault, 0, 6, 4096),
+            4084,
+            [0, 0, 0, 0, 0, 0, 1, 2, 3, 4, 5, 6],
         ),
-        (
+    ]
+}
+
+/// Moves, among them the row backward_move_into_absent_page at the end of the caller's bytes.
+fn moves() -> [LentRow; 4] {
+    [
+        changed(
+            2,
             Job::move_bytes(0, 4096, 4096),
             record(Status::Success, 0, 4096, 0),
-            4094,
-            [0, 0, 1, 2, 3, 4, 5, 0, 0, 0, 0, 0, 0, 0, 0, 0],
+            4096,
+            [1, 2, 3, 4, 5, 0, 0, 0, 0, 0, 0, 0],
         ),
-        (
+        changed(
+            2,
             Job::move_bytes(0, 2, 14),
             record(Status::Success, 1, 14, 0),
             0,
-            [1, 2, 1, 2, 3, 4, 5, 0, 0, 0, 0, 0, 0, 0, 0, 0],
+            [1, 2, 1, 2, 3, 4, 5, 0, 0, 0, 0, 0],
         ),
-        (
-            Job::dualcast(0, 8190, 4094, 2),
-            record(Status::Success, 0, 2, 0),
-            8176,
-            [0, 0, 0, 0, 0, 0, 0, 0, 0, 0, 0, 0, 0, 0, 1, 2],
+        unchanged(
+            1,
+            Job::move_bytes(0, 4, 4096),
+            record(Status::WriteFault, 1, 0, 4099),
         ),
-        (
-            Job::compare(0, 4096, 8),
-            record(Status::Success, 1, 0, 0),
-            0,
-            [1, 2, 3, 4, 5, 0, 0, 0, 0, 0, 0, 0, 0, 0, 0, 0],
-        ),
-        (
+        unchanged(
+            2,
             Job::move_bytes(0, 4096, 4097),
             record(Status::StagingRefused, 0, 0, 0),
-            4096,
-            [0; 16],
         ),
-    ] {
-        let mut bytes = vec![in rt.alloc(); 0; 2 * 4096]?;
-        bytes[..5].copy_from_slice(&FRONT);
-        assert_eq!(rt; carried_over(&rt, &mut bytes, &mut arena, &job), answer);
-        assert!(rt; bytes.get(at..).is_some_and(|rest| rest.starts_with(&shown)));
+    ]
+}
+
+/// Dualcasts, among them the row dualcast_write_fault at the end of the caller's bytes, a compare and a create.
+fn other_jobs() -> [LentRow; 4] {
+    [
+        LentRow {
+            pages: 2,
+            job: Job::dualcast(0, 8180, 4084, 5),
+            answer: record(Status::Success, 0, 5, 0),
+            first: (8180, [1, 2, 3, 4, 5, 0, 0, 0, 0, 0, 0, 0]),
+            second: (4084, [1, 2, 3, 4, 5, 0, 0, 0, 0, 0, 0, 0]),
+        },
+        LentRow {
+            pages: 2,
+            job: Job::dualcast(0, 4094, 8190, 5),
+            answer: record(Status::WriteFault, 0, 2, 8192),
+            first: (4094, [1, 2, 0, 0, 0, 0, 0, 0, 0, 0, 0, 0]),
+            second: (8180, [0, 0, 0, 0, 0, 0, 0, 0, 0, 0, 1, 2]),
+        },
+        unchanged(
+            2,
+            Job::compare(0, 4096, 8),
+            record(Status::Success, 1, 0, 0),
+        ),
+        LentRow {
+            pages: 2,
+            job: Job::create_delta(4096, 0, 8, 16, 10),
+            answer: Record {
+                status: Status::Success,
+                result: 1,
+                completed: 8,
+                fault: 0,
+                delta_size: 10,
+            },
+            first: FRONT,
+            second: (16, [0, 0, 1, 2, 3, 4, 5, 0, 0, 0, 0, 0]),
+        },
+    ]
+}
+
+#[test]
+fn fills_and_moves_over_lent_pages(rt: HostRuntime) -> Result<(), Fail> {
+    let mut arena = Arena::new(rt.alloc(), 4096)?;
+    for row in fills() {
+        row.expect(&rt, rt.alloc(), &mut arena)?;
+    }
+    for row in moves() {
+        row.expect(&rt, rt.alloc(), &mut arena)?;
+    }
+    Ok(())
+}
+
+#[test]
+fn other_jobs_over_lent_pages(rt: HostRuntime) -> Result<(), Fail> {
+    let mut arena = Arena::new(rt.alloc(), 4096)?;
+    for row in other_jobs() {
+        row.expect(&rt, rt.alloc(), &mut arena)?;
     }
     Ok(())
 }
@@ -342,7 +459,6 @@ fn compares(rt: HostRuntime) -> Result<(), Fail> {
             record(Status::Success, 1, 11, 0),
         ),
     ] {
-        assert!(rt; job.op() != Some(Op::CreateDelta) && job.op() != Some(Op::ApplyDelta));
         assert_eq!(rt; submit_to(&mut image, &mut arena, &job, 0), answer);
     }
     Ok(())

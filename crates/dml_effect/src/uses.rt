@@ -1,18 +1,22 @@
 //! What callers rest on.
-ghost use Rattle.std.specs.Prelude.{◌≡◌, ◌≤◌, [], Some, IsTrue};
-ghost use Rattle.dml_types.specs.declared.operations.Op.TheVariants.{Move};
+ghost use Rattle.std.specs.Prelude.{◌≡◌, ◌/◌, ◌<◌, ◌≤◌, [], Some, IfOk, IsTrue};
+ghost use Rattle.dml_types.specs.declared.operations.Op.TheVariants.{ApplyDelta, CreateDelta, Move};
 ghost use Rattle.dml_types.specs.Job.{op_of};
 ghost use Rattle.dml_types.specs.Memory.{puts_made};
 ghost use Rattle.dml_types.specs.Refusal.{need};
 ghost use Rattle.dml_types.specs.Step.{effect, step};
 ghost use Rattle.dml_effect.specs.Effects.{are_present, some_puts};
 
+use crate::applying::join_apply;
+use crate::creating::join_create;
 use crate::effects::Effect;
 use crate::joining::join_found;
 use dml_arena::Region;
+use dml_delta::{scan_apply, scan_create};
 use dml_desc::Checked;
 use dml_image::Image;
 use dml_scan::scan_move;
+use std::alloc::{AllocError, Global};
 
 /// The effect of a move that is scanned in two chunks, cut at an offset.
 pub fn moved_in_two<'a>(image: &Image, job: &Checked, edge: u32, room: Region<'a>) -> Effect<'a>
@@ -30,4 +34,60 @@ pub fn moved_in_two<'a>(image: &Image, job: &Checked, edge: u32, room: Region<'a
     let below = scan_move(image, job, 0, edge, low);
     let above = scan_move(image, job, edge, size, high);
     join_found(image, job, [below, above].into_iter())
+}
+
+/// The effect of a create that is scanned in chunks of so many blocks.
+pub fn created_in_chunks<'a>(
+    alloc: Global,
+    image: &Image,
+    job: &Checked,
+    chunk: u32,
+    room: Region<'a>,
+) -> Result<Effect<'a>, AllocError>
+    requires operation { op_of job.now ≡ Some CreateDelta }
+    requires some { 0 < chunk }
+    requires empty { room.bytes ≡ [] }
+    requires fits { need job.now ≤ room.room }
+    ensures answer { IfOk result (λ done. done.answer ≡ (step image.now job.now (need job.now)).1) }
+    ensures puts { IfOk result (λ done. done.puts ≡ some_puts (effect image.now job.now (need job.now)).puts) }
+    ensures present { IfOk result (λ done. IsTrue (are_present image.now done.puts)) }
+{
+    let blocks = job.job().size / 8;
+    let mut pieces = Vec::new(alloc);
+    let mut rest = room;
+    let mut from = 0;
+    while from < blocks {
+        let to = from + chunk.min(blocks - from);
+        let (low, high) = rest.cut(10 * (to - from));
+        pieces.push(scan_create(image, job, from, to, low))?;
+        rest = high;
+        from = to;
+    }
+    Ok(join_create(image, job, pieces.into_iter()))
+}
+
+/// The effect of an apply that is scanned in three chunks, cut before two of its entries.
+pub fn applied_in_three<'a>(
+    image: &Image,
+    job: &Checked,
+    low: u32,
+    high: u32,
+    room: Region<'a>,
+) -> Effect<'a>
+    requires operation { op_of job.now ≡ Some ApplyDelta }
+    requires edges { (low ≤ high) × (high ≤ job.now.delta_size / 10) }
+    requires empty { room.bytes ≡ [] }
+    requires fits { job.now.delta_size ≤ room.room }
+    ensures answer { result.answer ≡ (step image.now job.now (need job.now)).1 }
+    ensures puts { result.puts ≡ some_puts (effect image.now job.now (need job.now)).puts }
+    ensures image { puts_made image.now result.puts ≡ (step image.now job.now (need job.now)).0 }
+    ensures present { IsTrue (are_present image.now result.puts) }
+{
+    let count = job.job().delta_size / 10;
+    let (front, rest) = room.cut(10 * low);
+    let (middle, back) = rest.cut(10 * (high - low));
+    let first = scan_apply(image, job, 0, low, front);
+    let second = scan_apply(image, job, low, high, middle);
+    let third = scan_apply(image, job, high, count, back);
+    join_apply(image, job, [first, second, third].into_iter())
 }

@@ -1,18 +1,8 @@
-use Rattle.std.proofs.Common.{◌≡◌, List, [], ◌∷◌, length, Option, None, Some, MatchOption, refl, ◌∙◌, ap, subst, arith}
-use Rattle.std.specs.Iterator.{AlwaysYields}
+use Rattle.std.proofs.Common.{◌≡◌, [], ◌∷◌, refl, ◌∙◌, ap, arith}
 use Rattle.std.specs.Array.Iter.{array_into_iter_items}
-use Rattle.std.proofs.lemmas.Iterator.Consumers.{YieldsList-from_shown}
 use Rattle.dml_types.specs.declared.operations.Op.TheVariants.{Move}
-use Rattle.dml_scan.specs.declared.scans.ScanPiece.{ScanPiece}
+use Rattle.dml_effect.proofs.JoinLemmas.{array_yields}
 use Rattle.dml_effect.proofs.uses.moved_in_two.Goals as goal
-
--- an array's pieces come in its order
-array_yields : {S : Type 0} (shown : S → List ScanPiece) (pieces : S) (list : List ScanPiece) → shown pieces ≡ list
-    → AlwaysYields (λ s r t. MatchOption r ((length (shown s) ≡ 0) × (t ≡ s)) (λ x. shown s ≡ x ∷ shown t)) (λ piece. piece) pieces list
-array_yields {S} shown pieces list is =
-    let steps : S → Option ScanPiece → S → Type 0 = λ s r t. MatchOption r ((length (shown s) ≡ 0) × (t ≡ s)) (λ x. shown s ≡ x ∷ shown t) in
-    subst (AlwaysYields steps (λ piece. piece) pieces) is
-    (YieldsList-from_shown steps (λ piece. piece) shown (λ (s t : S) (h : steps s None t). h.0) (λ (s : S) (x : ScanPiece) (t : S) (h : steps s (Some x) t). h) pieces).runs
 
 pub join_found-requires : goal.join_found-requires
 join_found-requires c =

@@ -4,7 +4,7 @@ use Rattle.dml_types.specs.declared.operations.Op.TheVariants.{ApplyDelta, Compa
 use Rattle.dml_types.specs.Job.{op_of}
 use Rattle.dml_effect.specs.Chunks.{IsScanned}
 use Rattle.dml_effect.proofs.JoinLemmas.{once_yields_scan}
-use Rattle.dml_effect.proofs.carrying.effect_in.Goals as goal
+use Rattle.dml_effect.proofs.carrying.scan_in.Goals as goal
 
 is_scanned : (job : Job) → (op_of job ≡ Some Fill) ⊎ (op_of job ≡ Some Compare) ⊎ (op_of job ≡ Some ComparePattern) → IsScanned job
 is_scanned job one = (

@@ -1,0 +1,47 @@
+use Rattle.std.proofs.Common.{◌≡◌, ◌<◌, map, length, Some, sym, ◌∙◌, subst}
+use Rattle.std.specs.List.{All}
+use Rattle.std.proofs.lemmas.List.Elements.{All-filter}
+use Rattle.dml_levels.specs.Waves.{job_at}
+use Rattle.dml_desc.specs.Checked.{operation_of}
+use Rattle.dml_pool.specs.declared.tasks.Outcome.{Outcome}
+use Rattle.dml_wave.specs.Effects.{HoldWave, progress}
+use Rattle.dml_wave.specs.Waves.{busy, is_busy}
+use Rattle.dml_wave.proofs.CommitLemmas.{busy_apart, busy_enough, committed_all, effects_present, effects_within}
+use Rattle.dml_wave.proofs.ValueLemmas.{values_in, wave_held}
+use Rattle.dml_wave.proofs.carrying.carry_out_wave.Goals as goal
+
+pub effects_of-requires-clause-slots : goal.effects_of-requires-clause-slots
+effects_of-requires-clause-slots g c =
+    let memory = c.args.image.now in
+    let jobs = c.args.jobs.now in
+    let chunk = c.args.settings.now.chunk in
+    let wave = c.args.wave.now in
+    let tasks = c.in_ok-tasks.tasks.items in
+    let outcomes = c.in_ok-outcomes.outcomes.items in
+    let pieces : c.deref_mut.result.now ≡ map (λ (o : Outcome). Some o.piece) outcomes =
+    c.deref_mut.ensures.value ∙ c.in_ok-slots.ensures in
+    subst (HoldWave memory jobs chunk wave) (sym pieces)
+    (wave_held memory jobs chunk wave tasks (map (λ (o : Outcome). Some o.piece) outcomes) c.in_ok-tasks.ensures.tasks (values_in memory tasks outcomes c.in_ok-outcomes.ensures.values))
+
+pub commit_all-requires-clause-places : goal.commit_all-requires-clause-places
+commit_all-requires-clause-places g c =
+    let jobs = c.args.jobs.now in
+    let wave = c.args.wave.now in
+    let records = c.args.records.now in
+    let inside : All (λ i. i < length records) wave =
+    subst (λ n. All (λ i. i < n) wave) (sym c.requires.records) c.requires.places in
+    effects_within c.args.image.now jobs (length records) (busy jobs wave) c.in_ok-effects.effects.items
+    (All-filter (λ i. is_busy (operation_of (job_at jobs i))) (λ i. i < length records) wave inside) c.in_ok-effects.ensures
+
+pub commit_all-requires-clause-present : goal.commit_all-requires-clause-present
+commit_all-requires-clause-present g c =
+    effects_present c.args.image.now c.args.jobs.now (busy c.args.jobs.now c.args.wave.now) c.in_ok-effects.effects.items c.in_ok-effects.ensures
+
+pub returns-clause-done : goal.returns-clause-done
+returns-clause-done g c =
+    let jobs = c.args.jobs.now in
+    let wave = c.args.wave.now in
+    let staging = c.args.settings.now.staging in
+    c.commit_all.ensures.done
+    ∙ committed_all jobs staging (busy jobs wave) c.in_ok-effects.effects.items (progress c.args.image.now c.args.records.now) c.pages-pages.ensures.memory.whole
+    (busy_apart jobs staging wave c.requires.apart) (busy_enough jobs staging wave c.requires.small.needs) c.in_ok-effects.ensures

@@ -1,0 +1,48 @@
+-- The tasks of a wave's jobs, job after job.
+use Rattle.std.specs.Prelude.{◌≡◌, ℕ, ◌/◌, ◌≤◌, List, [], ◌∷◌, ◌++◌, length}
+use Rattle.std.specs.List.{All}
+use Rattle.dml_types.specs.declared.jobs.Job.{Job}
+use Rattle.dml_types.specs.declared.operations.Op.{Op}
+use Rattle.dml_types.specs.declared.operations.Op.TheVariants.{CreateDelta, ApplyDelta}
+use Rattle.dml_desc.specs.Checked.{operation_of}
+use Rattle.dml_effect.specs.Chunks.{AreChunksFrom}
+use Rattle.dml_levels.specs.Tasks.{task_count}
+use Rattle.dml_levels.specs.Waves.{job_at}
+use Rattle.dml_pool.specs.declared.tasks.Task.{Task}
+use Rattle.dml_pool.specs.Tasks.{units, IsRunnable}
+
+-- how many offsets, blocks or entries a chunk of so many bytes has: one block or entry for each 8 bytes
+abbrev pub chunk_units : Op → ℕ → ℕ
+chunk_units CreateDelta chunk = chunk / 8
+chunk_units ApplyDelta chunk = chunk / 8
+chunk_units _ chunk = chunk
+
+-- the task is a chunk of the job from an offset on, in the units that its operation is cut by
+pub record IsTaskFrom (job : Job) (from : ℕ) (task : Task) : Type 0 where
+  pub of : task.job ≡ job
+  pub begins : task.from ≡ from
+  pub order : from ≤ task.to
+
+-- the tasks of a job: all its chunks upwards, each region right behind the one before
+abbrev pub AreTasksOf : Job → List Task → Type 0
+AreTasksOf job tasks =
+    AreChunksFrom (IsTaskFrom job) (λ task. task.to) (λ task. task.room)
+    (units (operation_of job) job) 0 tasks
+
+-- those of the jobs at these places, one after another
+abbrev pub AreTasks : List Job → ℕ → List ℕ → List Task → Type 0
+AreTasks jobs chunk [] tasks = tasks ≡ []
+AreTasks jobs chunk (i ∷ places) tasks =
+    (mine others : List Task)
+    × (tasks ≡ mine ++ others)
+    × (length mine ≡ task_count (job_at jobs i) chunk)
+    × AreTasksOf (job_at jobs i) mine
+    × AreTasks jobs chunk places others
+
+-- the tasks of one more job stand behind those of a list
+pub record AddsTasks (job : Job) (chunk : ℕ) (old new : List Task) : Type 0 where
+  pub mine : List Task
+  pub list : new ≡ old ++ mine
+  pub count : length mine ≡ task_count job chunk
+  pub tasks : AreTasksOf job mine
+  pub runnable : All IsRunnable mine

@@ -1,0 +1,73 @@
+//! A wave of jobs, from its tasks to its records.
+ghost use Rattle.std.specs.Prelude.{◌≡◌, ◌<◌, ◌≤◌, length, OnOk, OnErr};
+ghost use Rattle.std.specs.List.{All};
+ghost use Rattle.dml_types.specs.Limits.{IsValid};
+ghost use Rattle.dml_levels.specs.Laws.{carried};
+ghost use Rattle.dml_levels.specs.Waves.{IsSmall};
+ghost use Rattle.dml_order.specs.Order.{run_all};
+ghost use Rattle.dml_wave.specs.Effects.{progress};
+ghost use Rattle.dml_wave.specs.Waves.{AreApart, busy};
+
+use crate::WaveError;
+use crate::committing::commit_all;
+use crate::cutting::cut_tasks;
+use crate::effects::{effects_of, slots_of};
+use dml_arena::Arena;
+use dml_desc::Checked;
+use dml_image::Image;
+use dml_pool::{Gate, PoolError, run_wave};
+use dml_types::{Record, Settings};
+use std::alloc::{AllocError, Global};
+use std::sync::Wait;
+use std::thread::Threads;
+
+impl From<AllocError> for WaveError {
+    fn from(_refused: AllocError) -> WaveError {
+        WaveError::NoMemory
+    }
+}
+
+impl From<PoolError> for WaveError {
+    fn from(_refused: PoolError) -> WaveError {
+        WaveError::NoMemory
+    }
+}
+
+/// Carries out the jobs at a wave's places on at most `workers` threads, this one among them, and writes the record of
+/// each at its place. A no-op is passed over: its record stays as it is.
+///
+/// All effects are found on the image as it stands, and then committed in the wave's order.
+///
+/// # Errors
+///
+/// `NoMemory` where the allocator has no memory left. Nothing is changed.
+pub fn carry_out_wave<R: Threads + Wait + Sync, G: Gate + Sync>(
+    rt: &R,
+    alloc: Global,
+    gate: &G,
+    settings: &Settings,
+    image: &mut Image,
+    arena: &mut Arena,
+    jobs: &[Checked],
+    wave: &[u32],
+    records: &mut [Record],
+) -> Result<(), WaveError>
+    requires valid { IsValid settings.now }
+    requires staging { settings.now.staging ≤ arena.old.size }
+    requires records { length records.old ≡ length jobs.now }
+    requires places { All (λ i. i < length jobs.now) wave.now }
+    requires apart { AreApart jobs.now wave.now }
+    requires small { IsSmall jobs.now settings.now.staging settings.now.chunk wave.now }
+    ensures done { OnOk result (progress image.new records.new ≡ run_all (carried jobs.now settings.now.staging) (progress image.old records.old) (busy jobs.now wave.now)) }
+    ensures refused { OnErr result ((image.new ≡ image.old) × (records.new ≡ records.old)) }
+    ensures arena { arena.new ≡ arena.old }
+{
+    let _pages = image.pages();
+    let room = arena.open();
+    let tasks = cut_tasks(alloc, jobs, wave, settings.chunk, room)?;
+    let outcomes = run_wave(rt, alloc, image, tasks, settings.workers, gate)?;
+    let mut slots = slots_of(alloc, outcomes)?;
+    let effects = effects_of(alloc, image, jobs, wave, settings.chunk, &mut slots)?;
+    commit_all(image, effects, records);
+    Ok(())
+}

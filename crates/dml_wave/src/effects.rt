@@ -1,0 +1,124 @@
+//! The effects of a wave's jobs.
+ghost use Rattle.std.specs.Prelude.{◌≡◌, ◌<◌, length, map, IfOk, Some};
+ghost use Rattle.std.specs.List.{All, AllZip};
+ghost use Rattle.dml_levels.specs.Tasks.{IsChunk};
+ghost use Rattle.dml_wave.specs.Effects.{HoldJob, HoldWave, IsEffectAt, IsEffectOf};
+ghost use Rattle.dml_wave.specs.Effects as word;
+ghost use Rattle.dml_wave.specs.Waves.{busy};
+
+use dml_delta::{ApplyPiece, CreatePiece};
+use dml_desc::Checked;
+use dml_effect::{Effect, join_apply, join_create, join_found};
+use dml_image::Image;
+use dml_levels::task_count;
+use dml_pool::{Outcome, Piece};
+use dml_scan::ScanPiece;
+use dml_types::Op;
+use std::alloc::{AllocError, Global};
+
+/// What the job at a place does.
+#[derive(Drop)]
+pub(crate) struct JobEffect<'a> {
+    pub(crate) place: u32,
+    pub(crate) effect: Effect<'a>,
+}
+
+/// A slot for the piece of each outcome, in their order.
+///
+/// # Errors
+///
+/// Where the allocator has no memory left for the list.
+pub(crate) fn slots_of<'a>(
+    alloc: Global,
+    outcomes: Vec<Outcome<'a>>,
+) -> Result<Vec<Option<Piece<'a>>>, AllocError>
+    ensures { IfOk result (λ slots. slots.items ≡ map (λ outcome. Some outcome.piece) outcomes.entry.items) }
+{
+    let mut slots = Vec::with_capacity(alloc, outcomes.len())?;
+    for outcome in outcomes {
+        slots.push_reserved(Some(outcome.piece));
+    }
+    Ok(slots)
+}
+
+/// The effects of the jobs at a wave's places on the image as it stands, in the wave's order. A no-op has none.
+///
+/// The slots hold the pieces of the jobs' tasks, job after job.
+///
+/// # Errors
+///
+/// Where the allocator has no memory left for the list.
+pub(crate) fn effects_of<'a>(
+    alloc: Global,
+    image: &Image,
+    jobs: &[Checked],
+    wave: &[u32],
+    chunk: u32,
+    slots: &mut [Option<Piece<'a>>],
+) -> Result<Vec<JobEffect<'a>>, AllocError>
+    requires places { All (λ i. i < length jobs.now) wave.now }
+    requires chunk { IsChunk chunk }
+    requires slots { HoldWave image.now jobs.now chunk wave.now slots.old }
+    ensures { IfOk result (λ effects. AllZip (IsEffectAt image.now jobs.now) (busy jobs.now wave.now) effects.items) }
+{
+    let mut effects = Vec::with_capacity(alloc, wave.len())?;
+    let mut from = 0;
+    for place in wave {
+        let job = &jobs[*place as usize];
+        let to = from + task_count(job, chunk) as usize;
+        match job.op() {
+            Op::NoOp => {}
+            _ => {
+                let effect = effect_of(image, job, &mut slots[from..to]);
+                effects.push_reserved(JobEffect {
+                    place: *place,
+                    effect,
+                });
+            }
+        }
+        from = to;
+    }
+    Ok(effects)
+}
+
+/// The effect of a job, whose tasks' pieces are taken out of their slots.
+fn effect_of<'a>(image: &Image, job: &Checked, slots: &mut [Option<Piece<'a>>]) -> Effect<'a>
+    requires slots { HoldJob image.now job.now slots.old }
+    ensures { IsEffectOf image.now job.now result }
+{
+    match job.op() {
+        Op::CreateDelta => join_create(image, job, slots.iter_mut().filter_map(take_create)),
+        Op::ApplyDelta => join_apply(image, job, slots.iter_mut().filter_map(take_apply)),
+        _ => join_found(image, job, slots.iter_mut().filter_map(take_scan)),
+    }
+}
+
+/// The scan that a slot holds.
+fn take_scan<'a>(slot: &mut Option<Piece<'a>>) -> Option<ScanPiece<'a>>
+    ensures { result ≡ word.scan_in slot.old }
+{
+    match slot.take() {
+        Some(Piece::Scan(piece)) => Some(piece),
+        _ => None,
+    }
+}
+
+/// The piece of a create that a slot holds.
+fn take_create<'a>(slot: &mut Option<Piece<'a>>) -> Option<CreatePiece<'a>>
+    ensures { result ≡ word.create_in slot.old }
+{
+    match slot.take() {
+        Some(Piece::Create(piece)) => Some(piece),
+        _ => None,
+    }
+}
+
+/// The piece of an apply that a slot holds.
+fn take_apply<'a>(slot: &mut Option<Piece<'a>>) -> Option<ApplyPiece<'a>>
+    ensures { result ≡ word.apply_in slot.old }
+{
+    match slot.take() {
+        Some(Piece::Apply(piece)) => Some(piece),
+        _ => None,
+    }
+}

@@ -1,0 +1,298 @@
+//! The tasks that the jobs of a wave are cut in, and waves that are carried out.
+ghost use Rattle.std.specs.Prelude.{◌≡◌, ◌≤◌, [], ◌∷◌};
+ghost use Rattle.dml_types.specs.Refusal.{need};
+ghost use Rattle.dml_levels.specs.Tasks.{IsChunk};
+ghost use Rattle.dml_levels.specs.Waves.{IsSmall};
+
+mod waves;
+
+use crate::cutting::cut_tasks;
+use crate::{WaveError, carry_out_wave};
+use dml_arena::Arena;
+use dml_desc::{Checked, check, need};
+use dml_image::{Image, ImageError};
+use dml_levels::{conflict, task_count};
+use dml_pool::{Free, Task};
+use dml_types::{Job, Record, Settings, Status};
+use std::alloc::Global;
+use std::process::Abort;
+use std::sync::Wait;
+use std::test::Fail;
+use std::thread::Threads;
+
+/// The staging size of a run without options.
+const STAGING: u32 = 1_048_576;
+
+/// A task's first offset and the one behind its last, and where its region starts and how much room it has.
+type Cut = (u32, u32, u32, u32);
+
+/// A chunk size that is valid.
+fn valid_chunk(rt: &impl Abort, chunk: u32) -> u32
+    ensures same { result ≡ chunk }
+    ensures valid { IsChunk result }
+{
+    assert!(rt; chunk >= 8 && chunk <= 1_048_576 && chunk % 8 == 0);
+    chunk
+}
+
+/// The staging that a job needs.
+fn need_of(rt: &impl Abort, job: &Checked) -> u64
+    ensures count { result ≡ need job.now }
+    ensures most { result ≤ 1048576 }
+{
+    let count = need(job.job());
+    assert!(rt; count <= 1_048_576);
+    count
+}
+
+/// The tasks of a wave of one job.
+fn tasks_of<'a>(
+    rt: &impl Abort,
+    alloc: Global,
+    job: &Job,
+    chunk: u32,
+    arena: &'a mut Arena,
+) -> Result<Vec<Task<'a>>, Fail> {
+    let job = check(job, STAGING).map_err(|_| "refused")?;
+    let chunk = valid_chunk(rt, chunk);
+    let room = arena.open();
+    assert!(rt; need_of(rt, &job) <= u64::from(room.room()));
+    assert!(rt; task_count(&job, chunk) <= 131_072);
+    Ok(cut_tasks(alloc, &[job], &[0], chunk, room)?)
+}
+
+/// What the task at a place is.
+fn cut_at(tasks: &[Task<'_>], place: usize) -> Option<Cut> {
+    let task = tasks.get(place)?;
+    Some((task.from, task.to, task.room.start(), task.room.room()))
+}
+
+/// Checks the tasks of a wave.
+fn expect_cuts(rt: &impl Abort, tasks: &[Task<'_>], want: &[Cut]) {
+    assert_eq!(rt; tasks.len(), want.len());
+    for (place, cut) in want.iter().enumerate() {
+        assert_eq!(rt; cut_at(tasks, place), Some(*cut), "task {place}");
+    }
+}
+
+#[test]
+fn chunk_task_counts(rt: HostRuntime) -> Result<(), Fail> {
+    let alloc = rt.alloc();
+    let rows = [
+        (Job::move_bytes(0, 4096, 100), 8, 13, Some((96, 100, 96, 4))),
+        (
+            Job::create_delta(0, 64, 32, 128, 20),
+            16,
+            2,
+            Some((2, 4, 20, 20)),
+        ),
+        (
+            Job::apply_delta(0, 30, 256, 32),
+            16,
+            2,
+            Some((2, 3, 20, 10)),
+        ),
+        (Job::fill(1, 0, 0), 8, 0, None),
+        (Job::no_op(), 8, 0, None),
+        (
+            Job::move_bytes(0, 0, 1_048_576),
+            8,
+            131_072,
+            Some((1_048_568, 1_048_576, 1_048_568, 8)),
+        ),
+    ];
+    for (job, chunk, count, last) in rows {
+        let mut arena = Arena::new(alloc, STAGING)?;
+        let tasks = tasks_of(&rt, alloc, &job, chunk, &mut arena)?;
+        assert_eq!(rt; tasks.len(), count);
+        assert_eq!(rt; cut_at(&tasks, tasks.len().saturating_sub(1)), last);
+    }
+    Ok(())
+}
+
+/// A wave names its jobs in an order of its own; the regions of its chunks lie side by side from the room's first byte.
+#[test]
+fn chunks_side_by_side(rt: HostRuntime) -> Result<(), Fail> {
+    let create = check(&Job::create_delta(0, 64, 24, 128, 30), STAGING).map_err(|_| "refused")?;
+    let compare = check(&Job::compare(0, 512, 20), STAGING).map_err(|_| "refused")?;
+    let cast = check(&Job::dualcast(0, 4096, 8192, 20), STAGING).map_err(|_| "refused")?;
+    let mut arena = Arena::new(rt.alloc(), 50)?;
+    let room = arena.open();
+    let needs = need_of(&rt, &cast) + (need_of(&rt, &create) + need_of(&rt, &compare));
+    assert!(rt; needs <= u64::from(room.room()));
+    let count = task_count(&cast, 16) + (task_count(&create, 16) + task_count(&compare, 16));
+    assert!(rt; count <= 131_072);
+    let jobs = [create, compare, cast];
+    let tasks = cut_tasks(rt.alloc(), &jobs, &[2, 0, 1], 16, room)?;
+    let want = [
+        (0, 16, 0, 16),
+        (16, 20, 16, 4),
+        (0, 2, 20, 20),
+        (2, 3, 40, 10),
+        (0, 16, 50, 0),
+        (16, 20, 50, 0),
+    ];
+    expect_cuts(&rt, &tasks, &want);
+    Ok(())
+}
+
+/// A page of the bytes 0 to 255 over and over, a page of zeros, and an absent one.
+fn image(alloc: Global) -> Result<Image<'static>, ImageError> {
+    let mut image = Image::new(alloc, 3)?;
+    let mut bytes = [0; 4096];
+    for (i, byte) in bytes.iter_mut().enumerate() {
+        *byte = (i % 256) as u8;
+    }
+    image.bring(0, &bytes)?;
+    image.bring(1, &[0; 4096])?;
+    Ok(image)
+}
+
+/// A record that no job of these tests has.
+const BLANK: Record = Record {
+    status: Status::BadSize,
+    result: 9,
+    completed: 9,
+    fault: 9,
+    delta_size: 9,
+};
+
+/// A record without a delta.
+fn record(status: Status, completed: u32, fault: u64) -> Record {
+    Record {
+        completed,
+        fault,
+        ..Record::refused(status)
+    }
+}
+
+/// Checks that a wave of three jobs, the last of them first, fits.
+fn expect_small(
+    rt: &impl Abort,
+    settings: &Settings,
+    first: &Checked,
+    second: &Checked,
+    third: &Checked,
+)
+    ensures { IsSmall (first.now ∷ second.now ∷ third.now ∷ []) settings.now.staging settings.now.chunk (2 ∷ 0 ∷ 1 ∷ []) }
+{
+    let needs = need_of(rt, third) + (need_of(rt, first) + need_of(rt, second));
+    assert!(rt; needs <= u64::from(settings.staging));
+    let chunk = valid_chunk(rt, settings.chunk);
+    let count = task_count(third, chunk) + (task_count(first, chunk) + task_count(second, chunk));
+    assert!(rt; count <= 131_072);
+}
+
+/// Carries out three jobs that do not conflict as one wave, the last of them first.
+fn carried_together<R: Abort + Threads + Wait + Sync>(
+    rt: &R,
+    alloc: Global,
+    settings: &Settings,
+    image: &mut Image,
+    arena: &mut Arena,
+    jobs: (Checked, Checked, Checked),
+    records: &mut [Record],
+) -> Result<(), WaveError> {
+    assert!(rt; settings.is_valid() && settings.staging <= arena.size() && records.len() == 3);
+    let (first, second, third) = jobs;
+    assert!(rt;
+        !conflict(&third, &first) && !conflict(&third, &second) && !conflict(&first, &second)
+    );
+    expect_small(rt, settings, &first, &second, &third);
+    let jobs = [first, second, third];
+    carry_out_wave(
+        rt,
+        alloc,
+        &Free,
+        settings,
+        image,
+        arena,
+        &jobs,
+        &[2, 0, 1],
+        records,
+    )
+}
+
+/// A move, a compare, and a fill that runs into the absent page.
+fn three_jobs() -> Result<(Checked, Checked, Checked), Status> {
+    Ok((
+        check(&Job::move_bytes(0, 4096, 20), STAGING)?,
+        check(&Job::compare(0, 256, 20), STAGING)?,
+        check(&Job::fill(0x0706_0504_0302_0100, 8184, 16), STAGING)?,
+    ))
+}
+
+/// Checks what the three jobs leave.
+fn expect_three(rt: &impl Abort, image: &Image, records: &[Record; 3]) {
+    assert_eq!(rt; records[0], record(Status::Success, 20, 0));
+    assert_eq!(rt; records[1], record(Status::Success, 20, 0));
+    assert_eq!(rt; records[2], record(Status::WriteFault, 8, 8192));
+    for i in 0..20 {
+        assert_eq!(rt; image.byte(4096 + i), Some(i as u8));
+    }
+    assert_eq!(rt; image.byte(4116), Some(0));
+    assert_eq!(rt; image.byte(8183), Some(0));
+    for i in 0..8 {
+        assert_eq!(rt; image.byte(8184 + i), Some(i as u8));
+    }
+}
+
+#[test]
+fn wave_of_three(rt: HostRuntime) -> Result<(), Fail> {
+    for (chunk, workers) in [(8, 1), (8, 2), (8, 16), (16, 3), (4096, 1), (4096, 16)] {
+        let jobs = three_jobs().map_err(|_| "refused")?;
+        let mut image = image(rt.alloc())?;
+        let mut arena = Arena::new(rt.alloc(), 20)?;
+        let mut records = [BLANK; 3];
+        let settings = Settings {
+            staging: 20,
+            chunk,
+            workers,
+        };
+        carried_together(
+            &rt,
+            rt.alloc(),
+            &settings,
+            &mut image,
+            &mut arena,
+            jobs,
+            &mut records,
+        )?;
+        expect_three(&rt, &image, &records);
+    }
+    Ok(())
+}
+
+/// The record at a no-op's place stays as it is.
+#[test]
+fn no_op_in_a_wave(rt: HostRuntime) -> Result<(), Fail> {
+    let (copy, _, fill) = three_jobs().map_err(|_| "refused")?;
+    let no_op = check(&Job::no_op(), STAGING).map_err(|_| "refused")?;
+    let mut image = image(rt.alloc())?;
+    let mut arena = Arena::new(rt.alloc(), 20)?;
+    let mut records = [BLANK; 3];
+    let settings = Settings {
+        staging: 20,
+        chunk: 8,
+        workers: 2,
+    };
+    carried_together(
+        &rt,
+        rt.alloc(),
+        &settings,
+        &mut image,
+        &mut arena,
+        (copy, no_op, fill),
+        &mut records,
+    )?;
+    assert_eq!(rt; records[1], BLANK);
+    records[1] = record(Status::Success, 20, 0);
+    expect_three(&rt, &image, &records);
+    Ok(())
+}
+
+#[test]
+fn text_of_no_memory(rt: HostRuntime) {
+    let text = format!(in rt.alloc(); "{}", WaveError::NoMemory);
+    assert!(rt; text.is_ok_and(|text| text.as_str() == "out of memory"));
+}

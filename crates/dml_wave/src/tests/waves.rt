@@ -1,0 +1,354 @@
+//! Waves that are carried out: the same images and records as by one job after another.
+ghost use Rattle.std.specs.Prelude.{◌≡◌, ◌<◌, All, IsTrue, false, length};
+ghost use Rattle.dml_types.specs.Limits.{IsValid};
+ghost use Rattle.dml_types.specs.Conflict as word;
+ghost use Rattle.dml_levels.specs.Waves.{IsSmall, job_at};
+ghost use Rattle.dml_wave.specs.Waves.{AreApart};
+
+use crate::{WaveError, carry_out_wave};
+use dml_arena::Arena;
+use dml_desc::{Checked, check, need};
+use dml_effect::submit_to;
+use dml_image::{Image, ImageError};
+use dml_levels::{conflict, task_count};
+use dml_pool::Free;
+use dml_types::{Job, Record, Settings, Status};
+use std::alloc::Global;
+use std::process::Abort;
+use std::sync::Wait;
+use std::test::Fail;
+use std::thread::Threads;
+
+/// The staging size of a run without options.
+const STAGING: u32 = 1_048_576;
+
+/// Whether a job conflicts with none of those at some places.
+fn is_clear(jobs: &[Checked], job: &Checked, places: &[u32]) -> bool
+    requires { All (λ i. i < length jobs.now) places.now }
+    ensures { IsTrue result → All (λ k. word.conflict job.now (job_at jobs.now k) ≡ false) places.now }
+{
+    for place in places {
+        if conflict(job, &jobs[*place as usize]) {
+            return false;
+        }
+    }
+    true
+}
+
+/// Whether no two jobs at a wave's places conflict.
+fn are_apart(jobs: &[Checked], wave: &[u32]) -> bool
+    requires { All (λ i. i < length jobs.now) wave.now }
+    ensures { IsTrue result → AreApart jobs.now wave.now }
+{
+    for from in 0..wave.len() {
+        if !is_clear(jobs, &jobs[wave[from] as usize], &wave[from + 1..]) {
+            return false;
+        }
+    }
+    true
+}
+
+/// Whether the jobs at a wave's places fit into one.
+fn fits(jobs: &[Checked], wave: &[u32], settings: &Settings) -> bool
+    requires places { All (λ i. i < length jobs.now) wave.now }
+    requires valid { IsValid settings.now }
+    ensures { IsTrue result → IsSmall jobs.now settings.now.staging settings.now.chunk wave.now }
+{
+    let (mut needs, mut tasks) = (0, 0);
+    for place in wave {
+        let job = &jobs[*place as usize];
+        needs += need(job.job());
+        tasks += task_count(job, settings.chunk);
+        if needs > u64::from(settings.staging) || tasks > 131_072 {
+            return false;
+        }
+    }
+    true
+}
+
+/// Whether each place of a wave is one of the list.
+fn is_within(count: usize, wave: &[u32]) -> bool
+    ensures { IsTrue result → All (λ i. i < count) wave.now }
+{
+    for place in wave {
+        if *place as usize >= count {
+            return false;
+        }
+    }
+    true
+}
+
+/// A record that no job of the tests has.
+const BLANK: Record = Record {
+    status: Status::BatchFailed,
+    result: 7,
+    completed: 7,
+    fault: 7,
+    delta_size: 7,
+};
+
+/// Carries out the jobs at a wave's places.
+fn carried<R: Abort + Threads + Wait + Sync>(
+    rt: &R,
+    alloc: Global,
+    settings: &Settings,
+    image: &mut Image,
+    jobs: &[Checked],
+    wave: &[u32],
+    records: &mut [Record],
+) -> Result<(), WaveError> {
+    let mut arena = Arena::new(alloc, settings.staging).map_err(|_| WaveError::NoMemory)?;
+    assert!(rt; settings.is_valid() && arena.size() == settings.staging);
+    assert!(rt; records.len() == jobs.len() && is_within(jobs.len(), wave));
+    assert!(rt; are_apart(jobs, wave) && fits(jobs, wave, settings));
+    carry_out_wave(
+        rt, alloc, &Free, settings, image, &mut arena, jobs, wave, records,
+    )
+}
+
+/// The jobs of a table, checked, with a no-op for each that is refused; its record is the refusal then, and blank else.
+fn list_of(alloc: Global, staging: u32, table: &[Job]) -> Option<(Vec<Checked>, Vec<Record>)> {
+    let idle = check(&Job::no_op(), staging).ok()?;
+    let mut jobs = Vec::with_capacity(alloc, table.len()).ok()?;
+    let mut records = Vec::with_capacity(alloc, table.len()).ok()?;
+    for job in table {
+        let (job, record) = match check(job, staging) {
+            Ok(job) => (job, BLANK),
+            Err(status) => (idle, Record::refused(status)),
+        };
+        jobs.push(job).ok()?;
+        records.push(record).ok()?;
+    }
+    Some((jobs, records))
+}
+
+/// A record without a fault or a delta size.
+fn done(status: Status, completed: u32) -> Record {
+    Record {
+        status,
+        result: 0,
+        completed,
+        fault: 0,
+        delta_size: 0,
+    }
+}
+
+/// Eight pages: the bytes 0 to 250 over and over in pages 0 and 1, but for one byte, an apply's record in page 2,
+/// zeros in the others, and page 5 absent.
+fn image(alloc: Global) -> Result<Image<'static>, ImageError> {
+    let mut image = Image::new(alloc, 8)?;
+    let mut bytes = [0; 4096];
+    for (i, byte) in bytes.iter_mut().enumerate() {
+        *byte = (i % 251) as u8;
+    }
+    image.bring(0, &bytes)?;
+    bytes[1000] = 0xff;
+    image.bring(1, &bytes)?;
+    let mut record = [0; 4096];
+    for (i, byte) in record.iter_mut().enumerate() {
+        *byte = match i {
+            0 => 1,
+            10 => 3,
+            20 => 30,
+            1 | 11 | 21 => 0,
+            _ => 9,
+        };
+    }
+    image.bring(2, &record)?;
+    for page in [3, 4, 6, 7] {
+        image.bring(page, &[0; 4096])?;
+    }
+    Ok(image)
+}
+
+#[test]
+fn staging_refusal_and_two_waves(rt: HostRuntime) -> Result<(), Fail> {
+    let table = [
+        Job::move_bytes(0, 256, 64),
+        Job::move_bytes(0, 512, 65),
+        Job::move_bytes(0, 1024, 64),
+    ];
+    for workers in [1, 2] {
+        let settings = Settings {
+            staging: 64,
+            chunk: 16,
+            workers,
+        };
+        let mut image = image(rt.alloc())?;
+        let (jobs, mut records) = list_of(rt.alloc(), 64, &table).ok_or("no memory")?;
+        for wave in [[0, 1].as_slice(), [2].as_slice()] {
+            carried(
+                &rt,
+                rt.alloc(),
+                &settings,
+                &mut image,
+                &jobs,
+                wave,
+                &mut records,
+            )?;
+        }
+        let want = [
+            done(Status::Success, 64),
+            done(Status::StagingRefused, 0),
+            done(Status::Success, 64),
+        ];
+        assert_eq!(rt; records.as_slice(), want.as_slice());
+        for place in 0..64 {
+            assert_eq!(rt; image.byte(256 + place), image.byte(place));
+            assert_eq!(rt; image.byte(1024 + place), image.byte(place));
+        }
+    }
+    Ok(())
+}
+
+/// A wave with each operation: a compare that differs, a backward move, and a fill and a dualcast that meet the absent
+/// page among them.
+fn mixed() -> [Job; 10] {
+    [
+        Job::move_bytes(0, 12_288, 100),
+        Job::fill(0x0807_0605_0403_0201, 12_800, 77),
+        Job::compare(0, 4096, 4096),
+        Job::no_op(),
+        Job::compare_pattern(24_576, 0, 64),
+        Job::create_delta(0, 4096, 4096, 28_672, 100),
+        Job::apply_delta(8192, 30, 14_336, 256),
+        Job::dualcast(8, 17_408, 21_504, 48),
+        Job::move_bytes(29_696, 29_704, 512),
+        Job::fill(7, 20_400, 200),
+    ]
+}
+
+/// Checks that two images have the same bytes.
+fn expect_same(rt: &impl Abort, one: &Image, other: &Image) {
+    for addr in 0..32_768 {
+        assert_eq!(rt; one.byte(addr), other.byte(addr), "byte {addr}");
+    }
+}
+
+/// What the jobs do one after another, each by itself; the record of a no-op is blank.
+fn one_by_one(alloc: Global, image: &mut Image, table: &[Job]) -> Option<Vec<Record>> {
+    let mut arena = Arena::new(alloc, STAGING).ok()?;
+    let mut records = Vec::with_capacity(alloc, table.len()).ok()?;
+    for job in table {
+        let staging = arena.size();
+        let record = submit_to(image, &mut arena, job, staging);
+        let record = if *job == Job::no_op() { BLANK } else { record };
+        records.push(record).ok()?;
+    }
+    Some(records)
+}
+
+#[test]
+fn every_operation_in_one_wave(rt: HostRuntime) -> Result<(), Fail> {
+    let table = mixed();
+    let mut plain = image(rt.alloc())?;
+    let want = one_by_one(rt.alloc(), &mut plain, &table).ok_or("no memory")?;
+    for wave in [
+        [0, 1, 2, 3, 4, 5, 6, 7, 8, 9],
+        [9, 8, 7, 6, 5, 4, 3, 2, 1, 0],
+    ] {
+        for chunk in [8, 16, 4096] {
+            for workers in [1, 2, 16] {
+                let settings = Settings {
+                    staging: STAGING,
+                    chunk,
+                    workers,
+                };
+                let mut image = image(rt.alloc())?;
+                let (jobs, mut records) = list_of(rt.alloc(), STAGING, &table).ok_or("no memory")?;
+                carried(
+                    &rt,
+                    rt.alloc(),
+                    &settings,
+                    &mut image,
+                    &jobs,
+                    &wave,
+                    &mut records,
+                )?;
+                assert_eq!(rt; records.as_slice(), want.as_slice(), "{settings:?}");
+                expect_same(&rt, &image, &plain);
+            }
+        }
+    }
+    Ok(())
+}
+
+/// What a wave whose growths are refused needs: the image it goes over, the same untouched and with all jobs done, the
+/// jobs, and their records before and after.
+#[derive(Drop)]
+struct Scene {
+    image: Image<'static>,
+    untouched: Image<'static>,
+    all_done: Image<'static>,
+    jobs: Vec<Checked>,
+    records: Vec<Record>,
+    want: Vec<Record>,
+}
+
+impl Scene {
+    fn new(alloc: Global) -> Option<Scene> {
+        let table = mixed();
+        let mut all_done = image(alloc).ok()?;
+        let want = one_by_one(alloc, &mut all_done, &table)?;
+        let (jobs, records) = list_of(alloc, STAGING, &table)?;
+        Some(Scene {
+            image: image(alloc).ok()?,
+            untouched: image(alloc).ok()?,
+            all_done,
+            jobs,
+            records,
+            want,
+        })
+    }
+}
+
+/// A wave of the mixed jobs on so many workers, or want of memory with nothing changed.
+fn wave_or_refused<R: Abort + Threads + Wait + Sync>(rt: &R, alloc: Global, workers: u32) {
+    let Some(scene) = Scene::new(alloc) else {
+        return;
+    };
+    let Scene {
+        mut image,
+        untouched,
+        all_done,
+        jobs,
+        mut records,
+        want,
+    } = scene;
+    let settings = Settings {
+        staging: STAGING,
+        chunk: 4096,
+        workers,
+    };
+    let wave = [0, 1, 2, 3, 4, 5, 6, 7, 8, 9];
+    match carried(rt, alloc, &settings, &mut image, &jobs, &wave, &mut records) {
+        Ok(()) => {
+            assert_eq!(rt; records.as_slice(), want.as_slice());
+            expect_same(rt, &image, &all_done);
+        }
+        Err(WaveError::NoMemory) => {
+            assert!(rt; records.iter().all(|record| *record == BLANK));
+            expect_same(rt, &image, &untouched);
+        }
+    }
+}
+
+#[test]
+fn set_up_of_carry_out_wave(rt: HostRuntime) {
+    let _scene = Scene::new(rt.alloc());
+}
+
+#[test]
+fn refused_carry_out_wave(rt: HostRuntime) {
+    wave_or_refused(&rt, rt.alloc(), 1);
+}
+
+#[test]
+fn set_up_of_carry_out_wave_of_three(rt: HostRuntime) {
+    let _scene = Scene::new(rt.alloc());
+}
+
+#[test]
+fn refused_carry_out_wave_of_three(rt: HostRuntime) {
+    wave_or_refused(&rt, rt.alloc(), 3);
+}

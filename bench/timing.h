@@ -16,7 +16,7 @@ static double now(void) {
 }
 
 /* Times one kernel at each size: a name, a size in bytes, the nanoseconds of one call. */
-static int run(const char *name, kernel *volatile work, int argc, char **argv) {
+static inline int run(const char *name, kernel *volatile work, int argc, char **argv) {
     static const size_t sizes[] = {64, 4096, 65536, MEBIBYTE};
     unsigned long mebibytes = argc > 1 ? strtoul(argv[1], NULL, 10) : 0;
     unsigned char *image = malloc(IMAGE);

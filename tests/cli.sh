@@ -59,11 +59,27 @@ script 'image 1\npage 0\nfill 0 0 1048577\nnoop flags 0x10\nfill 0 0xfffffffffff
 job 1 status 11 result 0 completed 0 fault 0 delta 0
 job 2 status 7d result 0 completed 0 fault 0 delta 0
 job 3 status 83 result 0 completed 0 fault 18446744073709551608 delta 0\n' ''
+script 'image 1\npage 0 0102030405060708010203\ncompare 0 8 3 check 0\ncompare 1 8 3 check 0 flags 2
+compare-pattern 0 0x0807060504030201 11 check 0\ncompare-pattern 0 0x0807060504030201 12\n' 0 \
+    'job 0 status 01 result 0 completed 3 fault 0 delta 0
+job 1 status 02 result 1 completed 0 fault 0 delta 0
+job 2 status 01 result 0 completed 11 fault 0 delta 0
+job 3 status 01 result 1 completed 11 fault 0 delta 0\n' ''
+script "image 1\\npage 0\\nbatch\\nfill 1 0 8\\nraw 0000000000000010$(printf '%0112d' 0)\\nfill 2 8 8\\nend\\nbatch\\nend\\n" 0 \
+    'job 0 status 01 result 0 completed 8 fault 0 delta 0
+job 1 status 10 result 0 completed 0 fault 0 delta 0
+job 2 status 01 result 0 completed 8 fault 0 delta 0
+batch status 05 completed 3\nbatch status 01 completed 0\n' ''
 # No page of the largest image is present.
-script 'image 4096\nmove 0 8 16\nfill 1 0 8\nnoop\nshow 16777214 2\n' 0 \
+script 'image 4096\nmove 0 8 16\nfill 1 0 8\ncompare 0 8 8\ncreate 0 64 8 128 10\napply 0 10 256 8
+dualcast 0 4096 8192 8\nnoop\nshow 16777214 2\n' 0 \
     'job 0 status 03 result 1 completed 0 fault 15 delta 0
 job 1 status 83 result 0 completed 0 fault 0 delta 0
-job 2 status 01 result 0 completed 0 fault 0 delta 0
+job 2 status 03 result 0 completed 0 fault 0 delta 0
+job 3 status 03 result 0 completed 0 fault 0 delta 0
+job 4 status 03 result 0 completed 0 fault 0 delta 0
+job 5 status 03 result 0 completed 0 fault 0 delta 0
+job 6 status 01 result 0 completed 0 fault 0 delta 0
 show 16777214 ----\n' ''
 for example in examples/*.script; do
     cp "$example" "$work/in"
@@ -89,11 +105,18 @@ fault 'image 1\nimage 1\n' 2 'a second image line'
 fault 'image 1\n\nfrob\n' 3 'unknown word'
 fault 'image 1\nnoop 1\n' 2 'wrong number or kind of words'
 fault 'image 1\nfill 1 2\n' 2 'wrong number or kind of words'
+fault 'image 1\nfill 1 2 3 check 0\n' 2 'wrong number or kind of words'
+fault 'image 1\ncompare 1 2 3 flags 2 check 0\n' 2 'wrong number or kind of words'
+fault 'image 1\ncompare 1 2 3 check 256\n' 2 'not a number of the right size'
 fault 'image 1\nfill 1 2 0x100000000\n' 2 'not a number of the right size'
 fault 'image 1\nfill 1 0X2 3\n' 2 'not a number of the right size'
 fault 'image 1\npage 0 0\n' 2 'not hexadecimal text of the right length'
 fault 'image 1\nraw 00\n' 2 'not hexadecimal text of the right length'
 fault "image 1\\nraw $(printf '%0126d' 0)\\n" 2 'not hexadecimal text of the right length'
+fault 'image 1\nbatch\nnoop\n' 2 'the batch has no end'
+fault 'image 1\nend\n' 2 'no batch is open'
+fault 'image 1\nbatch\nshow 0 1\nend\n' 3 'this line may not stand in a batch'
+fault "image 1\\nbatch\\n$(for i in 1 2 3 4 5 6 7 8; do printf '%0128d' 0 | sed 's/0/noop\\n/g'; done)noop\\nend\\n" 1027 'the batch has too many jobs'
 fault 'image 1\nnoop \001\n' 2 'the line is not ASCII text'
 { printf 'image 1\nnoop '; filled 16380 | tr '#' ' '; printf '\n'; } >"$work/in"
 outcome 2 '' 'dmljob: line 2: the line is too long\n' run
@@ -230,9 +253,10 @@ for words in help --help -h; do
     typed "$(cat examples/fill.answer)" $(sed -n '/^and type:$/,$s/^  dmljob \(.*\) < .*/\1/p' "$work/out")
 done
 for words in 'run --help' 'run -h' 'help run'; do
-    shows "$words" 'How many workers are to share the jobs, 1 to 16; so far one thread carries out all of them [default: 4]' \
-        'How many bytes one task is to cover, a multiple of 8 from 8 to 1048576; so far each job is one task [default: 4096]' \
-        'How many bytes the staging arena has, 0 to 16777216 [default: 1048576]' 'fill PATTERN DST N ' 'show ADDR LEN '
+    shows "$words" "The most workers for a list of jobs in a library call, 1 to 16; a script's jobs are carried out one after another, each alone, and no answer depends on it [default: 4]" \
+        'How many bytes one task of a list in a library call covers, a multiple of 8 from 8 to 1048576; no answer depends on it [default: 4096]' \
+        'How many bytes the staging arena has, 0 to 16777216 [default: 1048576]' 'fill PATTERN DST N ' \
+        'compare SRC SRC2 N ' 'apply DELTA SIZE DST N ' 'batch ' 'end ' 'show ADDR LEN '
     typed "$(cat examples/fill.answer)" $(sed -n 's/^  dmljob \(run .*\) < .*/\1/p' "$work/out")
 done
 for words in 'decode --help' 'decode -h' 'help decode'; do

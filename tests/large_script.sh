@@ -106,6 +106,7 @@ of 'poke' 'poke 0 00' true
 of 'page' 'page 0' true
 of 'show' 'show 0 1' shown
 of 'fill' 'fill 0 0 0' jobs 0
+of 'compare' 'compare 0 0 0' jobs 0
 of 'comments' '#' true
 of 'fills of a page' 'fill 0x0807060504030201 0 4096' jobs 4096
 of 'fills of long lines' 'fill 0x0807060504030201 0x0000000000000ff0 0x0000000000000010' jobs 16

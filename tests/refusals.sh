@@ -10,7 +10,7 @@
 #
 # Where a test has to make something before its call, a test set_up_of_NAME beside refused_NAME makes it alone. The
 # growths of that run come first in refused_NAME too; they are neither refused nor counted, so that each refusal meets
-# the call.
+# the call. Each test has a set-up, or stands in the list of those that need none, since their first growth is the call's.
 cd "$(dirname "$0")/.." || exit 2
 work=$(mktemp -d) || exit 2
 trap 'rm -rf "$work"' EXIT
@@ -44,8 +44,14 @@ is_plain() { # STATUS: the last run is as the plain run was
 take_none='dml_image:refused_second_bring dml_engine:refused_submit'
 take_some='dml_arena:refused_new dml_image:refused_new dml_image:refused_bring dml_engine:refused_new
 dml_grammar:refused_read_script dml_script:refused_out_text dml_script:refused_job_text
-dml_script:refused_run_script dmljob:refused_command_of dmljob:refused_description dml_levels:refused_levels
-dml_levels:refused_waves dml_pool:refused_run_wave dml_pool:refused_run_wave_of_three'
+dml_script:refused_run_script dml_command:refused_command_of dmljob:refused_description dml_levels:refused_levels
+dml_levels:refused_waves dml_pool:refused_run_wave dml_pool:refused_run_wave_of_three
+dml_wave:refused_carry_out_wave dml_wave:refused_carry_out_wave_of_three dml_engine:refused_submit_on_workers
+dml_engine:refused_submit_into dml_engine:refused_submit_list dml_engine:refused_submit_batch'
+
+# The tests that make nothing before their call.
+make_nothing='dml_arena:refused_new dml_image:refused_new dml_grammar:refused_read_script dml_script:refused_job_text
+dml_script:refused_run_script dml_command:refused_command_of dmljob:refused_description'
 
 # Each entry of a table says that it met at least one refusal, so that none is passed over; or that none can come.
 counted() { # NAME GROWTHS [CRATE:TEST]
@@ -91,17 +97,33 @@ program() {
     counted "$name" "$((number - 1))"
 }
 
-# set_up BINARY TEST: how many growths the set-up of the test takes
-set_up() {
-    alone=${2%refused_*}set_up_of_${2##*refused_}
-    taken=0
-    if grep -qxF "$alone: test" "$work/list"; then
-        while :; do
-            refused "$((taken + 1))" "$1" "$alone" >/dev/null 2>&1 </dev/null
-            [ -f "$work/log" ] || break
-            taken=$((taken + 1))
-        done
+# set_up_of TEST: the name of the test that makes alone what this one makes before its call
+set_up_of() {
+    printf '%s' "${1%refused_*}set_up_of_${1##*refused_}"
+}
+
+# has_set_up CRATE TEST: whether there is such a test; one of the two, that or an entry of the list, has to be there
+has_set_up() {
+    case " $(echo $make_nothing) " in
+        *" $1:${2##*:} "*) listed=1 ;;
+        *) listed=0 ;;
+    esac
+    if grep -qxF "$(set_up_of "$2"): test" "$work/list"; then
+        [ "$listed" = 0 ] || complain "$1 $2: has a set-up, and is listed as one that needs none"
+        return 0
     fi
+    [ "$listed" = 1 ] || complain "$1 $2: has no set-up, and is not listed as one that needs none"
+    return 1
+}
+
+# growths BINARY TEST: how many growths a test takes
+growths() {
+    taken=0
+    while :; do
+        refused "$((taken + 1))" "$1" "$2" >/dev/null 2>&1 </dev/null
+        [ -f "$work/log" ] || break
+        taken=$((taken + 1))
+    done
     echo "$taken"
 }
 
@@ -120,7 +142,10 @@ library() {
             complain "$1: there is no test ${wanted#*:}"
     done
     for test in $(sed -n 's/^\([A-Za-z0-9_:]*refused_[A-Za-z0-9_]*\): test$/\1/p' "$work/list"); do
-        before=$(set_up "$binary" "$test")
+        before=0
+        if has_set_up "$1" "$test"; then
+            before=$(growths "$binary" "$(set_up_of "$test")")
+        fi
         number=$((before + 1))
         while :; do
             refused "$number" "$binary" "$test" >"$work/out" 2>&1 </dev/null

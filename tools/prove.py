@@ -40,6 +40,11 @@ def below(crate, uses):
     return found
 
 
+def way(crate, uses, libraries):
+    """Returns how many libraries stand on the longest way from this one up to the program."""
+    return 1 + max((way(it, uses, libraries) for it in libraries if crate in uses[it]), default=0)
+
+
 def free_memory():
     with open("/proc/meminfo", encoding="ascii") as file:
         return 1024 * int(re.search(r"MemAvailable:\s+(\d+)", file.read())[1])
@@ -133,9 +138,11 @@ def fail(crate, said):
 
 
 def build_libraries(libraries, uses, lines, progress):
-    """Builds the libraries, each once those below it are built. Returns the name of one that fails and what it said."""
+    """Builds the libraries, each once those below it are built, of several ready ones first that with the longest way
+    to the program. Returns the name of one that fails and what it said."""
     processors = len(os.sched_getaffinity(0))
-    left, built, running = [*libraries], set(), []
+    left = sorted(libraries, key=lambda it: way(it, uses, libraries), reverse=True)
+    built, running = set(), []
     try:
         while left or running:
             ready = [it for it in left if built.issuperset(uses[it])][: max(processors - len(running), 0)]

@@ -1,20 +1,29 @@
-//! Times `Engine::submit` with one worker: moves, fills and dualcasts, disjoint and overlapping; and the calls of an
-//! image that they stand on.
+//! Times `Engine::submit` with one worker: moves, fills, dualcasts, compares, creates and applies; the calls of an image
+//! that they stand on; jobs over the caller's own pages; scans of creates and applies; levels of lists; and
+//! `Engine::submit_list` with 1, 2 and 4 workers.
 //!
-//! Each row of the standard error is a name, a size in bytes, and the nanoseconds of one job. Without
-//! arguments each job is timed once, which shows only that it is carried out. One argument, a number of
-//! mebibytes, measures: a row is then the mean of as many jobs as cover that much, at most 200,000.
+//! Each row of the standard error is a name, a number (a size in bytes, or the number of jobs, tasks or workers), and
+//! the nanoseconds of one call. Without arguments each job is timed once, and each list is one of two jobs, which shows
+//! only that they are carried out. One argument, a number of mebibytes, measures: the row of a job is then the mean of
+//! as many jobs as cover that much, at most 200,000.
 #![tactic(auto)]
 
-ghost use Rattle.std.specs.Prelude.{◌≡◌, ◌≢◌, ◌<◌, ◌≤◌, Some};
-ghost use Rattle.dml_types.specs.declared.operations.Op.TheVariants.{ApplyDelta, Compare, ComparePattern, CreateDelta};
-ghost use Rattle.dml_types.specs.Job.{op_of};
+ghost use Rattle.std.specs.Prelude.{◌≡◌, ◌<◌, ◌≤◌};
 ghost use Rattle.dml_types.specs.Step.{step};
+
+mod deltas;
+mod lent;
+mod lists;
+mod shapes;
+mod waves;
 
 use dml_engine::Engine;
 use dml_image::Image;
-use dml_types::{Direction, Job, Settings, Status};
+use dml_types::{Direction, Job, Record, Settings, Status};
 use std::alloc::Global;
+use std::rt::Clock;
+use std::sync::Wait;
+use std::thread::Threads;
 use std::time::Instant;
 use std::{env, io};
 
@@ -68,22 +77,32 @@ fn full_image(alloc: Global) -> io::Result<Image<'static>> {
 
 /// Submits a job, by a call that the compiler keeps, so that nothing of it is done once for many.
 #[inline(never)]
-fn submitted(engine: &mut Engine, job: Job) -> Status
-    requires operation { (op_of job ≢ Some Compare) × (op_of job ≢ Some ComparePattern) × (op_of job ≢ Some CreateDelta) × (op_of job ≢ Some ApplyDelta) }
-    ensures { result ≡ (step engine.old.image job engine.old.settings.staging).1.status }
+fn submitted<T: Threads + Wait + Sync>(
+    rt: &T,
+    alloc: Global,
+    engine: &mut Engine,
+    job: Job,
+) -> Record
+    ensures { result ≡ (step engine.old.image job engine.old.settings.staging).1 }
 {
-    engine.submit(job).status
+    engine.submit(rt, alloc, job)
 }
 
 /// Carries out a job once, and then times so many more of it.
-fn time(rt: &HostRuntime, engine: &mut Engine, name: &str, job: Job, jobs: u64) -> io::Result<()>
-    requires operation { (op_of job ≢ Some Compare) × (op_of job ≢ Some ComparePattern) × (op_of job ≢ Some CreateDelta) × (op_of job ≢ Some ApplyDelta) }
+fn time<T: Threads + Wait + Sync + Clock + Eprint>(
+    rt: &T,
+    alloc: Global,
+    engine: &mut Engine,
+    name: &str,
+    job: Job,
+    jobs: u64,
+) -> io::Result<()>
     requires some { 0 < jobs }
 {
-    submitted(engine, job);
+    submitted(rt, alloc, engine, job);
     let start = Instant::now(rt)?;
     for _ in 0..jobs {
-        if submitted(engine, job) != Status::Success {
+        if submitted(rt, alloc, engine, job).status != Status::Success {
             return Err(io::ErrorKind::InvalidData.into());
         }
     }
@@ -92,36 +111,32 @@ fn time(rt: &HostRuntime, engine: &mut Engine, name: &str, job: Job, jobs: u64) 
 }
 
 /// Times each kind of job at one size.
-fn time_at(rt: &HostRuntime, engine: &mut Engine, size: u32, jobs: u64) -> io::Result<()>
+fn time_at<T: Threads + Wait + Sync + Clock + Eprint>(
+    rt: &T,
+    alloc: Global,
+    engine: &mut Engine,
+    size: u32,
+    jobs: u64,
+) -> io::Result<()>
     requires size { size ≤ 1048576 }
     requires some { 0 < jobs }
 {
     let mebibyte = u64::from(MEBIBYTE);
     let (middle, half) = (2 * mebibyte, u64::from(size / 2));
-    let pattern = 0x0807_0605_0403_0201;
-    time(rt, engine, "move", Job::move_bytes(0, mebibyte, size), jobs)?;
-    time(
-        rt,
-        engine,
-        "move_down",
-        Job::move_bytes(middle, middle - half, size),
-        jobs,
-    )?;
-    time(
-        rt,
-        engine,
-        "move_up",
-        Job::move_bytes(middle, middle + half, size),
-        jobs,
-    )?;
-    time(rt, engine, "fill", Job::fill(pattern, mebibyte, size), jobs)?;
-    time(
-        rt,
-        engine,
-        "dualcast",
-        Job::dualcast(0, mebibyte, middle, size),
-        jobs,
-    )
+    let (pattern, equal) = (0x0807_0605_0403_0201, 0x5a5a_5a5a_5a5a_5a5a);
+    let rows = [
+        ("move", Job::move_bytes(0, mebibyte, size)),
+        ("compare", Job::compare(0, mebibyte, size)),
+        ("compare_pattern", Job::compare_pattern(0, equal, size)),
+        ("move_down", Job::move_bytes(middle, middle - half, size)),
+        ("move_up", Job::move_bytes(middle, middle + half, size)),
+        ("fill", Job::fill(pattern, mebibyte, size)),
+        ("dualcast", Job::dualcast(0, mebibyte, middle, size)),
+    ];
+    for (name, job) in rows {
+        time(rt, alloc, engine, name, job, jobs)?;
+    }
+    Ok(())
 }
 
 /// A call of an image, on present bytes.
@@ -243,16 +258,23 @@ fn time_smaller(rt: &HostRuntime, image: &Image, looks: u32) -> io::Result<()>
 
 fn main(rt: HostRuntime) -> io::Result<()> {
     let mebibytes = mebibytes_in(&rt)?;
-    let mut image = full_image(rt.alloc())?;
+    let (alloc, measures) = (rt.alloc(), mebibytes > 0);
+    let mut image = full_image(alloc)?;
     for size in SIZES {
         time_calls_at(&rt, &mut image, size, jobs_of(mebibytes, size))?;
     }
-    time_smaller(&rt, &image, if mebibytes == 0 { 1 } else { 1 << 24 })?;
-    let Ok(mut engine) = Engine::new(rt.alloc(), image, SETTINGS) else {
+    time_smaller(&rt, &image, if measures { 1 << 24 } else { 1 })?;
+    lent::time_over(&rt, if measures { 200_000 } else { 1 })?;
+    deltas::time_deltas(&rt, alloc, if measures { 50 } else { 1 })?;
+    lists::time_levels(&rt, if measures { 20 } else { 1 })?;
+    let Ok(mut engine) = Engine::new(alloc, image, SETTINGS) else {
         return Err(io::ErrorKind::OutOfMemory.into());
     };
     for size in SIZES {
-        time_at(&rt, &mut engine, size, jobs_of(mebibytes, size))?;
+        time_at(&rt, alloc, &mut engine, size, jobs_of(mebibytes, size))?;
     }
+    waves::time_waves(&rt, alloc, engine.image(), if measures { 10 } else { 1 })?;
+    let large = shapes::time_shapes(&rt, alloc, shapes::large_image(alloc)?, measures)?;
+    shapes::time_pays(&rt, alloc, large, if measures { 20 } else { 1 })?;
     println!(rt; "{} sizes", SIZES.len())
 }

@@ -1,51 +1,54 @@
-ghost use Rattle.std.specs.Prelude.{◌≡◌, ◌≢◌, ◌↔◌, ◌≤◌, ⊤, IfErr, IfOk, IsOk, IsTrue, OnErr, OnOk, length};
-ghost use Rattle.dml_types.specs.Memory.{IsMemory, has_all, put};
+ghost use Rattle.std.specs.Prelude.{◌≡◌, ◌≢◌, ◌↔◌, ◌≤◌, IfErr, IfOk, IsOk, IsTrue, OnErr, OnOk, length};
+ghost use Rattle.dml_types.specs.Memory.{has_all, put};
 ghost use Rattle.dml_types.specs.Limits.{IsValid};
 ghost use Rattle.dml_types.specs.Step.{step};
-ghost use Rattle.dml_effect.specs.Chunks.{IsScanned};
 ghost use Rattle.dml_image.specs.Brought.{brought, has_page};
+ghost use Rattle.dml_levels.specs.Laws.{begun, carried};
+ghost use Rattle.dml_order.specs.Order.{run_all};
+ghost use Rattle.dml_wave.specs.Waves.{busy};
+ghost use Rattle.dml_engine.specs.Lists.{IsReady};
 
+use crate::errors::EngineError;
+use crate::loads::Load;
 use dml_arena::Arena;
+use dml_desc::Checked;
 use dml_effect::submit_to;
 use dml_image::{Image, ImageError};
+use dml_pool::{Free, Gate};
 use dml_types::{Job, Record, Settings};
+use dml_wave::{WaveError, carry_out_wave};
 use std::alloc::Global;
 use std::marker::Model;
-use thiserror::Error;
+use std::sync::Wait;
+use std::thread::Threads;
 
-/// Why no engine was made.
-#[derive(Clone, Copy, PartialEq, Eq, Debug, Error)]
-pub enum EngineError {
-    /// A setting is out of its limits.
-    #[error("the settings are out of range")]
-    BadSettings,
-    /// The allocator has no memory left for the staging arena.
-    #[error("out of memory")]
-    NoMemory,
-}
-
-/// A memory image, and what it takes to carry out jobs on it. All staging is taken when it is made.
+/// A memory image, and what it takes to carry out jobs on it: a staging arena, which is taken when the engine is made,
+/// and the gate that its workers enter before each task.
 #[derive(Drop)]
-pub struct Engine {
+pub struct Engine<G = Free> {
     image: Image<'static>,
     arena: Arena,
     settings: Settings,
+    gate: G,
+    /// Whether the gate was put in by `with_gate`: it then sees every task of two or more, however small.
+    watched: bool,
 }
 
-impl Model for Engine {
+impl<G> Model for Engine<G> {
     ghost use Rattle.dml_engine.specs.State.{State};
 
     ghost Value = { State };
 
     ghost use Rattle.std.specs.Prelude.{◌≡◌};
+    ghost use Rattle.dml_types.specs.Limits.{IsValid};
 
     ghost view = { λ e. record { image = e.image; settings = e.settings } };
 
-    ghost invariant = { λ e. e.arena.size ≡ e.settings.staging };
+    ghost invariant = { λ e. (e.arena.size ≡ e.settings.staging) × IsValid e.settings };
 }
 
-impl Engine {
-    /// An engine over an image.
+impl Engine<Free> {
+    /// An engine over an image, with a gate that does nothing.
     ///
     /// # Errors
     /// `BadSettings` where a setting is out of its limits, and `NoMemory` where there is no room for the staging
@@ -54,7 +57,7 @@ impl Engine {
         alloc: Global,
         image: Image<'static>,
         settings: Settings,
-    ) -> Result<Engine, (Image<'static>, EngineError)>
+    ) -> Result<Engine<Free>, (Image<'static>, EngineError)>
         ensures image { IfOk result (λ engine. engine.image ≡ image.entry) }
         ensures settings { IfOk result (λ engine. engine.settings ≡ settings) }
         ensures valid { OnOk result (IsValid settings) }
@@ -69,26 +72,45 @@ impl Engine {
                 image,
                 arena,
                 settings,
+                gate: Free,
+                watched: false,
             }),
             Err(_) => Err((image, EngineError::NoMemory)),
         }
     }
+}
 
-    /// Carries out a job, and returns its completion record. A refused job changes nothing.
-    pub fn submit(&mut self, job: Job) -> Record
-        requires operation { IsScanned job }
-        ensures image { self.new.image ≡ (step self.old.image job self.old.settings.staging).0 }
-        ensures answer { result ≡ (step self.old.image job self.old.settings.staging).1 }
-        ensures settings { self.new.settings ≡ self.old.settings }
+impl<G: Drop> Engine<G> {
+    /// The same engine with another gate in place of its own. No memory is taken.
+    pub fn with_gate<H>(self, gate: H) -> Engine<H>
+        ensures image { result.image ≡ self.entry.image }
+        ensures settings { result.settings ≡ self.entry.settings }
     {
-        submit_to(
-            &mut self.image,
-            &mut self.arena,
-            &job,
-            self.settings.staging,
-        )
+        let Engine {
+            image,
+            arena,
+            settings,
+            ..
+        } = self;
+        Engine {
+            image,
+            arena,
+            settings,
+            gate,
+            watched: true,
+        }
     }
 
+    /// The image, for good.
+    pub fn into_image(self) -> Image<'static>
+        ensures { result ≡ self.entry.image }
+    {
+        let Engine { image, .. } = self;
+        image
+    }
+}
+
+impl<G> Engine<G> {
     /// The image.
     pub fn image(&self) -> &Image<'static>
         ensures { result.now ≡ self.now.image }
@@ -120,15 +142,70 @@ impl Engine {
         self.image.write(addr, bytes);
     }
 
-    /// The image, for good.
-    pub fn into_image(self) -> Image<'static>
-        ensures { result ≡ self.entry.image }
+    /// The settings, which are valid.
+    pub(crate) fn settings(&self) -> Settings
+        ensures value { result ≡ self.now.settings }
+        ensures valid { IsValid result }
     {
-        let Engine {
-            image,
-            arena: _,
-            settings: _,
-        } = self;
-        image
+        self.settings
+    }
+
+    /// Carries out a job with this one worker.
+    pub(crate) fn carry_out_alone(&mut self, job: &Job) -> Record
+        ensures image { self.new.image ≡ (step self.old.image job.now self.old.settings.staging).0 }
+        ensures answer { result ≡ (step self.old.image job.now self.old.settings.staging).1 }
+        ensures settings { self.new.settings ≡ self.old.settings }
+    {
+        submit_to(&mut self.image, &mut self.arena, job, self.settings.staging)
+    }
+
+    /// How many workers are to carry out so much work: none but this one where that is 1.
+    pub(crate) fn workers_for(&self, load: Load) -> u32
+        ensures least { 1 ≤ result }
+        ensures most { result ≤ self.now.settings.workers }
+    {
+        let most = self.settings.workers;
+        if self.watched && load.is_many() {
+            most
+        } else {
+            load.workers(most)
+        }
+    }
+}
+
+impl<G: Gate + Sync> Engine<G> {
+    /// Carries out a wave of jobs on so many workers.
+    pub(crate) fn carry_out_together<R: Threads + Wait + Sync>(
+        &mut self,
+        rt: &R,
+        alloc: Global,
+        workers: u32,
+        jobs: &[Checked],
+        wave: &[u32],
+        records: &mut [Record],
+    ) -> Result<(), WaveError>
+        requires workers { (1 ≤ workers) × (workers ≤ self.old.settings.workers) }
+        requires records { length records.old ≡ length jobs.now }
+        requires ready { IsReady jobs.now self.old.settings.staging self.old.settings.chunk wave.now }
+        ensures done { OnOk result (begun self.new.image records.new
+            ≡ run_all (carried jobs.now self.old.settings.staging) (begun self.old.image records.old) (busy jobs.now wave.now)) }
+        ensures unchanged { OnErr result ((self.new.image ≡ self.old.image) × (records.new ≡ records.old)) }
+        ensures settings { self.new.settings ≡ self.old.settings }
+    {
+        let settings = Settings {
+            workers,
+            ..self.settings
+        };
+        carry_out_wave(
+            rt,
+            alloc,
+            &self.gate,
+            &settings,
+            &mut self.image,
+            &mut self.arena,
+            jobs,
+            wave,
+            records,
+        )
     }
 }

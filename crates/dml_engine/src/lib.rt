@@ -1,9 +1,15 @@
-//! The engine: a memory image and the staging arena through which jobs are carried out on it.
+//! The engine: a memory image, the staging arena through which jobs are carried out on it, and the workers that carry
+//! out lists of them.
 #![tactic(auto)]
 
 mod engines;
+mod errors;
+mod lists;
+mod loads;
+mod submitting;
 
-pub use engines::{Engine, EngineError};
+pub use engines::Engine;
+pub use errors::{EngineError, SubmitError};
 
 #[cfg(test)]
 mod tests;

@@ -1,5 +1,11 @@
+//! Engines and what their calls answer. The expected records and bytes are those of the jobs' definitions.
+
+mod gates;
+mod lists;
+mod refusals;
+
 use crate::{Engine, EngineError};
-use dml_image::{Image, ImageError};
+use dml_image::Image;
 use dml_types::{Job, Record, Settings, Status};
 use std::alloc::Global;
 use std::test::Fail;
@@ -45,10 +51,10 @@ fn settings_out_of_range(rt: HostRuntime) -> Result<(), Fail> {
 #[test]
 fn resume_a_fill(rt: HostRuntime) -> Result<(), Fail> {
     let mut engine = engine(rt.alloc()).ok_or("no memory")?;
-    let stopped = engine.submit(Job::fill(0x0807_0605_0403_0201, 4091, 9));
+    let stopped = engine.submit(&rt, rt.alloc(), Job::fill(0x0807_0605_0403_0201, 4091, 9));
     assert_eq!(rt; stopped, answer(Status::WriteFault, 0, 5, 4096));
     engine.bring(1, &[0; 4096])?;
-    let rest = engine.submit(Job::fill(0x0504_0302_0108_0706, 4096, 4));
+    let rest = engine.submit(&rt, rt.alloc(), Job::fill(0x0504_0302_0108_0706, 4096, 4));
     assert_eq!(rt; rest, answer(Status::Success, 0, 4, 0));
     let image = engine.image();
     for (addr, byte) in [
@@ -75,77 +81,24 @@ fn each_call(rt: HostRuntime) -> Result<(), Fail> {
     );
     engine.write(8, &[1, 2, 3]);
     assert_eq!(rt;
-        engine.submit(Job::no_op()),
+        engine.submit(&rt, rt.alloc(), Job::no_op()),
         answer(Status::Success, 0, 0, 0)
     );
     assert_eq!(rt;
-        engine.submit(Job::no_op().with_flags(0x10)),
+        engine.submit(&rt, rt.alloc(), Job::no_op().with_flags(0x10)),
         answer(Status::BadFlags, 0, 0, 0)
     );
     assert_eq!(rt;
-        engine.submit(Job::move_bytes(8, 10, 3)),
+        engine.submit(&rt, rt.alloc(), Job::move_bytes(8, 10, 3)),
         answer(Status::Success, 1, 3, 0)
     );
     assert_eq!(rt;
-        engine.submit(Job::dualcast(10, 4096, 8192, 3)),
+        engine.submit(&rt, rt.alloc(), Job::dualcast(10, 4096, 8192, 3)),
         answer(Status::WriteFault, 0, 0, 4096)
     );
     let image = engine.into_image();
     assert_eq!(rt; image.byte(10), Some(1));
     assert_eq!(rt; image.byte(12), Some(3));
     assert_eq!(rt; image.byte(13), Some(0));
-    Ok(())
-}
-
-// The refused_* below hold whichever growth is refused: they are also run with each refused in turn, from the first one
-// behind those that their set-up takes.
-
-fn image_of_a_page(alloc: Global) -> Result<Image<'static>, ImageError> {
-    let mut image = Image::new(alloc, 1)?;
-    image.bring(0, &[7; 4096])?;
-    Ok(image)
-}
-
-/// What `refused_new` does before its call.
-#[test]
-fn set_up_of_new(rt: HostRuntime) -> Result<(), Fail> {
-    assert_eq!(rt; image_of_a_page(rt.alloc())?.byte(4095), Some(7));
-    Ok(())
-}
-
-/// The engine, or the image as it was.
-#[test]
-fn refused_new(rt: HostRuntime) -> Result<(), Fail> {
-    let image = match Engine::new(rt.alloc(), image_of_a_page(rt.alloc())?, USUAL) {
-        Ok(engine) => engine.into_image(),
-        Err((image, error)) => {
-            assert_eq!(rt; error, EngineError::NoMemory);
-            image
-        }
-    };
-    assert_eq!(rt; image.pages(), 1);
-    assert_eq!(rt; image.byte(4095), Some(7));
-    Ok(())
-}
-
-/// What `refused_submit` does before its calls.
-#[test]
-fn set_up_of_submit(rt: HostRuntime) -> Result<(), Fail> {
-    let engine = engine(rt.alloc()).ok_or("no memory")?;
-    assert_eq!(rt; engine.image().byte(8), Some(0));
-    Ok(())
-}
-
-/// A job that is submitted is carried out.
-#[test]
-fn refused_submit(rt: HostRuntime) -> Result<(), Fail> {
-    let mut engine = engine(rt.alloc()).ok_or("no memory")?;
-    let moved = engine.submit(Job::move_bytes(0, 4090, 12));
-    assert_eq!(rt; moved, answer(Status::WriteFault, 0, 6, 4096));
-    assert_eq!(rt;
-        engine.submit(Job::fill(1, 8, 8)),
-        answer(Status::Success, 0, 8, 0)
-    );
-    assert_eq!(rt; engine.image().byte(8), Some(1));
     Ok(())
 }

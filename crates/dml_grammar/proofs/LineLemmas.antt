@@ -1,8 +1,9 @@
 -- Laws of lines: the sizes of their values, the order of their faults, and what may come next.
-use Rattle.std.proofs.Common.{◌≡◌, ℕ, zero, suc, ◌+◌, ◌*◌, ◌/◌, ◌<◌, ◌≤◌, List, [], ◌∷◌, ◌++◌, length, map, get_or, refl, sym, ◌∙◌, ap, subst, arith, Bool, true, false, ◌&&◌, Option, Some, None, unwrap_or, is_none, Ok, Err, inl, inr, nat_le}
+use Rattle.std.proofs.Common.{◌≡◌, ℕ, zero, suc, ◌+◌, ◌*◌, ◌/◌, ◌^◌, ◌<◌, ◌≤◌, List, [], ◌∷◌, ◌++◌, length, map, get_or, refl, sym, ◌∙◌, ap, subst, arith, Bool, true, false, ◌&&◌, Option, Some, None, unwrap_or, is_none, Ok, Err, inl, inr, nat_le}
+use Rattle.std.specs.List.{list_all}
 use Rattle.std.specs.Option.{option_and_then}
 use Rattle.std.specs.Result.{result_ok}
-use Rattle.std.proofs.lemmas.Bool.{cases_Bool, leb-true, ltb-true, and_parts, not-false}
+use Rattle.std.proofs.lemmas.Bool.{cases_Bool, le-ltb, leb-true, ltb-true, and_parts, not-false}
 use Rattle.std.proofs.lemmas.List.{length-append, append-nil}
 use Rattle.hex.specs.Hex.{decode_of}
 use Rattle.hex.proofs.HexLemmas.{decode_of-ok}
@@ -12,13 +13,16 @@ use Rattle.dml_grammar.specs.declared.faults.ReadError.TheVariants as errors
 use Rattle.dml_grammar.specs.declared.lines.Line.{Line}
 use Rattle.dml_grammar.specs.declared.table.Word.{Word}
 use Rattle.dml_grammar.specs.declared.table.Word.TheVariants as word
+use Rattle.dml_types.specs.declared.operations.Op.{Op}
+use Rattle.dml_types.specs.declared.operations.Op.TheVariants.{NoOp, Move, Fill, Compare, ComparePattern, CreateDelta, ApplyDelta, Dualcast}
 use Rattle.dml_grammar.specs.declared.table.Slot.{Slot}
 use Rattle.dml_grammar.specs.declared.table.Slot.TheVariants.{Number, Digits}
 use Rattle.dml_grammar.specs.declared.table.Part.{Part}
 use Rattle.dml_grammar.specs.Grammar as grammar
 use Rattle.dml_grammar.specs.Number.{word_number, at_most, word_bytes}
-use Rattle.dml_grammar.specs.Reads.{Fails, HasSizes, IsNext}
-use Rattle.dml_grammar.specs.Table.{parts_of, descriptor_digits}
+use Rattle.dml_grammar.specs.Reads.{Fails, FitsAt, FitsJob, HasSizes, IsNext}
+use Rattle.dml_grammar.specs.Table.{parts_of, descriptor_digits, word_named}
+use Rattle.dml_grammar.specs.Text.{is_text}
 
 abbrev pub Entries : Type 0
 Entries = List grammar.Entry
@@ -38,6 +42,20 @@ first_of_front ((false, other) ∷ faults) more kind found = first_of_front faul
 pub fails_front : (e : ReadError) (faults more : List (Bool × Kind)) → Fails e (grammar.first_of faults) → Fails e (grammar.first_of (faults ++ more))
 fails_front errors.NoMemory faults more fails = tt
 fails_front (errors.Fault kind) faults more fails = first_of_front faults more kind fails
+
+-- the faults of a line of text with a known first word
+
+pub misplaced_first : (text first : List ℕ) (after : List (List ℕ)) (before : List Line) (named : Word) (kind : Kind) → length text ≤ grammar.longest_line
+    → list_all is_text text ≡ true → word_named first ≡ Some named → grammar.first_of (grammar.place_faults named before) ≡ Some kind
+    → grammar.first_of (grammar.faults_of text first after before) ≡ Some kind
+misplaced_first text first after before named kind short ascii is found =
+    rw (le-ltb grammar.longest_line (length text) short, ascii, is) (first_of_front (grammar.place_faults named before) (grammar.rest_faults named after before) kind found)
+
+pub placed_rest : (text first : List ℕ) (after : List (List ℕ)) (before : List Line) (named : Word) → length text ≤ grammar.longest_line
+    → list_all is_text text ≡ true → word_named first ≡ Some named → grammar.first_of (grammar.place_faults named before) ≡ None
+    → grammar.first_of (grammar.faults_of text first after before) ≡ grammar.first_of (grammar.rest_faults named after before)
+placed_rest text first after before named short ascii is none =
+    rw (le-ltb grammar.longest_line (length text) short, ascii, is) (first_of_more (grammar.place_faults named before) (grammar.rest_faults named after before) none)
 
 -- Sizes. The entries of a line have the slots of its parts.
 
@@ -162,6 +180,32 @@ raw_size ws entries is none =
     let long : length (unwrap_or (word_bytes 128 128 w) [] ++ []) ≡ 64 = rw append-nil (descriptor_size w fine) in
     subst (λ (es : Entries). length (grammar.values_of es).bytes ≡ 64) (sym one.1) long
 
+-- an entry's number fits a field that its slot fits
+fits_at : (first : Word) (ws : List (List ℕ)) (entries : Entries) → grammar.fitted (parts_of first) ws ≡ Some entries → (place bits : ℕ)
+    → limit_of (get_or (map grammar.slot_of (parts_of first)) place (Number 0)) < 2 ^ bits → FitsAt (grammar.values_of entries) place bits
+fits_at first ws entries is place bits below =
+    let within : grammar.number_at (grammar.values_of entries) place ≤ limit_of (get_or (map grammar.slot_of (parts_of first)) place (Number 0)) =
+    subst (λ (slots : List Slot). grammar.number_at (grammar.values_of entries) place ≤ limit_of (get_or slots place (Number 0)))
+    (fitted_slots (parts_of first) ws entries is) (number_at_fits entries place) in
+    omega arith
+
+job_sizes : (op : Op) (ws : List (List ℕ)) (entries : Entries) → grammar.fitted (parts_of (word.Job op)) ws ≡ Some entries → FitsJob op (grammar.values_of entries)
+job_sizes NoOp ws entries is = fits_at (word.Job NoOp) ws entries is 0 32 (omega arith)
+job_sizes Move ws entries is =
+    let fits = fits_at (word.Job Move) ws entries is in (fits 2 32 (omega arith), fits 3 32 (omega arith))
+job_sizes Fill ws entries is =
+    let fits = fits_at (word.Job Fill) ws entries is in (fits 2 32 (omega arith), fits 3 32 (omega arith))
+job_sizes Compare ws entries is =
+    let fits = fits_at (word.Job Compare) ws entries is in (fits 2 32 (omega arith), fits 3 8 (omega arith), fits 4 32 (omega arith))
+job_sizes ComparePattern ws entries is =
+    let fits = fits_at (word.Job ComparePattern) ws entries is in (fits 2 32 (omega arith), fits 3 8 (omega arith), fits 4 32 (omega arith))
+job_sizes CreateDelta ws entries is =
+    let fits = fits_at (word.Job CreateDelta) ws entries is in (fits 2 32 (omega arith), fits 4 32 (omega arith), fits 5 8 (omega arith), fits 6 32 (omega arith))
+job_sizes ApplyDelta ws entries is =
+    let fits = fits_at (word.Job ApplyDelta) ws entries is in (fits 1 32 (omega arith), fits 3 32 (omega arith), fits 4 32 (omega arith))
+job_sizes Dualcast ws entries is =
+    let fits = fits_at (word.Job Dualcast) ws entries is in (fits 3 32 (omega arith), fits 4 32 (omega arith))
+
 pub sizes_of_fitted : (first : Word) (ws : List (List ℕ)) (entries : Entries) → grammar.fitted (parts_of first) ws ≡ Some entries
     → grammar.first_of (map (λ e. grammar.slot_fault e.0 e.1) entries) ≡ None
     → HasSizes first (grammar.values_of entries)
@@ -170,39 +214,24 @@ sizes_of_fitted word.Page ws entries is fine = tt
 sizes_of_fitted word.Poke ws entries is fine =
     let slots = fitted_slots (parts_of word.Poke) ws entries is in
     subst (λ (slots : List Slot). length (grammar.values_of entries).bytes ≤ bytes_of_slots slots) slots (all_bytes_fit entries)
-sizes_of_fitted word.NoOp ws entries is fine =
-    let slots = fitted_slots (parts_of word.NoOp) ws entries is in
-    subst (λ (slots : List Slot). grammar.number_at (grammar.values_of entries) 0 ≤ limit_of (get_or slots 0 (Number 0))) slots (number_at_fits entries 0)
-sizes_of_fitted word.Move ws entries is fine =
-    let slots = fitted_slots (parts_of word.Move) ws entries is in (
-      subst (λ (slots : List Slot). grammar.number_at (grammar.values_of entries) 2 ≤ limit_of (get_or slots 2 (Number 0))) slots (number_at_fits entries 2),
-      subst (λ (slots : List Slot). grammar.number_at (grammar.values_of entries) 3 ≤ limit_of (get_or slots 3 (Number 0))) slots (number_at_fits entries 3),
-    )
-sizes_of_fitted word.Fill ws entries is fine =
-    let slots = fitted_slots (parts_of word.Fill) ws entries is in (
-      subst (λ (slots : List Slot). grammar.number_at (grammar.values_of entries) 2 ≤ limit_of (get_or slots 2 (Number 0))) slots (number_at_fits entries 2),
-      subst (λ (slots : List Slot). grammar.number_at (grammar.values_of entries) 3 ≤ limit_of (get_or slots 3 (Number 0))) slots (number_at_fits entries 3),
-    )
-sizes_of_fitted word.Dualcast ws entries is fine =
-    let slots = fitted_slots (parts_of word.Dualcast) ws entries is in (
-      subst (λ (slots : List Slot). grammar.number_at (grammar.values_of entries) 3 ≤ limit_of (get_or slots 3 (Number 0))) slots (number_at_fits entries 3),
-      subst (λ (slots : List Slot). grammar.number_at (grammar.values_of entries) 4 ≤ limit_of (get_or slots 4 (Number 0))) slots (number_at_fits entries 4),
-    )
+sizes_of_fitted (word.Job op) ws entries is fine = job_sizes op ws entries is
 sizes_of_fitted word.Raw ws entries is fine = raw_size ws entries is fine
+sizes_of_fitted word.Batch ws entries is fine = tt
+sizes_of_fitted word.End ws entries is fine = tt
 sizes_of_fitted word.Show ws entries is fine = tt
 
 -- What may come next.
 
 pub next_in_range : (first : Word) (v : grammar.Values) (before : List Line) → (grammar.is_image first ≡ true → before ≡ [])
-    → (grammar.is_image first ≡ false → 0 < length before) → grammar.is_out_of_range first v before ≡ false
-    → IsNext before (grammar.line_of first v)
-next_in_range word.Image v before start behind within =
+    → (grammar.is_image first ≡ false → 0 < length before)
+    → (grammar.is_job first ≡ true → unwrap_or (grammar.open_jobs before) 0 < grammar.most_jobs)
+    → grammar.is_out_of_range first v before ≡ false → IsNext before (grammar.line_of first v)
+next_in_range word.Image v before start behind room within =
     let range = and_parts _ _ (not-false _ within) in (start refl, leb-true _ _ range.0, leb-true _ _ range.1)
-next_in_range word.Page v before start behind within = ltb-true _ _ (not-false _ within)
-next_in_range word.Poke v before start behind within = behind refl
-next_in_range word.NoOp v before start behind within = behind refl
-next_in_range word.Move v before start behind within = behind refl
-next_in_range word.Fill v before start behind within = behind refl
-next_in_range word.Dualcast v before start behind within = behind refl
-next_in_range word.Raw v before start behind within = behind refl
-next_in_range word.Show v before start behind within = behind refl
+next_in_range word.Page v before start behind room within = ltb-true _ _ (not-false _ within)
+next_in_range word.Poke v before start behind room within = behind refl
+next_in_range (word.Job op) v before start behind room within = (behind refl, room refl)
+next_in_range word.Raw v before start behind room within = (behind refl, room refl)
+next_in_range word.Batch v before start behind room within = behind refl
+next_in_range word.End v before start behind room within = behind refl
+next_in_range word.Show v before start behind room within = behind refl

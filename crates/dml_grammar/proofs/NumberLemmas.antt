@@ -43,9 +43,9 @@ digits_are_text radix ds small all =
     let ascii : All (λ b. b < 128) ds = λ k d low. digit_is_small _ (let h = ltb-true _ _ (each k d low) in omega arith) in
     IsUtf8-from_ascii ds (IsAscii-from_all ds ascii)
 
-read_at : {E : Type 0} (n : ℕ) (P : Type 0) (r : Result ℕ E) → P → OkIff r (P × (n < 2 ^ 64)) n → result_ok r ≡ at_most greatest (Some n)
-read_at n P (Ok x) holds says = rw (le-leb n greatest (let h : n < 2 ^ 64 = says.0.1 in omega arith)) (ap Some says.1)
-read_at n P (Err e) holds says =
+number_read : {E : Type 0} (n : ℕ) (P : Type 0) (r : Result ℕ E) → P → OkIff r (P × (n < 2 ^ 64)) n → result_ok r ≡ at_most greatest (Some n)
+number_read n P (Ok x) holds says = rw (le-leb n greatest (let h : n < 2 ^ 64 = says.0.1 in omega arith)) (ap Some says.1)
+number_read n P (Err e) holds says =
     elim (cases_lt n (2 ^ 64)) as (λ _. None ≡ at_most greatest (Some n)) [
       | inl low ↦ absurd (says (holds, low))
       | inr high ↦ rw (lt-leb n greatest (omega arith)) refl
@@ -56,7 +56,7 @@ pub digits_read : {E : Type 0} (radix : ℕ) (ds : List ℕ) (r : Result ℕ E) 
 digits_read radix ds r small some all says =
     let numeral : AllDigits radix ds = digits_numeral radix ds all in
     let plain = no_plus radix ds small numeral in
-    read_at (digits_value radix ds) (IsNumeral radix ds) r (some, numeral) (rw plain at says)
+    number_read (digits_value radix ds) (IsNumeral radix ds) r (some, numeral) (rw plain at says)
 
 pub at_most_again : (largest : ℕ) (number : Option ℕ) → largest ≤ greatest → at_most largest (at_most greatest number) ≡ at_most largest number
 at_most_again largest None small = refl

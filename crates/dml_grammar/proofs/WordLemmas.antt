@@ -34,9 +34,9 @@ parts_more : (x : List ℕ) (parts : List (List ℕ)) → 0 < length parts → l
 parts_more x [] none = absurd (omega arith)
 parts_more x (y ∷ more) some = refl
 
-pub lines_at : (text : List ℕ) (n : ℕ) → n ≡ position_or_len is_feed text → n < length text
+pub lines_split : (text : List ℕ) (n : ℕ) → n ≡ position_or_len is_feed text → n < length text
     → lines text ≡ strip_carriage_return (take n text) ∷ lines (drop 1 (drop n text))
-lines_at text n at within =
+lines_split text n at within =
     let inside : position_or_len is_feed text < length text = omega arith in
     let cut : slice_split is_feed text ≡ before_first is_feed text ∷ slice_split is_feed (after_first is_feed text) =
     slice_split_first is_feed text 0 inside in
@@ -70,19 +70,19 @@ words_after_blank : (c : ℕ) (line : List ℕ) → is_blank c ≡ true → word
 words_after_blank c line blank =
     ap (filter (λ word. not (nat_eq (length word) 0))) (slice_split-cons_yes is_blank c line blank)
 
-words_from : (line : List ℕ) (n : ℕ) → n ≡ prefix_len is_blank line → words line ≡ words (drop n line)
-words_from [] n at = rw at refl
-words_from (c ∷ line) n at =
+blanks_skipped : (line : List ℕ) (n : ℕ) → n ≡ prefix_len is_blank line → words line ≡ words (drop n line)
+blanks_skipped [] n at = rw at refl
+blanks_skipped (c ∷ line) n at =
     elim (is_blank c) as (λ b. is_blank c ≡ b → n ≡ cond b (1 + prefix_len is_blank line) 0 → words (c ∷ line) ≡ words (drop n (c ∷ line))) [
       | true ↦ λ blank at.
           let next : n ≡ suc (prefix_len is_blank line) = omega arith in
           let same : drop n (c ∷ line) ≡ drop (prefix_len is_blank line) line = ap (λ k. drop k (c ∷ line)) next in
-          words_after_blank c line blank ∙ words_from line (prefix_len is_blank line) refl ∙ ap words (sym same)
+          words_after_blank c line blank ∙ blanks_skipped line (prefix_len is_blank line) refl ∙ ap words (sym same)
       | false ↦ λ _ at. rw at refl
     ] refl at
 
 pub words_none : (line : List ℕ) (n : ℕ) → n ≡ prefix_len is_blank line → length (drop n line) ≡ 0 → words line ≡ []
-words_none line n at none = words_from line n at ∙ ap words (nil_from_length _ none)
+words_none line n at none = blanks_skipped line n at ∙ ap words (nil_from_length _ none)
 
 abbrev some_word : List ℕ → Bool
 some_word word = not (nat_eq (length word) 0)
@@ -131,7 +131,7 @@ word_is_long line skip n at some word =
           absurd (both_ways _ no (rw place at here))
     ]
 
-pub words_at : (line : List ℕ) (skip n : ℕ) → skip ≡ prefix_len is_blank line → 0 < length (drop skip line) → n ≡ position_or_len is_blank (drop skip line)
+pub words_split : (line : List ℕ) (skip n : ℕ) → skip ≡ prefix_len is_blank line → 0 < length (drop skip line) → n ≡ position_or_len is_blank (drop skip line)
     → words line ≡ take n (drop skip line) ∷ words (drop n (drop skip line))
-words_at line skip n at some word =
-    words_from line skip at ∙ words_at_word (drop skip line) n word (word_is_long line skip n at some word)
+words_split line skip n at some word =
+    blanks_skipped line skip at ∙ words_at_word (drop skip line) n word (word_is_long line skip n at some word)

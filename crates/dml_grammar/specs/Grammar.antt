@@ -1,14 +1,17 @@
 -- The grammar of scripts: from the bytes of a script to its lines, or to its first fault.
-use Rattle.std.specs.Prelude.{ℕ, ◌+◌, ◌/◌, ◌^◌, Bool, true, false, not, ◌&&◌, ◌||◌, if◌then◌else◌, List, [], ◌∷◌, ◌++◌, length, map, nat_eq, nat_lt, nat_le, bytes_eq, find, Option, Some, None, is_none, unwrap_or, slice_index, slice_index_or, Result, Ok, Err}
-use Rattle.std.specs.List.{flat_map, list_all, list_any, range_with_len}
+use Rattle.std.specs.Prelude.{ℕ, ◌+◌, ◌/◌, ◌^◌, Bool, true, false, not, ◌&&◌, ◌||◌, if◌then◌else◌, List, [], ◌∷◌, ◌++◌, length, map, nat_eq, nat_lt, nat_le, bytes_eq, find, Option, Some, None, is_none, is_some, unwrap_or, slice_index, slice_index_or, Result, Ok, Err}
+use Rattle.std.specs.Int.RustNames.{bit_or}
+use Rattle.std.specs.List.{flat_map, fold, list_all, list_any, range_with_len}
 use Rattle.std.specs.Option.{option_map, option_and_then}
 use Rattle.std.specs.Str.Lines.{lines}
-use Rattle.dml_desc.specs.Descriptor.{decoded, u8_at}
+use Rattle.dml_desc.specs.Descriptor.{decoded}
 use Rattle.dml_types.specs.declared.jobs.Job.{Job}
-use Rattle.dml_types.specs.Job.{no_op_job, move_job, fill_job, dualcast_job}
+use Rattle.dml_types.specs.declared.operations.Op.{Op}
+use Rattle.dml_types.specs.declared.operations.Op.TheVariants.{NoOp, Move, Fill, Compare, ComparePattern, CreateDelta, ApplyDelta, Dualcast}
+use Rattle.dml_types.specs.Job.{no_op_job, move_job, fill_job, compare_job, compare_pattern_job, create_job, apply_job, dualcast_job}
 use Rattle.dml_types.specs.Memory.{page_size}
 use Rattle.dml_grammar.specs.declared.faults.Kind.{Kind}
-use Rattle.dml_grammar.specs.declared.faults.Kind.TheVariants.{LongLine, NotAscii, UnknownWord, MissingImage, SecondImage, WrongWords, BadNumber, BadHex, BadRange}
+use Rattle.dml_grammar.specs.declared.faults.Kind.TheVariants.{LongLine, NotAscii, UnknownWord, MissingImage, SecondImage, InBatch, StrayEnd, TooManyJobs, WrongWords, BadNumber, BadHex, BadRange, OpenBatch}
 use Rattle.dml_grammar.specs.declared.faults.ScriptFault.{ScriptFault}
 use Rattle.dml_grammar.specs.declared.lines.Line.{Line}
 use Rattle.dml_grammar.specs.declared.lines.Line.TheVariants as line
@@ -96,11 +99,8 @@ pages_of (line.Image pages ∷ after) = pages
 pages_of other = 0
 
 abbrev pub brings : ℕ → Line → Bool
-brings page (line.Image pages) = false
 brings page (line.Page number bytes) = nat_eq number page
-brings page (line.Poke address bytes) = false
-brings page (line.Job job) = false
-brings page (line.Show address len) = false
+brings page other = false
 
 abbrev pub is_present : List Line → ℕ → Bool
 is_present before page = list_any (brings page) before
@@ -109,22 +109,57 @@ abbrev pub has_bytes : List Line → ℕ → ℕ → Bool
 has_bytes before address n =
     list_all (λ i. is_present before ((address + i) / page_size)) (range_with_len 0 n)
 
+-- the number of jobs of the batch that is open, if one is
+abbrev pub open_after : Option ℕ → Line → Option ℕ
+open_after jobs line.Batch = Some 0
+open_after jobs line.End = None
+open_after jobs (line.Job job) = option_map (λ n. n + 1) jobs
+open_after jobs other = jobs
+
+abbrev pub open_jobs : List Line → Option ℕ
+open_jobs before = fold open_after None before
+
+-- the most jobs of a batch
+abbrev pub most_jobs : ℕ
+most_jobs = 1024
+
 -- Lines.
 
--- the line of a job with these flags
-abbrev pub flagged : Job → ℕ → Line
-flagged job flags = line.Job (record job { flags = flags })
+-- a job with the flags of an entry
+abbrev pub flagged : Job → Values → ℕ → Job
+flagged job v place = record job { flags = number_at v place }
+
+-- a job with the check of an entry, if one stands there: the expected result, and the flag beside the others
+abbrev pub checked : Job → Option ℕ → Job
+checked job None = job
+checked job (Some expected) = record job { flags = bit_or job.flags 0x80; expected = expected }
+
+-- a job with a check and then flags, from an entry on
+abbrev pub suffixed : Job → Values → ℕ → Job
+suffixed job v place = checked (flagged job v (place + 1)) (slice_index_or v.numbers place None)
+
+abbrev pub job_of : Op → Values → Job
+job_of NoOp v = flagged no_op_job v 0
+job_of Move v = flagged (move_job (number_at v 0) (number_at v 1) (number_at v 2)) v 3
+job_of Fill v = flagged (fill_job (number_at v 0) (number_at v 1) (number_at v 2)) v 3
+job_of Compare v = suffixed (compare_job (number_at v 0) (number_at v 1) (number_at v 2)) v 3
+job_of ComparePattern v =
+    suffixed (compare_pattern_job (number_at v 0) (number_at v 1) (number_at v 2)) v 3
+job_of CreateDelta v =
+    suffixed (create_job (number_at v 0) (number_at v 1) (number_at v 2) (number_at v 3) (number_at v 4)) v 5
+job_of ApplyDelta v =
+    flagged (apply_job (number_at v 0) (number_at v 1) (number_at v 2) (number_at v 3)) v 4
+job_of Dualcast v =
+    flagged (dualcast_job (number_at v 0) (number_at v 1) (number_at v 2) (number_at v 3)) v 4
 
 abbrev pub line_of : Word → Values → Line
 line_of word.Image v = line.Image (number_at v 0)
 line_of word.Page v = line.Page (number_at v 0) v.bytes
 line_of word.Poke v = line.Poke (number_at v 0) v.bytes
-line_of word.NoOp v = flagged no_op_job (number_at v 0)
-line_of word.Move v = flagged (move_job (number_at v 0) (number_at v 1) (number_at v 2)) (number_at v 3)
-line_of word.Fill v = flagged (fill_job (number_at v 0) (number_at v 1) (number_at v 2)) (number_at v 3)
-line_of word.Dualcast v =
-    flagged (dualcast_job (number_at v 0) (number_at v 1) (number_at v 2) (number_at v 3)) (number_at v 4)
+line_of (word.Job op) v = line.Job (job_of op v)
 line_of word.Raw v = line.Job (decoded v.bytes)
+line_of word.Batch v = line.Batch
+line_of word.End v = line.End
 line_of word.Show v = line.Show (number_at v 0) (number_at v 1)
 
 -- whether a line's numbers are out of range: pages 1 to 4,096, a page of the image, present bytes,
@@ -133,30 +168,10 @@ abbrev pub is_out_of_range : Word → Values → List Line → Bool
 is_out_of_range word.Image v before = not (nat_le 1 (number_at v 0) && nat_le (number_at v 0) 4096)
 is_out_of_range word.Page v before = not (nat_lt (number_at v 0) (pages_of before))
 is_out_of_range word.Poke v before = not (has_bytes before (number_at v 0) (length v.bytes))
-is_out_of_range word.NoOp v before = false
-is_out_of_range word.Move v before = false
-is_out_of_range word.Fill v before = false
-is_out_of_range word.Dualcast v before = false
-is_out_of_range word.Raw v before = false
 is_out_of_range word.Show v before =
     not (nat_le 1 (number_at v 1) && nat_le (number_at v 1) 65536)
     || nat_lt (2 ^ 64) (number_at v 0 + number_at v 1)
-
--- the opcodes whose lines are not read yet: both compares, create and apply
-abbrev pub later_opcodes : List ℕ
-later_opcodes = 0x05 ∷ 0x06 ∷ 0x07 ∷ 0x08 ∷ []
-
--- whether a descriptor has one of these; its opcode is byte 7
-abbrev pub has_later_opcode : Word → Values → Bool
-has_later_opcode word.Image v = false
-has_later_opcode word.Page v = false
-has_later_opcode word.Poke v = false
-has_later_opcode word.NoOp v = false
-has_later_opcode word.Move v = false
-has_later_opcode word.Fill v = false
-has_later_opcode word.Dualcast v = false
-has_later_opcode word.Raw v = list_any (λ opcode. nat_eq (u8_at v.bytes 7) opcode) later_opcodes
-has_later_opcode word.Show v = false
+is_out_of_range other v before = false
 
 -- Faults: in their order, each with what to look for.
 
@@ -169,28 +184,40 @@ abbrev pub entry_faults : Word → Option (List Entry) → List Line → List (B
 entry_faults first None before = (true, WrongWords) ∷ []
 entry_faults first (Some entries) before =
     map (λ e. slot_fault e.0 e.1) entries
-    ++ (has_later_opcode first (values_of entries), UnknownWord)
-    ∷ (is_out_of_range first (values_of entries) before, BadRange) ∷ []
+    ++ (is_out_of_range first (values_of entries) before, BadRange) ∷ []
 
 abbrev pub rest_faults : Word → List (List ℕ) → List Line → List (Bool × Kind)
 rest_faults first after before = entry_faults first (fitted (parts_of first) after) before
 
 abbrev pub is_image : Word → Bool
 is_image word.Image = true
-is_image word.Page = false
-is_image word.Poke = false
-is_image word.NoOp = false
-is_image word.Move = false
-is_image word.Fill = false
-is_image word.Dualcast = false
-is_image word.Raw = false
-is_image word.Show = false
+is_image other = false
+
+abbrev pub is_job : Word → Bool
+is_job (word.Job op) = true
+is_job word.Raw = true
+is_job other = false
+
+-- the lines that may stand in a batch are those of jobs, and its end
+abbrev pub is_end : Word → Bool
+is_end word.End = true
+is_end other = false
 
 -- the first line is the `image` line, and the only one
-abbrev pub place_faults : Word → List Line → List (Bool × Kind)
-place_faults first before =
+abbrev pub image_faults : Word → List Line → List (Bool × Kind)
+image_faults first before =
     (nat_eq (length before) 0 && not (is_image first), MissingImage)
     ∷ (nat_lt 0 (length before) && is_image first, SecondImage) ∷ []
+
+-- the faults of a line where this batch is open, or none is
+abbrev pub batch_faults : Word → Option ℕ → List (Bool × Kind)
+batch_faults first jobs =
+    (is_some jobs && not (is_job first || is_end first), InBatch)
+    ∷ (is_none jobs && is_end first, StrayEnd)
+    ∷ (is_job first && nat_le most_jobs (unwrap_or jobs 0), TooManyJobs) ∷ []
+
+abbrev pub place_faults : Word → List Line → List (Bool × Kind)
+place_faults first before = image_faults first before ++ batch_faults first (open_jobs before)
 
 abbrev pub word_faults : Option Word → List (List ℕ) → List Line → List (Bool × Kind)
 word_faults None after before = (true, UnknownWord) ∷ []
@@ -225,29 +252,40 @@ abbrev pub is_comment : List ℕ → Bool
 is_comment first = nat_eq (slice_index first 0) 35
 
 -- a line is skipped that has no word, or whose first word begins with `#`
-abbrev pub verdict_of : List (List ℕ) → List ℕ → List Line → Verdict
-verdict_of [] text before = Skipped
-verdict_of (first ∷ after) text before =
+abbrev pub words_verdict : List (List ℕ) → List ℕ → List Line → Verdict
+words_verdict [] text before = Skipped
+words_verdict (first ∷ after) text before =
     if is_comment first then Skipped
     else judged (first_of (faults_of text first after before)) (word_named first) after
 
 abbrev pub verdict : List ℕ → List Line → Verdict
-verdict text before = verdict_of (words text) text before
+verdict text before = words_verdict (words text) text before
 
 -- The lines of a script, or its first fault with the number of its line.
 
 abbrev pub fault_at : ℕ → Kind → ScriptFault
 fault_at number kind = record { line = number; kind = kind }
 
--- the texts from a line's number on, after the lines before
-unfoldable pub parse_from : ℕ → List Line → List (List ℕ) → Result (List Line) ScriptFault
-parse_from number before [] =
-    if nat_eq (length before) 0 then Err (fault_at number MissingImage) else Ok before
-parse_from number before (text ∷ texts) = elim (verdict text before) [
-  | Skipped ↦ parse_from (number + 1) before texts
+-- the number of the line at which the last batch was opened, behind a line of this number
+abbrev pub opening_number : ℕ → Line → ℕ → ℕ
+opening_number number line.Batch opened = number
+opening_number number other opened = opened
+
+-- what is wrong at the end of a script, behind its lines
+abbrev pub end_fault : ℕ → ℕ → List Line → Option ScriptFault
+end_fault number opened before =
+    if nat_eq (length before) 0 then Some (fault_at number MissingImage)
+    else if is_some (open_jobs before) then Some (fault_at opened OpenBatch) else None
+
+-- the texts from a line's number on, after the lines before and the last batch among them
+unfoldable pub parse_from : ℕ → ℕ → List Line → List (List ℕ) → Result (List Line) ScriptFault
+parse_from number opened before [] =
+    elim (end_fault number opened before) [ None ↦ Ok before | Some fault ↦ Err fault ]
+parse_from number opened before (text ∷ texts) = elim (verdict text before) [
+  | Skipped ↦ parse_from (number + 1) opened before texts
   | Faulty kind ↦ Err (fault_at number kind)
-  | Fine found ↦ parse_from (number + 1) (before ++ found ∷ []) texts
+  | Fine found ↦ parse_from (number + 1) (opening_number number found opened) (before ++ found ∷ []) texts
 ]
 
 unfoldable pub parse : List ℕ → Result (List Line) ScriptFault
-parse bytes = parse_from 1 [] (lines bytes)
+parse bytes = parse_from 1 0 [] (lines bytes)

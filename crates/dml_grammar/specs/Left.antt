@@ -1,12 +1,11 @@
 -- What a text has still to give: its lines, one after another, up to its end or its first fault.
-use Rattle.std.specs.Prelude.{◌≡◌, ℕ, ◌+◌, if◌then◌else◌, List, [], ◌∷◌, ◌++◌, length, nat_eq, Option, None, Some, Result, Ok, Err}
+use Rattle.std.specs.Prelude.{◌≡◌, ℕ, ◌+◌, List, [], ◌∷◌, ◌++◌, Option, None, Some, Result, Ok, Err}
 use Rattle.std.specs.Str.Lines.{lines}
-use Rattle.dml_grammar.specs.declared.faults.Kind.TheVariants.{MissingImage}
 use Rattle.dml_grammar.specs.declared.faults.ScriptError.{ScriptError}
 use Rattle.dml_grammar.specs.declared.faults.ScriptError.TheVariants as scripts
 use Rattle.dml_grammar.specs.declared.faults.ScriptFault.{ScriptFault}
 use Rattle.dml_grammar.specs.declared.lines.Line.{Line}
-use Rattle.dml_grammar.specs.Grammar.{Skipped, Faulty, Fine, verdict, fault_at}
+use Rattle.dml_grammar.specs.Grammar.{Skipped, Faulty, Fine, end_fault, fault_at, opening_number, verdict}
 
 -- the lines before the first fault, and the fault, if there is one
 pub record Left : Type 0 where
@@ -19,19 +18,19 @@ nothing_but fault = record { lines = []; fault = fault }
 abbrev pub with_line : Line → Left → Left
 with_line found left = record { lines = found ∷ left.lines; fault = left.fault }
 
--- what the texts from a line's number on give, after the lines before
-unfoldable pub left_from : ℕ → List Line → List (List ℕ) → Left
-left_from number before [] =
-    nothing_but (if nat_eq (length before) 0 then Some (fault_at number MissingImage) else None)
-left_from number before (text ∷ texts) = elim (verdict text before) [
-  | Skipped ↦ left_from (number + 1) before texts
+-- what the texts from a line's number on give, after the lines before and the last batch among them
+unfoldable pub left_from : ℕ → ℕ → List Line → List (List ℕ) → Left
+left_from number opened before [] = nothing_but (end_fault number opened before)
+left_from number opened before (text ∷ texts) = elim (verdict text before) [
+  | Skipped ↦ left_from (number + 1) opened before texts
   | Faulty kind ↦ nothing_but (Some (fault_at number kind))
-  | Fine found ↦ with_line found (left_from (number + 1) (before ++ found ∷ []) texts)
+  | Fine found ↦
+      with_line found (left_from (number + 1) (opening_number number found opened) (before ++ found ∷ []) texts)
 ]
 
 -- what a whole text gives
 abbrev pub all_left : List ℕ → Left
-all_left bytes = left_from 1 [] (lines bytes)
+all_left bytes = left_from 1 0 [] (lines bytes)
 
 -- what a reader of lines answers: the next line, none behind the last one, or the fault; where it gives no
 -- line nothing changes

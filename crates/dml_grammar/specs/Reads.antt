@@ -1,6 +1,8 @@
 -- What the functions of the reader answer.
-use Rattle.std.specs.Prelude.{◌≡◌, ◌<◌, ◌≤◌, ◌^◌, ℕ, Bool, List, [], length, map, Option, Some, None, Result, Ok, Err}
+use Rattle.std.specs.Prelude.{◌≡◌, ◌<◌, ◌≤◌, ◌^◌, ℕ, Bool, List, [], length, map, Option, Some, None, unwrap_or, Result, Ok, Err}
 use Rattle.std.specs.Borrow.{Bor}
+use Rattle.dml_types.specs.declared.operations.Op.{Op}
+use Rattle.dml_types.specs.declared.operations.Op.TheVariants.{NoOp, Move, Fill, Compare, ComparePattern, CreateDelta, ApplyDelta, Dualcast}
 use Rattle.dml_grammar.specs.declared.table.Slot.{Slot}
 use Rattle.dml_grammar.specs.declared.entries.Values.{Values}
 use Rattle.dml_grammar.specs.declared.faults.Kind.{Kind}
@@ -46,32 +48,48 @@ abbrev pub IsNext : List Line → Line → Type 0
 IsNext before (line.Image pages) = (before ≡ []) × (1 ≤ pages) × (pages ≤ 4096)
 IsNext before (line.Page page bytes) = page < grammar.pages_of before
 IsNext before (line.Poke address bytes) = 0 < length before
-IsNext before (line.Job job) = 0 < length before
+IsNext before (line.Job job) =
+    (0 < length before) × (unwrap_or (grammar.open_jobs before) 0 < grammar.most_jobs)
+IsNext before line.Batch = 0 < length before
+IsNext before line.End = 0 < length before
 IsNext before (line.Show address len) = 0 < length before
+
+-- an entry's number fits a field of so many bits
+abbrev pub FitsAt : grammar.Values → ℕ → ℕ → Type 0
+FitsAt v place bits = grammar.number_at v place < 2 ^ bits
+
+-- the numbers of a job's line fit its fields
+abbrev pub FitsJob : Op → grammar.Values → Type 0
+FitsJob NoOp v = FitsAt v 0 32
+FitsJob Move v = FitsAt v 2 32 × FitsAt v 3 32
+FitsJob Fill v = FitsAt v 2 32 × FitsAt v 3 32
+FitsJob Compare v = FitsAt v 2 32 × FitsAt v 3 8 × FitsAt v 4 32
+FitsJob ComparePattern v = FitsAt v 2 32 × FitsAt v 3 8 × FitsAt v 4 32
+FitsJob CreateDelta v = FitsAt v 2 32 × FitsAt v 4 32 × FitsAt v 5 8 × FitsAt v 6 32
+FitsJob ApplyDelta v = FitsAt v 1 32 × FitsAt v 3 32 × FitsAt v 4 32
+FitsJob Dualcast v = FitsAt v 3 32 × FitsAt v 4 32
 
 -- what the slots of a line say of its values
 abbrev pub HasSizes : Word → grammar.Values → Type 0
 HasSizes word.Image v = Unit {0}
 HasSizes word.Page v = Unit {0}
 HasSizes word.Poke v = length v.bytes ≤ 4096
-HasSizes word.NoOp v = grammar.number_at v 0 ≤ 0xffffff
-HasSizes word.Move v = (grammar.number_at v 2 ≤ 0xffff_ffff) × (grammar.number_at v 3 ≤ 0xffffff)
-HasSizes word.Fill v = (grammar.number_at v 2 ≤ 0xffff_ffff) × (grammar.number_at v 3 ≤ 0xffffff)
-HasSizes word.Dualcast v = (grammar.number_at v 3 ≤ 0xffff_ffff) × (grammar.number_at v 4 ≤ 0xffffff)
+HasSizes (word.Job op) v = FitsJob op v
 HasSizes word.Raw v = length v.bytes ≡ 64
+HasSizes word.Batch v = Unit {0}
+HasSizes word.End v = Unit {0}
 HasSizes word.Show v = Unit {0}
 
--- numbers that fit the fields of 32 bits
+-- numbers that fit the fields of a line
 abbrev pub FitsFields : Word → grammar.Values → Type 0
-FitsFields word.Image v = grammar.number_at v 0 < 2 ^ 32
-FitsFields word.Page v = grammar.number_at v 0 < 2 ^ 32
+FitsFields word.Image v = FitsAt v 0 32
+FitsFields word.Page v = FitsAt v 0 32
 FitsFields word.Poke v = Unit {0}
-FitsFields word.NoOp v = grammar.number_at v 0 < 2 ^ 32
-FitsFields word.Move v = (grammar.number_at v 2 < 2 ^ 32) × (grammar.number_at v 3 < 2 ^ 32)
-FitsFields word.Fill v = (grammar.number_at v 2 < 2 ^ 32) × (grammar.number_at v 3 < 2 ^ 32)
-FitsFields word.Dualcast v = (grammar.number_at v 3 < 2 ^ 32) × (grammar.number_at v 4 < 2 ^ 32)
+FitsFields (word.Job op) v = FitsJob op v
 FitsFields word.Raw v = length v.bytes ≡ 64
-FitsFields word.Show v = grammar.number_at v 1 < 2 ^ 32
+FitsFields word.Batch v = Unit {0}
+FitsFields word.End v = Unit {0}
+FitsFields word.Show v = FitsAt v 1 32
 
 -- what a reader of one line answers: a line or none, or why it failed
 abbrev pub fine_or_skipped : Option Line → grammar.Verdict

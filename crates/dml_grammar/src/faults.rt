@@ -19,6 +19,12 @@ pub enum Kind {
     MissingImage,
     /// It is an `image` line, and not the first line.
     SecondImage,
+    /// It is a `page`, `poke`, `show` or `batch` line, and a batch is open.
+    InBatch,
+    /// It is an `end` line, and no batch is open.
+    StrayEnd,
+    /// It is a job, and the open batch has 1,024 of them.
+    TooManyJobs,
     /// Words are missing, left over, or not the suffixes that may stand there.
     WrongWords,
     /// A word is no number, or above its field's largest value.
@@ -27,6 +33,8 @@ pub enum Kind {
     BadHex,
     /// A number is out of range, or a byte to be written is absent.
     BadRange,
+    /// It is the `batch` line of a batch that is open at the script's end.
+    OpenBatch,
 }
 
 /// The first fault of a script.
@@ -69,10 +77,14 @@ pub fn fault_text(kind: Kind) -> &'static str
         Kind::UnknownWord => "unknown word",
         Kind::MissingImage => "the script must begin with an image line",
         Kind::SecondImage => "a second image line",
+        Kind::InBatch => "this line may not stand in a batch",
+        Kind::StrayEnd => "no batch is open",
+        Kind::TooManyJobs => "the batch has too many jobs",
         Kind::WrongWords => "wrong number or kind of words",
         Kind::BadNumber => "not a number of the right size",
         Kind::BadHex => "not hexadecimal text of the right length",
         Kind::BadRange => "out of range",
+        Kind::OpenBatch => "the batch has no end",
     }
 }
 

@@ -1,21 +1,24 @@
 //! One line of text: skipped, read, or faulty.
 
-ghost use Rattle.std.specs.Prelude.{◌≡◌, ◌<◌, [], length, IfOk, IfErr, IfSome, OnOk, Some, None, true, false};
+ghost use Rattle.std.specs.Prelude.{◌≡◌, ◌+◌, ◌<◌, [], length, IfOk, IfErr, IfSome, OnOk, Some, None, unwrap_or, true, false};
 ghost use Rattle.std.specs.List.{list_all};
 ghost use Rattle.dml_grammar.specs.Grammar as grammar;
-ghost use Rattle.dml_grammar.specs.Reads.{Condemns, Fails, FitsFields, HasSizes, IsNext, values_seen, fine_or_skipped};
+ghost use Rattle.dml_grammar.specs.Reads.{Condemns, Fails, FitsAt, FitsFields, FitsJob, HasSizes, IsNext, values_seen, fine_or_skipped};
 ghost use Rattle.dml_grammar.specs.Table.{word_named};
 ghost use Rattle.dml_grammar.specs.Text.{is_text, words};
 
 use crate::entries::{Values, fit, read_entries};
 use crate::faults::{Kind, ReadError};
 use crate::lines::{Bytes, Line};
-use crate::pages::ImagePages;
-use crate::table::{Word, parts_of, word_named};
+use crate::progress::Progress;
+use crate::table::{MOST_PARTS, Word, parts_of, word_named};
 use crate::words::next_word;
 use dml_desc::decode;
-use dml_types::Job;
+use dml_types::{Job, Op};
 use std::alloc::Global;
+
+/// The most jobs of a batch.
+const MOST_JOBS: u32 = 1024;
 
 /// The most bytes of a line.
 const LONGEST_LINE: usize = 16_384;
@@ -45,25 +48,26 @@ fn number_at(values: &Values, place: usize) -> u64
     }
 }
 
-/// Whether a line has a descriptor with an opcode whose lines are not read yet.
-fn has_later_opcode(word: Word, values: &Values) -> bool
-    ensures { result ≡ grammar.has_later_opcode word (values_seen values.now) }
+/// The number of an entry that fits a field of 32 bits.
+fn size_at(values: &Values, place: usize) -> u32
+    requires { FitsAt (values_seen values.now) place 32 }
+    ensures { result ≡ grammar.number_at (values_seen values.now) place }
 {
-    word == Word::Raw && matches!(values.bytes.get(7), Some(0x05..=0x08))
+    number_at(values, place) as u32
 }
 
 /// Whether a line's numbers are out of range.
-fn is_out_of_range(word: Word, values: &Values, pages: &ImagePages) -> bool
+fn is_out_of_range(word: Word, values: &Values, progress: &Progress) -> bool
     requires { HasSizes word (values_seen values.now) }
-    ensures value { result ≡ grammar.is_out_of_range word (values_seen values.now) pages.now }
+    ensures value { result ≡ grammar.is_out_of_range word (values_seen values.now) progress.now }
     ensures fields { result ≡ false → FitsFields word (values_seen values.now) }
 {
     let first = number_at(values, 0);
     match word {
         Word::Image => !(1..=4096).contains(&first),
-        Word::Page => !pages.has_page(first),
-        Word::Poke => !pages.has_bytes(first, values.bytes.len()),
-        Word::NoOp | Word::Move | Word::Fill | Word::Dualcast | Word::Raw => false,
+        Word::Page => !progress.has_page(first),
+        Word::Poke => !progress.has_bytes(first, values.bytes.len()),
+        Word::Job(_) | Word::Raw | Word::Batch | Word::End => false,
         Word::Show => {
             let len = number_at(values, 1);
             !(1..=65_536).contains(&len) || u128::from(first) + u128::from(len) > 1 << 64
@@ -71,15 +75,62 @@ fn is_out_of_range(word: Word, values: &Values, pages: &ImagePages) -> bool
     }
 }
 
-/// The job of a `dualcast` line.
-fn dualcast_of(values: &Values) -> Job
-    requires { FitsFields Word.Dualcast (values_seen values.now) }
-    ensures { Line.Job result ≡ grammar.line_of Word.Dualcast (values_seen values.now) }
+/// A job with the flags of an entry.
+fn flagged(job: Job, values: &Values, place: usize) -> Job
+    requires { FitsAt (values_seen values.now) place 32 }
+    ensures { result ≡ grammar.flagged job (values_seen values.now) place }
 {
-    let second = number_at(values, 2);
-    let size = number_at(values, 3) as u32;
-    let job = Job::dualcast(number_at(values, 0), number_at(values, 1), second, size);
-    job.with_flags(number_at(values, 4) as u32)
+    job.with_flags(size_at(values, place))
+}
+
+/// A job with a check and then flags, from an entry on; both may have been left out.
+fn suffixed(job: Job, values: &Values, place: usize) -> Job
+    requires few { place < MOST_PARTS }
+    requires check { FitsAt (values_seen values.now) place 8 }
+    requires flags { FitsAt (values_seen values.now) (place + 1) 32 }
+    ensures { result ≡ grammar.suffixed job (values_seen values.now) place }
+{
+    let job = flagged(job, values, place + 1);
+    match values.numbers.get(place) {
+        Some(Some(expected)) => job.with_check(*expected as u8),
+        _ => job,
+    }
+}
+
+/// The job of a line whose numbers fit its fields.
+fn job_of(op: Op, values: &Values) -> Job
+    requires { FitsJob op (values_seen values.now) }
+    ensures { result ≡ grammar.job_of op (values_seen values.now) }
+{
+    let (first, second) = (number_at(values, 0), number_at(values, 1));
+    match op {
+        Op::NoOp => flagged(Job::no_op(), values, 0),
+        Op::Move => flagged(
+            Job::move_bytes(first, second, size_at(values, 2)),
+            values,
+            3,
+        ),
+        Op::Fill => flagged(Job::fill(first, second, size_at(values, 2)), values, 3),
+        Op::Compare => suffixed(Job::compare(first, second, size_at(values, 2)), values, 3),
+        Op::ComparePattern => {
+            let job = Job::compare_pattern(first, second, size_at(values, 2));
+            suffixed(job, values, 3)
+        }
+        Op::CreateDelta => {
+            let (size, most) = (size_at(values, 2), size_at(values, 4));
+            let job = Job::create_delta(first, second, size, number_at(values, 3), most);
+            suffixed(job, values, 5)
+        }
+        Op::ApplyDelta => {
+            let (delta_size, size) = (size_at(values, 1), size_at(values, 3));
+            let job = Job::apply_delta(first, delta_size, number_at(values, 2), size);
+            flagged(job, values, 4)
+        }
+        Op::Dualcast => {
+            let (third, size) = (number_at(values, 2), size_at(values, 3));
+            flagged(Job::dualcast(first, second, third, size), values, 4)
+        }
+    }
 }
 
 /// The line of values that fit its fields.
@@ -100,75 +151,88 @@ fn line_of(word: Word, values: Values) -> Line
             addr: first,
             bytes: Bytes { list: values.bytes },
         },
-        Word::NoOp => Line::Job(Job::no_op().with_flags(first as u32)),
-        Word::Move => {
-            let job = Job::move_bytes(first, number_at(&values, 1), number_at(&values, 2) as u32);
-            Line::Job(job.with_flags(number_at(&values, 3) as u32))
-        }
-        Word::Fill => {
-            let job = Job::fill(first, number_at(&values, 1), number_at(&values, 2) as u32);
-            Line::Job(job.with_flags(number_at(&values, 3) as u32))
-        }
-        Word::Dualcast => Line::Job(dualcast_of(&values)),
+        Word::Job(op) => Line::Job(job_of(op, &values)),
         Word::Raw => {
             let mut descriptor = [0; 64];
             descriptor.copy_from_slice(&values.bytes);
             Line::Job(decode(&descriptor))
         }
+        Word::Batch => Line::Batch,
+        Word::End => Line::End,
         Word::Show => Line::Show {
             addr: first,
-            len: number_at(&values, 1) as u32,
+            len: size_at(&values, 1),
         },
     }
 }
 
 /// The line of a known first word that may stand here, of the words after it.
-fn read_words(alloc: Global, pages: &ImagePages, word: Word, rest: &[u8]) -> Result<Line, ReadError>
-    requires image { grammar.is_image word ≡ true → pages.now ≡ [] }
-    requires others { grammar.is_image word ≡ false → 0 < length pages.now }
-    ensures fine { OnOk result (grammar.first_of (grammar.rest_faults word (words rest.now) pages.now) ≡ None) }
+fn read_words(
+    alloc: Global,
+    progress: &Progress,
+    word: Word,
+    rest: &[u8],
+) -> Result<Line, ReadError>
+    requires image { grammar.is_image word ≡ true → progress.now ≡ [] }
+    requires others { grammar.is_image word ≡ false → 0 < length progress.now }
+    requires room { grammar.is_job word ≡ true → unwrap_or (grammar.open_jobs progress.now) 0 < grammar.most_jobs }
+    ensures fine { OnOk result (grammar.first_of (grammar.rest_faults word (words rest.now) progress.now) ≡ None) }
     ensures line { IfOk result (λ line. grammar.accepted (Some word) (words rest.now) ≡ grammar.Fine line) }
-    ensures next { IfOk result (λ line. IsNext pages.now line) }
-    ensures err { IfErr result (λ e. Fails e (grammar.first_of (grammar.rest_faults word (words rest.now) pages.now))) }
+    ensures next { IfOk result (λ line. IsNext progress.now line) }
+    ensures err { IfErr result (λ e. Fails e (grammar.first_of (grammar.rest_faults word (words rest.now) progress.now))) }
 {
     let Some(entries) = fit(parts_of(word), rest) else {
         return Err(ReadError::Fault(Kind::WrongWords));
     };
     let values = read_entries(alloc, entries.as_slice())?;
-    if has_later_opcode(word, &values) {
-        return Err(ReadError::Fault(Kind::UnknownWord));
-    }
-    if is_out_of_range(word, &values, pages) {
+    if is_out_of_range(word, &values, progress) {
         return Err(ReadError::Fault(Kind::BadRange));
     }
     Ok(line_of(word, values))
 }
 
-/// Whether a first word may not stand here: the first line is the `image` line, and the only one.
-fn misplaced(word: Word, pages: &ImagePages) -> Option<Kind>
-    ensures kind { result ≡ grammar.first_of (grammar.place_faults word pages.now) }
-    ensures image { result ≡ None → grammar.is_image word ≡ true → pages.now ≡ [] }
-    ensures others { result ≡ None → grammar.is_image word ≡ false → 0 < length pages.now }
+/// Whether a first word may not stand here: the first line is the `image` line, and the only one; and in a batch there
+/// are few jobs, and no other lines.
+fn misplaced(word: Word, progress: &Progress) -> Option<Kind>
+    ensures kind { result ≡ grammar.first_of (grammar.place_faults word progress.now) }
+    ensures image { result ≡ None → grammar.is_image word ≡ true → progress.now ≡ [] }
+    ensures others { result ≡ None → grammar.is_image word ≡ false → 0 < length progress.now }
+    ensures room { result ≡ None → grammar.is_job word ≡ true → unwrap_or (grammar.open_jobs progress.now) 0 < grammar.most_jobs }
 {
-    match (pages.is_empty(), word == Word::Image) {
+    match (progress.is_empty(), word == Word::Image) {
         (true, false) => Some(Kind::MissingImage),
         (false, true) => Some(Kind::SecondImage),
-        _ => None,
+        _ => misplaced_by_batch(word, progress.open_jobs()),
+    }
+}
+
+/// Whether a first word may not stand where a batch of so many jobs is open, or none is.
+fn misplaced_by_batch(word: Word, jobs: Option<u32>) -> Option<Kind>
+    ensures kind { result ≡ grammar.first_of (grammar.batch_faults word jobs) }
+    ensures room { result ≡ None → grammar.is_job word ≡ true → unwrap_or jobs 0 < grammar.most_jobs }
+{
+    match (word, jobs) {
+        (Word::Job(_) | Word::Raw, Some(MOST_JOBS..)) => Some(Kind::TooManyJobs),
+        (Word::Job(_) | Word::Raw, _) | (Word::End, Some(_)) => None,
+        (Word::End, None) => Some(Kind::StrayEnd),
+        (_, Some(_)) => Some(Kind::InBatch),
+        (_, None) => None,
     }
 }
 
 /// The line of text with this first word and what follows it, after the lines read so far.
+#[tactic(auto, using(crate::proofs::LineLemmas::misplaced_first, crate::proofs::LineLemmas::placed_rest))]
 fn read_line(
     alloc: Global,
-    pages: &ImagePages,
+    progress: &Progress,
     text: &[u8],
     first: &[u8],
     rest: &[u8],
 ) -> Result<Line, ReadError>
-    ensures fine { let faults = grammar.faults_of text.now first.now (words rest.now) pages.now in OnOk result (grammar.first_of faults ≡ None) }
+    ensures fine { let faults = grammar.faults_of text.now first.now (words rest.now) progress.now in OnOk result (grammar.first_of faults ≡ None) }
     ensures line { IfOk result (λ line. grammar.accepted (word_named first.now) (words rest.now) ≡ grammar.Fine line) }
-    ensures next { IfOk result (λ line. IsNext pages.now line) }
-    ensures err { let faults = grammar.faults_of text.now first.now (words rest.now) pages.now in IfErr result (λ e. Fails e (grammar.first_of faults)) }
+    ensures next { IfOk result (λ line. IsNext progress.now line) }
+    ensures err { let faults = grammar.faults_of text.now first.now (words rest.now) progress.now in IfErr result (λ e. Fails e (grammar.first_of faults)) }
 {
     if text.len() > LONGEST_LINE {
         return Err(ReadError::Fault(Kind::LongLine));
@@ -179,17 +243,17 @@ fn read_line(
     let Some(word) = word_named(first) else {
         return Err(ReadError::Fault(Kind::UnknownWord));
     };
-    if let Some(kind) = misplaced(word, pages) {
+    if let Some(kind) = misplaced(word, progress) {
         return Err(ReadError::Fault(kind));
     }
-    read_words(alloc, pages, word, rest)
+    read_words(alloc, progress, word, rest)
 }
 
 /// What a line of text is after the lines read so far: None where it is skipped.
-pub fn judge(alloc: Global, pages: &ImagePages, text: &[u8]) -> Result<Option<Line>, ReadError>
-    ensures ok { IfOk result (λ line. grammar.verdict text.now pages.now ≡ fine_or_skipped line) }
-    ensures next { IfOk result (λ line. IfSome line (λ line. IsNext pages.now line)) }
-    ensures err { IfErr result (λ e. Condemns e (grammar.verdict text.now pages.now)) }
+pub fn judge(alloc: Global, progress: &Progress, text: &[u8]) -> Result<Option<Line>, ReadError>
+    ensures ok { IfOk result (λ line. grammar.verdict text.now progress.now ≡ fine_or_skipped line) }
+    ensures next { IfOk result (λ line. IfSome line (λ line. IsNext progress.now line)) }
+    ensures err { IfErr result (λ e. Condemns e (grammar.verdict text.now progress.now)) }
 {
     let Some((first, rest)) = next_word(text) else {
         return Ok(None);
@@ -197,5 +261,5 @@ pub fn judge(alloc: Global, pages: &ImagePages, text: &[u8]) -> Result<Option<Li
     if is_comment(first) {
         return Ok(None);
     }
-    read_line(alloc, pages, text, first, rest).map(Some)
+    read_line(alloc, progress, text, first, rest).map(Some)
 }

@@ -7,7 +7,7 @@ mod judge;
 mod laws;
 mod lines;
 mod numbers;
-mod pages;
+mod progress;
 mod reader;
 mod script;
 mod table;

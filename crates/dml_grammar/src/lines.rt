@@ -28,6 +28,10 @@ pub enum Line {
     Poke { addr: u64, bytes: Bytes },
     /// A job.
     Job(Job),
+    /// The jobs from here up to the end are one batch, 0 to 1,024 of them.
+    Batch,
+    /// The end of a batch.
+    End,
     /// Bytes are shown, 1 to 65,536 of them.
     Show { addr: u64, len: u32 },
 }

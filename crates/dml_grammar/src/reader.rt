@@ -11,7 +11,7 @@ ghost use Rattle.dml_grammar.specs.declared.faults.ScriptFault.{ScriptFault as T
 use crate::faults::{Kind, ReadError, ScriptError, ScriptFault};
 use crate::judge::judge;
 use crate::lines::Line;
-use crate::pages::ImagePages;
+use crate::progress::Progress;
 use crate::script::MAX_SCRIPT;
 use crate::words::next_line;
 use std::alloc::Global;
@@ -23,7 +23,8 @@ use std::marker::Model;
 pub struct LineReader<'a> {
     rest: &'a [u8],
     number: u32,
-    pages: ImagePages,
+    opened: u32,
+    progress: Progress,
 }
 
 impl<'a> Model for LineReader<'a> {
@@ -33,7 +34,7 @@ impl<'a> Model for LineReader<'a> {
 
     ghost Value = { Left };
 
-    ghost view = { λ reader. left_from reader.number reader.pages (lines reader.rest.now) };
+    ghost view = { λ reader. left_from reader.number reader.opened reader.progress (lines reader.rest.now) };
 
     ghost invariant = { λ reader. reader.number + length reader.rest.now ≤ 4194305 };
 }
@@ -51,7 +52,8 @@ impl<'a> LineReader<'a> {
         LineReader {
             rest: text,
             number: 1,
-            pages: ImagePages::new(alloc),
+            opened: 0,
+            progress: Progress::new(alloc),
         }
     }
 
@@ -61,39 +63,44 @@ impl<'a> LineReader<'a> {
     pub fn next(&mut self, alloc: Global) -> Result<Option<Line>, ScriptError>
         ensures { Gives result self.old self.new }
     {
-        let Some(found) = find_line(alloc, &self.pages, self.rest, self.number)? else {
+        let Some(found) = find_line(alloc, &self.progress, self.rest, self.number, self.opened)?
+        else {
             return Ok(None);
         };
-        self.pages.note(alloc, &found.line)?;
+        self.progress.note(alloc, &found.line)?;
         self.rest = found.rest;
         self.number = found.number;
+        self.opened = found.opened;
         Ok(Some(found.line))
     }
 }
 
-/// A line, the text behind it and the number of that text's first line.
+/// A line, the text behind it, the number of that text's first line and that of the last `batch` line before it.
 #[derive(Drop)]
 struct FoundLine<'a> {
     line: Line,
     rest: &'a [u8],
     number: u32,
+    opened: u32,
 }
 
 /// The first line of a text that is not skipped, None where there is no more line, or its fault. The text begins at
-/// the line of this number.
+/// the line of this number, and the last `batch` line before it has the other.
 #[tactic(auto, unfolding(crate::specs::Left::left_from))]
 fn find_line<'a>(
     alloc: Global,
-    pages: &ImagePages,
+    progress: &Progress,
     text: &'a [u8],
     number: u32,
+    opened: u32,
 ) -> Result<Option<FoundLine<'a>>, ScriptError>
     requires { number + length text.now ≤ 4194305 }
-    ensures line { IfOk result (λ found. MatchOption found (left_from number pages.now (lines text.now) ≡ nothing_but None)
-        (λ f. left_from number pages.now (lines text.now) ≡ with_line f.line (left_from f.number (pages.now ++ f.line ∷ []) (lines f.rest.now)))) }
-    ensures next { IfOk result (λ found. IfSome found (λ f. IsNext pages.now f.line)) }
+    ensures line { IfOk result (λ found. MatchOption found (left_from number opened progress.now (lines text.now) ≡ nothing_but None)
+        (λ f. left_from number opened progress.now (lines text.now)
+        ≡ with_line f.line (left_from f.number f.opened (progress.now ++ f.line ∷ []) (lines f.rest.now)))) }
+    ensures next { IfOk result (λ found. IfSome found (λ f. IsNext progress.now f.line)) }
     ensures count { IfOk result (λ found. IfSome found (λ f. f.number + length f.rest.now ≤ 4194305)) }
-    ensures fault { (fault : TheFault) → IsErrOf result (errors.Fault fault) → left_from number pages.now (lines text.now) ≡ nothing_but (Some fault) }
+    ensures fault { (fault : TheFault) → IsErrOf result (errors.Fault fault) → left_from number opened progress.now (lines text.now) ≡ nothing_but (Some fault) }
 {
     let mut rest = text;
     let mut number = number;
@@ -101,26 +108,47 @@ fn find_line<'a>(
         let (text, after) = next_line(rest);
         number += 1;
         rest = after;
-        match judge(alloc, pages, text) {
+        match judge(alloc, progress, text) {
             Ok(None) => {}
-            Ok(Some(line)) => return Ok(Some(FoundLine { line, rest, number })),
+            Ok(Some(line)) => {
+                let opened = opening_number(number - 1, &line, opened);
+                return Ok(Some(FoundLine {
+                    line,
+                    rest,
+                    number,
+                    opened,
+                }));
+            }
             Err(ReadError::NoMemory) => return Err(ScriptError::NoMemory),
             Err(ReadError::Fault(kind)) => return Err(fault_at(number - 1, kind)),
         }
     }
-    end_of_text(pages, number)?;
+    end_of_text(progress, number, opened)?;
     Ok(None)
 }
 
-/// The end of a text, at this number of a line: the `image` line is missing, or all is well.
-#[tactic(auto, unfolding(crate::specs::Left::left_from))]
-fn end_of_text(pages: &ImagePages, number: u32) -> Result<(), ScriptError>
-    ensures fine { OnOk result (left_from number pages.now [] ≡ nothing_but None) }
-    ensures fault { IfErr result (λ e. (fault : TheFault) × (e ≡ errors.Fault fault)
-        × (left_from number pages.now [] ≡ nothing_but (Some fault))) }
+/// The number of the last `batch` line, behind a line of this number.
+fn opening_number(number: u32, line: &Line, opened: u32) -> u32
+    ensures { result ≡ grammar.opening_number number line.now opened }
 {
-    if pages.is_empty() {
+    match line {
+        Line::Batch => number,
+        _ => opened,
+    }
+}
+
+/// The end of a text, at this number of a line: the `image` line is missing, a batch is open, or all is well.
+#[tactic(auto, unfolding(crate::specs::Left::left_from))]
+fn end_of_text(progress: &Progress, number: u32, opened: u32) -> Result<(), ScriptError>
+    ensures fine { OnOk result (left_from number opened progress.now [] ≡ nothing_but None) }
+    ensures fault { IfErr result (λ e. (fault : TheFault) × (e ≡ errors.Fault fault)
+        × (left_from number opened progress.now [] ≡ nothing_but (Some fault))) }
+{
+    if progress.is_empty() {
         return Err(fault_at(number, Kind::MissingImage));
+    }
+    if progress.open_jobs().is_some() {
+        return Err(fault_at(opened, Kind::OpenBatch));
     }
     Ok(())
 }

@@ -1,7 +1,9 @@
 //! The table of lines: which words may come after a first word, and what each of them is.
 
 ghost use Rattle.std.specs.Prelude.{◌≡◌, ◌≤◌, length};
-ghost use Rattle.dml_grammar.specs.Table.{rows_seen, find_word, word_named, parts_of, suffix_text};
+ghost use Rattle.dml_grammar.specs.Table.{rows_seen, find_word, word_named, job_parts, parts_of, suffix_text};
+
+use dml_types::Op;
 
 /// The first word of a line.
 #[derive(Clone, Copy, PartialEq, Eq, Debug)]
@@ -9,11 +11,12 @@ pub enum Word {
     Image,
     Page,
     Poke,
-    NoOp,
-    Move,
-    Fill,
-    Dualcast,
+    /// A job of this operation, its fields in words of their own.
+    Job(Op),
+    /// A job given by its descriptor.
     Raw,
+    Batch,
+    End,
     Show,
 }
 
@@ -35,6 +38,7 @@ impl Default for Slot {
 /// A name with a value that may follow a line's own words.
 #[derive(Clone, Copy, PartialEq, Eq, Debug)]
 pub enum Suffix {
+    Check,
     Flags,
 }
 
@@ -50,24 +54,32 @@ pub enum Part {
 }
 
 /// The most parts of a line.
-pub const MOST_PARTS: usize = 5;
+pub const MOST_PARTS: usize = 7;
 
 const LONG: Part = Part::One(Slot::Number(0xffff_ffff_ffff_ffff));
 
 const SHORT: Part = Part::One(Slot::Number(0xffff_ffff));
 
+const CHECK: Part = Part::Named(Suffix::Check, Slot::Number(0xff));
+
 const FLAGS: Part = Part::Named(Suffix::Flags, Slot::Number(0xff_ffff));
 
 /// The first words of lines.
-const FIRST_WORDS: [(&[u8], Word); 9] = [
+const FIRST_WORDS: [(&[u8], Word); 15] = [
     (b"image", Word::Image),
     (b"page", Word::Page),
     (b"poke", Word::Poke),
-    (b"noop", Word::NoOp),
-    (b"move", Word::Move),
-    (b"fill", Word::Fill),
-    (b"dualcast", Word::Dualcast),
+    (b"noop", Word::Job(Op::NoOp)),
+    (b"move", Word::Job(Op::Move)),
+    (b"fill", Word::Job(Op::Fill)),
+    (b"compare", Word::Job(Op::Compare)),
+    (b"compare-pattern", Word::Job(Op::ComparePattern)),
+    (b"create", Word::Job(Op::CreateDelta)),
+    (b"apply", Word::Job(Op::ApplyDelta)),
+    (b"dualcast", Word::Job(Op::Dualcast)),
     (b"raw", Word::Raw),
+    (b"batch", Word::Batch),
+    (b"end", Word::End),
     (b"show", Word::Show),
 ];
 
@@ -90,6 +102,21 @@ pub fn word_named(text: &[u8]) -> Option<Word>
     find_word(&FIRST_WORDS, text)
 }
 
+/// The parts of a job's line.
+fn job_parts(op: Op) -> &'static [Part]
+    ensures parts { result.now ≡ job_parts op }
+    ensures few { length result.now ≤ MOST_PARTS }
+{
+    match op {
+        Op::NoOp => &[FLAGS],
+        Op::Move | Op::Fill => &[LONG, LONG, SHORT, FLAGS],
+        Op::Compare | Op::ComparePattern => &[LONG, LONG, SHORT, CHECK, FLAGS],
+        Op::CreateDelta => &[LONG, LONG, SHORT, LONG, SHORT, CHECK, FLAGS],
+        Op::ApplyDelta => &[LONG, SHORT, LONG, SHORT, FLAGS],
+        Op::Dualcast => &[LONG, LONG, LONG, SHORT, FLAGS],
+    }
+}
+
 /// The parts of a line with this first word.
 pub fn parts_of(word: Word) -> &'static [Part]
     ensures parts { result.now ≡ parts_of word }
@@ -99,10 +126,9 @@ pub fn parts_of(word: Word) -> &'static [Part]
         Word::Image => &[LONG],
         Word::Page => &[LONG, Part::Maybe(Slot::Digits(2, 8192))],
         Word::Poke => &[LONG, Part::One(Slot::Digits(2, 8192))],
-        Word::NoOp => &[FLAGS],
-        Word::Move | Word::Fill => &[LONG, LONG, SHORT, FLAGS],
-        Word::Dualcast => &[LONG, LONG, LONG, SHORT, FLAGS],
+        Word::Job(op) => job_parts(op),
         Word::Raw => &[Part::One(Slot::Digits(128, 128))],
+        Word::Batch | Word::End => &[],
         Word::Show => &[LONG, LONG],
     }
 }
@@ -112,6 +138,7 @@ pub fn name_of(suffix: Suffix) -> &'static [u8]
     ensures { result.now ≡ suffix_text suffix }
 {
     match suffix {
+        Suffix::Check => b"check",
         Suffix::Flags => b"flags",
     }
 }

@@ -6,7 +6,7 @@ use std::process::Abort;
 use std::test::Fail;
 
 /// The line and the kind of a text's first fault; None where it is a script.
-fn fault_of(rt: &impl Abort, alloc: Global, text: &[u8]) -> Option<(u32, Kind)> {
+fn first_fault(rt: &impl Abort, alloc: Global, text: &[u8]) -> Option<(u32, Kind)> {
     assert!(rt; text.len() <= 4_194_304);
     match read_script(alloc, text) {
         Ok(_) => None,
@@ -46,15 +46,28 @@ fn padded(
 }
 
 /// Scripts with one fault, the line and the kind of it.
-const FAULTS: [(&str, u32, Kind); 54] = [
+const FAULTS: [(&str, u32, Kind); 79] = [
     ("image 1\nnoop\u{e9}", 2, Kind::NotAscii),
     ("image 1\nnoop\u{7f}", 2, Kind::NotAscii),
-    ("image 1\ncompare 0 0 0", 2, Kind::UnknownWord),
+    ("image 1\ncomparepattern 0 0 0", 2, Kind::UnknownWord),
     ("image 1\nNOOP", 2, Kind::UnknownWord),
     ("image 1\nfil 0 0 0", 2, Kind::UnknownWord),
     ("image 1\nfills 0 0 0", 2, Kind::UnknownWord),
-    ("image 1\nbatch", 2, Kind::UnknownWord),
-    ("image 1\nend", 2, Kind::UnknownWord),
+    ("image 1\nbatches", 2, Kind::UnknownWord),
+    ("image 1\npage 0\nbatch\npage 0\nend", 4, Kind::InBatch),
+    ("image 1\npage 0\nbatch\npoke 0 00\nend", 4, Kind::InBatch),
+    ("image 1\nbatch\nshow 0 1\nend", 3, Kind::InBatch),
+    ("image 1\nbatch\nnoop\nbatch\nend", 4, Kind::InBatch),
+    ("image 1\nend", 2, Kind::StrayEnd),
+    ("image 1\nbatch\nend\nend", 4, Kind::StrayEnd),
+    ("image 1\nbatch\nnoop", 2, Kind::OpenBatch),
+    (
+        "image 1\nbatch\nend\n# open\n\nbatch\nnoop\n#\n",
+        6,
+        Kind::OpenBatch,
+    ),
+    ("image 1\nbatch 1\nend", 2, Kind::WrongWords),
+    ("image 1\nbatch\nend 1", 3, Kind::WrongWords),
     ("noop", 1, Kind::MissingImage),
     ("# first\n\n \t\npage 0\nimage 1", 4, Kind::MissingImage),
     ("image 1\nnoop\nimage 1", 3, Kind::SecondImage),
@@ -70,6 +83,38 @@ const FAULTS: [(&str, u32, Kind); 54] = [
     ("image 1\nmove 0 0 0 0", 2, Kind::WrongWords),
     ("image 1\ndualcast 0 0 0", 2, Kind::WrongWords),
     ("image 1\ndualcast 0 0 0 0 0", 2, Kind::WrongWords),
+    ("image 1\nmove 0 0 0 check 0", 2, Kind::WrongWords),
+    ("image 1\ncompare 0 0 0 check", 2, Kind::WrongWords),
+    (
+        "image 1\ncompare 0 0 0 flags 0 check 0",
+        2,
+        Kind::WrongWords,
+    ),
+    (
+        "image 1\ncompare 0 0 0 check 0 check 0",
+        2,
+        Kind::WrongWords,
+    ),
+    ("image 1\ncompare-pattern 0 0", 2, Kind::WrongWords),
+    ("image 1\ncreate 0 0 0 0", 2, Kind::WrongWords),
+    ("image 1\napply 0 0 0", 2, Kind::WrongWords),
+    ("image 1\napply 0 0 0 0 check 0", 2, Kind::WrongWords),
+    ("image 1\ncompare 0 8 check", 2, Kind::BadNumber),
+    ("image 1\ncompare 0 0 0 check 256", 2, Kind::BadNumber),
+    (
+        "image 1\ncompare-pattern 0 0 4294967296",
+        2,
+        Kind::BadNumber,
+    ),
+    ("image 1\ncreate 0 0 4294967296 0 0", 2, Kind::BadNumber),
+    ("image 1\ncreate 0 0 0 0 4294967296", 2, Kind::BadNumber),
+    (
+        "image 1\ncreate 0 0 0 0 0 check 0 flags 0x1000000",
+        2,
+        Kind::BadNumber,
+    ),
+    ("image 1\napply 0 4294967296 0 0", 2, Kind::BadNumber),
+    ("image 1\napply 0 0 0 4294967296", 2, Kind::BadNumber),
     ("image 1\nmove 0 0 4294967296", 2, Kind::BadNumber),
     ("image 1\ndualcast 0 0 0 4294967296", 2, Kind::BadNumber),
     (
@@ -115,25 +160,22 @@ const FAULTS: [(&str, u32, Kind); 54] = [
 fn each_kind_of_fault(rt: HostRuntime) {
     for (text, line, kind) in FAULTS {
         assert_eq!(rt;
-            fault_of(&rt, rt.alloc(), text.as_bytes()),
+            first_fault(&rt, rt.alloc(), text.as_bytes()),
             Some((line, kind)),
             "at {text:?}"
         );
     }
 }
 
-/// A `raw` line of a compare, whose lines are not read yet.
-const LATER_DESCRIPTOR: &str =
-    "raw 00000000000000050000000000000000000000000000000000000000000000000000000000000000000000000000000000000000000000000000000000000000";
-
 #[test]
 fn the_first_of_two_faults_on_a_line(rt: HostRuntime) {
     for (text, line, kind) in [
         ("im\u{e9}ge 1", 1, Kind::NotAscii),
         ("noop \u{e9}", 1, Kind::NotAscii),
-        ("compare 0 0 0", 1, Kind::UnknownWord),
+        ("frob 0 0 0", 1, Kind::UnknownWord),
         ("move 0 0", 1, Kind::MissingImage),
         ("noop 1", 1, Kind::MissingImage),
+        ("compare 0 0 0", 1, Kind::MissingImage),
         ("image 1\nimage", 2, Kind::SecondImage),
         ("image 1\nimage 0", 2, Kind::SecondImage),
         ("image 1\nimage x", 2, Kind::SecondImage),
@@ -145,11 +187,21 @@ fn the_first_of_two_faults_on_a_line(rt: HostRuntime) {
         ("image 1\npage 7 0", 2, Kind::BadHex),
         ("image 1\npoke 0 0", 2, Kind::BadHex),
         ("image 1\npage 1\nmove", 2, Kind::BadRange),
-        ("image 1\ncompare\npage 1", 2, Kind::UnknownWord),
-        (LATER_DESCRIPTOR, 1, Kind::MissingImage),
+        ("image 1\nfrob\npage 1", 2, Kind::UnknownWord),
+        ("raw 00", 1, Kind::MissingImage),
+        ("batch", 1, Kind::MissingImage),
+        ("end", 1, Kind::MissingImage),
+        ("image 1\nbatch\nimage 1", 3, Kind::SecondImage),
+        ("image 1\nbatch\nframe", 3, Kind::UnknownWord),
+        ("image 1\nbatch\nshow", 3, Kind::InBatch),
+        ("image 1\nbatch\nbatch 1", 3, Kind::InBatch),
+        ("image 1\nend 1", 2, Kind::StrayEnd),
+        ("image 1\nbatch\nmove 0 0", 3, Kind::WrongWords),
+        ("image 1\ncompare 0 8 check 1", 2, Kind::WrongWords),
+        ("image 1\ncreate x 0 0 0", 2, Kind::WrongWords),
     ] {
         assert_eq!(rt;
-            fault_of(&rt, rt.alloc(), text.as_bytes()),
+            first_fault(&rt, rt.alloc(), text.as_bytes()),
             Some((line, kind)),
             "at {text:?}"
         );
@@ -170,7 +222,7 @@ fn lines_and_words(rt: HostRuntime) {
         ("image 1\n\u{b}", Some((2, Kind::NotAscii))),
     ] {
         assert_eq!(rt;
-            fault_of(&rt, rt.alloc(), text.as_bytes()),
+            first_fault(&rt, rt.alloc(), text.as_bytes()),
             fault,
             "at {text:?}"
         );
@@ -298,7 +350,7 @@ fn longest_lines_and_words(rt: HostRuntime) -> Result<(), Fail> {
     for (front, byte, copies, back, fault) in LONG_SCRIPTS {
         let text = padded(rt.alloc(), front, byte, copies, back)?;
         assert_eq!(rt;
-            fault_of(&rt, rt.alloc(), text.as_slice()),
+            first_fault(&rt, rt.alloc(), text.as_slice()),
             fault,
             "at {front:?}"
         );
@@ -309,7 +361,7 @@ fn longest_lines_and_words(rt: HostRuntime) -> Result<(), Fail> {
 #[test]
 fn each_line_is_read(rt: HostRuntime) -> Result<(), Fail> {
     let text =
-        b"image 4096\npage 4095 00fF\npage 0\npoke 4094 0102\nnoop flags 0x10\nfill 0x0807 4090 12\nshow 4088 65536\nraw 000000000C0000040000000000000000001000000000000000200000000000006400000000000000000000000000000000000000000000000000000000000000\nmove 1 2 3 flags 4\ndualcast 1 2 0xffffffffffffffff 0xffffffff flags 0xffffff\ndualcast 4 3 2 1\n";
+        b"image 4096\npage 4095 00fF\npage 0\npoke 4094 0102\nnoop flags 0x10\nfill 0x0807 4090 12\nshow 4088 65536\nraw 000000000C0000040000000000000000001000000000000000200000000000006400000000000000000000000000000000000000000000000000000000000000\nmove 1 2 3 flags 4\ndualcast 1 2 0xffffffffffffffff 0xffffffff flags 0xffffff\ndualcast 4 3 2 1\ncompare 1 2 3\ncompare 1 2 3 check 255 flags 0x100\ncompare-pattern 1 0x0807 3 check 0\ncreate 1 2 3 4 5 flags 0x80\ncreate 1 2 3 4 5 check 2 flags 0xffff7f\napply 1 2 3 4 flags 2\nbatch\nnoop\nend\n";
     let lines = [
         "Image { pages: 4096 }",
         "Page { page: 4095, bytes: Bytes { list: [0, 255] } }",
@@ -322,6 +374,15 @@ fn each_line_is_read(rt: HostRuntime) -> Result<(), Fail> {
         "Job(Job { opcode: 3, flags: 4, source: 1, target: 2, size: 3, extra: 0, delta_size: 0, expected: 0 })",
         "Job(Job { opcode: 9, flags: 16777215, source: 1, target: 2, size: 4294967295, extra: 18446744073709551615, delta_size: 0, expected: 0 })",
         "Job(Job { opcode: 9, flags: 0, source: 4, target: 3, size: 1, extra: 2, delta_size: 0, expected: 0 })",
+        "Job(Job { opcode: 5, flags: 0, source: 1, target: 2, size: 3, extra: 0, delta_size: 0, expected: 0 })",
+        "Job(Job { opcode: 5, flags: 384, source: 1, target: 2, size: 3, extra: 0, delta_size: 0, expected: 255 })",
+        "Job(Job { opcode: 6, flags: 128, source: 1, target: 2055, size: 3, extra: 0, delta_size: 0, expected: 0 })",
+        "Job(Job { opcode: 7, flags: 128, source: 1, target: 2, size: 3, extra: 4, delta_size: 5, expected: 0 })",
+        "Job(Job { opcode: 7, flags: 16777215, source: 1, target: 2, size: 3, extra: 4, delta_size: 5, expected: 2 })",
+        "Job(Job { opcode: 8, flags: 2, source: 1, target: 3, size: 4, extra: 0, delta_size: 2, expected: 0 })",
+        "Batch",
+        "Job(Job { opcode: 0, flags: 0, source: 0, target: 0, size: 0, extra: 0, delta_size: 0, expected: 0 })",
+        "End",
     ];
     let Ok(script) = read_script(rt.alloc(), text) else {
         panic!(rt; "not read");
@@ -354,10 +415,10 @@ fn raw_lines(rt: HostRuntime) -> Result<(), Fail> {
         ("10", 128, None),
         ("fF", 128, None),
         ("03", 128, None),
-        ("05", 128, Some((2, Kind::UnknownWord))),
-        ("06", 128, Some((2, Kind::UnknownWord))),
-        ("07", 128, Some((2, Kind::UnknownWord))),
-        ("08", 128, Some((2, Kind::UnknownWord))),
+        ("05", 128, None),
+        ("06", 128, None),
+        ("07", 128, None),
+        ("08", 128, None),
         ("09", 128, None),
         // short_raw_line
         ("00", 126, Some((2, Kind::BadHex))),
@@ -368,9 +429,72 @@ fn raw_lines(rt: HostRuntime) -> Result<(), Fail> {
     ] {
         let text = raw_script(rt.alloc(), opcode, digits)?;
         assert_eq!(rt;
-            fault_of(&rt, rt.alloc(), text.as_slice()),
+            first_fault(&rt, rt.alloc(), text.as_slice()),
             fault,
             "at {opcode} {digits}"
+        );
+    }
+    Ok(())
+}
+
+/// A batch of so many copies of a line, between a front and a back.
+fn batch_of(
+    alloc: Global,
+    front: &str,
+    line: &str,
+    jobs: usize,
+    back: &str,
+) -> Result<Vec<u8>, AllocError> {
+    let mut text = Vec::from_slice(alloc, front.as_bytes())?;
+    for _ in 0..jobs {
+        text.extend_from_slice(line.as_bytes())?;
+    }
+    text.extend_from_slice(back.as_bytes())?;
+    Ok(text)
+}
+
+#[test]
+fn jobs_of_a_batch(rt: HostRuntime) -> Result<(), Fail> {
+    let open = "image 1\nbatch\n";
+    let again = "image 1\nnoop\nbatch\nnoop\nend\nbatch\n";
+    for (front, line, jobs, back, fault) in [
+        (open, "noop\n", 0, "end", None),
+        (open, "noop\n", 1024, "end", None),
+        (open, "#\n", 1025, "end", None),
+        // too_many_jobs, and a fault of that line's own
+        (open, "noop\n", 1025, "end", Some((1027, Kind::TooManyJobs))),
+        (
+            open,
+            "noop\n",
+            1024,
+            "raw 0",
+            Some((1027, Kind::TooManyJobs)),
+        ),
+        (
+            open,
+            "noop\n",
+            1024,
+            "frob",
+            Some((1027, Kind::UnknownWord)),
+        ),
+        (open, "noop\n", 1024, "show", Some((1027, Kind::InBatch))),
+        (open, "noop\n", 1024, "", Some((2, Kind::OpenBatch))),
+        (again, "noop\n", 1024, "end", None),
+        (
+            again,
+            "noop\n",
+            1025,
+            "end",
+            Some((1031, Kind::TooManyJobs)),
+        ),
+        // more_lines_than_one_list
+        ("image 1\n", "noop\n", 1025, "", None),
+    ] {
+        let text = batch_of(rt.alloc(), front, line, jobs, back)?;
+        assert_eq!(rt;
+            first_fault(&rt, rt.alloc(), text.as_slice()),
+            fault,
+            "at {front:?} {jobs} {back:?}"
         );
     }
     Ok(())
@@ -417,10 +541,14 @@ fn fault_texts(rt: HostRuntime) {
             "the script must begin with an image line",
         ),
         (Kind::SecondImage, "a second image line"),
+        (Kind::InBatch, "this line may not stand in a batch"),
+        (Kind::StrayEnd, "no batch is open"),
+        (Kind::TooManyJobs, "the batch has too many jobs"),
         (Kind::WrongWords, "wrong number or kind of words"),
         (Kind::BadNumber, "not a number of the right size"),
         (Kind::BadHex, "not hexadecimal text of the right length"),
         (Kind::BadRange, "out of range"),
+        (Kind::OpenBatch, "the batch has no end"),
     ] {
         assert_eq!(rt; fault_text(kind), text);
     }

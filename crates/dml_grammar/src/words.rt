@@ -27,7 +27,7 @@ fn without_return(line: &[u8]) -> &[u8]
 }
 
 /// The first line of a text, and what follows it.
-#[tactic(auto, using(crate::proofs::WordLemmas::lines_at, crate::proofs::WordLemmas::lines_last))]
+#[tactic(auto, using(crate::proofs::WordLemmas::lines_split, crate::proofs::WordLemmas::lines_last))]
 pub fn next_line(text: &[u8]) -> (&[u8], &[u8])
     requires { 0 < length text.now }
     ensures lines { lines text.now ≡ result.0.now ∷ lines result.1.now }
@@ -76,7 +76,7 @@ fn word_len(text: &[u8]) -> usize
 }
 
 /// The first word of a line, and what follows it; None where the line has no word.
-#[tactic(auto, using(crate::proofs::WordLemmas::words_none, crate::proofs::WordLemmas::words_at))]
+#[tactic(auto, using(crate::proofs::WordLemmas::words_none, crate::proofs::WordLemmas::words_split))]
 pub fn next_word(line: &[u8]) -> Option<(&[u8], &[u8])>
     ensures { MatchOption result (text_spec.words line.now ≡ []) (λ r. text_spec.words line.now ≡ r.0.now ∷ text_spec.words r.1.now) }
 {

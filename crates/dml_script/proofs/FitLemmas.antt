@@ -1,8 +1,8 @@
 -- A script's lines fit the memory that they meet.
-use Rattle.std.proofs.Common.{◌≡◌, ℕ, suc, ◌+◌, ◌/◌, ◌^◌, ◌<◌, ◌≤◌, List, [], ◌∷◌, ◌++◌, length, refl, sym, ◌∙◌, ap, subst, arith, eq-eqb, Bool, false, not, Result, Ok, Err, inl, inr, nat_eq, append_assoc}
+use Rattle.std.proofs.Common.{◌≡◌, ℕ, suc, ◌+◌, ◌/◌, ◌^◌, ◌<◌, ◌≤◌, List, [], ◌∷◌, ◌++◌, length, refl, sym, ◌∙◌, ap, subst, arith, eq-eqb, Bool, false, not, Option, Some, None, Result, Ok, Err, inl, inr, nat_eq, append_assoc}
 use Rattle.std.specs.Str.Lines.{lines, lines_of_parts}
 use Rattle.std.specs.List.{slice_split}
-use Rattle.std.proofs.lemmas.Bool.{cases_Bool, eqb-true}
+use Rattle.std.proofs.lemmas.Bool.{cases_Bool}
 use Rattle.std.proofs.lemmas.List.{append-nil, length-append}
 use Rattle.std.proofs.lemmas.List.Splits.{length-slice_split}
 use Rattle.std.proofs.lemmas.List.Sums.{count_by-le-length}
@@ -12,7 +12,7 @@ use Rattle.dml_types.proofs.StepLemmas.{step_present}
 use Rattle.dml_grammar.specs.declared.faults.ScriptFault.{ScriptFault}
 use Rattle.dml_grammar.specs.declared.lines.Line.{Line}
 use Rattle.dml_grammar.specs.declared.lines.Line.TheVariants as line
-use Rattle.dml_grammar.specs.Grammar.{Skipped, Faulty, Fine, parse, parse_from, verdict, fault_at}
+use Rattle.dml_grammar.specs.Grammar.{Skipped, Faulty, Fine, end_fault, fault_at, opening_number, parse, parse_from, verdict}
 use Rattle.dml_script.specs.Run.{Session, after_line, opening}
 use Rattle.dml_grammar.specs.Pages.{Tracks}
 use Rattle.dml_script.specs.Runnable.{AllFit, Fits, IsRunnable}
@@ -33,6 +33,8 @@ tracks_more staging session before (line.Poke address bytes) some tracks may = t
 tracks_more staging session before (line.Job job) some tracks may =
     subst (λ (present : List Bool). Tracks present (before ++ line.Job job ∷ [])) (sym (step_present session.memory job staging))
     (tracks_same session.memory.present before (line.Job job) some tracks (λ page. refl))
+tracks_more staging session before line.Batch some tracks may = tracks_same session.memory.present before _ some tracks (λ page. refl)
+tracks_more staging session before line.End some tracks may = tracks_same session.memory.present before _ some tracks (λ page. refl)
 tracks_more staging session before (line.Show address len) some tracks may = tracks_same session.memory.present before _ some tracks (λ page. refl)
 
 fits_of : (session : Session) (before : List Line) (l : Line) → 0 < length before → Tracks session.memory.present before → MayFollow before l → Fits session l
@@ -42,7 +44,9 @@ fits_of session before (line.Poke address bytes) some tracks may =
     let each : (i : ℕ) → i < length bytes → not (has session.memory (address + i)) ≡ false =
     λ i low. ap not (tracks.marks ((address + i) / 4096) ∙ byte_present before address (length bytes) i low may.1) in
     eq-eqb _ _ (first_none (length bytes) (λ i. not (has session.memory (address + i))) each)
-fits_of session before (line.Job job) some tracks may = may.1
+fits_of session before (line.Job job) some tracks may = tt
+fits_of session before line.Batch some tracks may = tt
+fits_of session before line.End some tracks may = tt
 fits_of session before (line.Show address len) some tracks may = may.1
 
 abbrev read : List Line → Result (List Line) ScriptFault
@@ -70,66 +74,64 @@ behind_more staging session before found l most here after = record {
   few = let few : length after.rest ≤ most = after.few in omega arith;
 }
 
-behind_end : (staging : ℕ) (number : ℕ) (before found : List Line) (session : Session) → 0 < length before → parse_from number before [] ≡ Ok found
-    → Behind staging session before found 0
-unfolding parse_from
-behind_end staging number before found session some parsed =
-    elim (cases_Bool (nat_eq (length before) 0)) [
-      | inl none ↦ let nothing : length before ≡ 0 = eqb-true (length before) 0 none in absurd (omega arith)
-      | inr more ↦
-          let ok : read before ≡ read found = rw more at parsed in
-          let same : before ≡ found = ok_same before found ok in
-          record { rest = []; joined = sym same ∙ sym (append-nil before); fits = tt; few = omega arith }
-    ]
+behind_end : (staging number opened : ℕ) (before found : List Line) (session : Session) (fault : Option ScriptFault) → 0 < length before
+    → (elim fault [ None ↦ Ok before | Some f ↦ Err f ]) ≡ read found → Behind staging session before found 0
+behind_end staging number opened before found session None some ended =
+    let same : before ≡ found = ok_same before found ended in
+    record { rest = []; joined = sym same ∙ sym (append-nil before); fits = tt; few = omega arith }
+behind_end staging number opened before found session (Some fault) some ended = absurd (not_read fault found ended)
 
-behind : (staging : ℕ) (texts : List (List ℕ)) (number : ℕ) (before found : List Line) (session : Session) → 0 < length before → Tracks session.memory.present before
-    → parse_from number before texts ≡ Ok found → Behind staging session before found (length texts)
+behind : (staging : ℕ) (texts : List (List ℕ)) (number opened : ℕ) (before found : List Line) (session : Session) → 0 < length before → Tracks session.memory.present before
+    → parse_from number opened before texts ≡ Ok found → Behind staging session before found (length texts)
 unfolding parse_from
-behind staging [] number before found session some tracks parsed = behind_end staging number before found session some parsed
-behind staging (text ∷ texts) number before found session some tracks parsed =
+behind staging [] number opened before found session some tracks parsed =
+    behind_end staging number opened before found session (end_fault number opened before) some parsed
+behind staging (text ∷ texts) number opened before found session some tracks parsed =
     elim (verdict text before) as (λ v. verdict text before ≡ v → (elim v [
-      | Skipped ↦ parse_from (number + 1) before texts
+      | Skipped ↦ parse_from (number + 1) opened before texts
       | Faulty kind ↦ Err (fault_at number kind)
-      | Fine l ↦ parse_from (number + 1) (before ++ l ∷ []) texts
+      | Fine l ↦ parse_from (number + 1) (opening_number number l opened) (before ++ l ∷ []) texts
     ]) ≡ read found → Behind staging session before found (suc (length texts))) [
       | Skipped ↦ λ is after.
-          let left = behind staging texts (number + 1) before found session some tracks after in
+          let left = behind staging texts (number + 1) opened before found session some tracks after in
           record { rest = left.rest; joined = left.joined; fits = left.fits; few = let few : length left.rest ≤ length texts = left.few in omega arith }
       | Faulty kind ↦ λ is after. absurd (not_read (fault_at number kind) found after)
       | Fine l ↦ λ is after.
           let may = follows text before l is in
           let longer : 0 < length (before ++ l ∷ []) = omega (arith, length-append before (l ∷ [])) in
           behind_more staging session before found l (length texts) (fits_of session before l some tracks may)
-          (behind staging texts (number + 1) (before ++ l ∷ []) found (after_line staging session l) longer
+          (behind staging texts (number + 1) (opening_number number l opened) (before ++ l ∷ []) found (after_line staging session l) longer
           (tracks_more staging session before l some tracks may) after)
     ] refl parsed
 
 -- the first line is the image line
-from_first : (staging : ℕ) (texts : List (List ℕ)) (number : ℕ) (l : Line) (found : List Line) → length texts < 2 ^ 32 → MayFollow [] l
-    → parse_from number (l ∷ []) texts ≡ Ok found → IsRunnable staging found
-from_first staging texts number (line.Image pages) found few may after =
-    let left = behind staging texts number (line.Image pages ∷ []) found (after_line staging opening (line.Image pages)) (omega arith) (tracks_image pages) after in
+from_first : (staging : ℕ) (texts : List (List ℕ)) (number opened : ℕ) (l : Line) (found : List Line) → length texts < 2 ^ 32 → MayFollow [] l
+    → parse_from number opened (l ∷ []) texts ≡ Ok found → IsRunnable staging found
+from_first staging texts number opened (line.Image pages) found few may after =
+    let left = behind staging texts number opened (line.Image pages ∷ []) found (after_line staging opening (line.Image pages)) (omega arith) (tracks_image pages) after in
     let short : length left.rest ≤ length texts = left.few in
     subst (IsRunnable staging) (sym left.joined) (may.1, may.2, omega arith, left.fits)
-from_first staging texts number (line.Page page bytes) found few may after = absurd (omega (arith, may.0))
-from_first staging texts number (line.Poke address bytes) found few may after = absurd (omega (arith, may.0))
-from_first staging texts number (line.Job job) found few may after = absurd (omega (arith, may.0))
-from_first staging texts number (line.Show address len) found few may after = absurd (omega (arith, may.0))
+from_first staging texts number opened (line.Page page bytes) found few may after = absurd (omega (arith, may.0))
+from_first staging texts number opened (line.Poke address bytes) found few may after = absurd (omega (arith, may.0))
+from_first staging texts number opened (line.Job job) found few may after = absurd (omega (arith, may))
+from_first staging texts number opened line.Batch found few may after = absurd (omega (arith, may))
+from_first staging texts number opened line.End found few may after = absurd (omega (arith, may))
+from_first staging texts number opened (line.Show address len) found few may after = absurd (omega (arith, may.0))
 
-from_start : (staging : ℕ) (texts : List (List ℕ)) (number : ℕ) (found : List Line) → length texts < 2 ^ 32 → parse_from number [] texts ≡ Ok found
+from_start : (staging : ℕ) (texts : List (List ℕ)) (number opened : ℕ) (found : List Line) → length texts < 2 ^ 32 → parse_from number opened [] texts ≡ Ok found
     → IsRunnable staging found
 unfolding parse_from
-from_start staging [] number found few parsed = absurd (not_read _ found parsed)
-from_start staging (text ∷ texts) number found few parsed =
+from_start staging [] number opened found few parsed = absurd (not_read _ found parsed)
+from_start staging (text ∷ texts) number opened found few parsed =
     let fewer : length texts < 2 ^ 32 = omega arith in
     elim (verdict text []) as (λ v. verdict text [] ≡ v → (elim v [
-      | Skipped ↦ parse_from (number + 1) [] texts
+      | Skipped ↦ parse_from (number + 1) opened [] texts
       | Faulty kind ↦ Err (fault_at number kind)
-      | Fine l ↦ parse_from (number + 1) (l ∷ []) texts
+      | Fine l ↦ parse_from (number + 1) (opening_number number l opened) (l ∷ []) texts
     ]) ≡ read found → IsRunnable staging found) [
-      | Skipped ↦ λ is after. from_start staging texts (number + 1) found fewer after
+      | Skipped ↦ λ is after. from_start staging texts (number + 1) opened found fewer after
       | Faulty kind ↦ λ is after. absurd (not_read (fault_at number kind) found after)
-      | Fine l ↦ λ is after. from_first staging texts (number + 1) l found fewer (follows text [] l is) after
+      | Fine l ↦ λ is after. from_first staging texts (number + 1) (opening_number number l opened) l found fewer (follows text [] l is) after
     ] refl parsed
 
 -- there are no more lines than parts between line feeds
@@ -148,4 +150,4 @@ pub runnable : (staging : ℕ) (bytes : List ℕ) (found : List Line) → length
 unfolding parse
 runnable staging bytes found within parsed =
     let few : length (lines bytes) < 2 ^ 32 = omega (arith, few_lines bytes) in
-    from_start staging (lines bytes) 1 found few parsed
+    from_start staging (lines bytes) 1 0 found few parsed

@@ -1,22 +1,17 @@
 -- What the grammar gives of each line, after the lines before it.
-use Rattle.std.proofs.Common.{◌≡◌, ℕ, ◌+◌, ◌^◌, ◌<◌, ◌≤◌, List, [], ◌∷◌, ◌++◌, length, map, refl, sym, subst, arith, Bool, true, false, not, ◌&&◌, Option, Some, None, unwrap_or, find, inl, inr, nat_lt, nat_eq}
-use Rattle.std.specs.List.{list_all, list_any}
-use Rattle.dml_desc.specs.Descriptor.{decoded, u8_at}
-use Rattle.dml_desc.proofs.LayoutLemmas.{op_of-decoded}
-use Rattle.dml_types.specs.Job.{operations}
-use Rattle.std.specs.Option.{option_map}
+use Rattle.std.proofs.Common.{◌≡◌, ℕ, ◌+◌, ◌^◌, ◌<◌, ◌≤◌, List, [], ◌∷◌, ◌++◌, length, map, refl, subst, arith, Bool, true, false, not, ◌&&◌, Option, Some, None, unwrap_or, inl, inr, nat_lt, nat_eq}
+use Rattle.std.specs.List.{list_all}
 use Rattle.std.proofs.lemmas.Bool.{cases_Bool, leb-true, ltb-true, ltb-false, and_parts, not-false, or_parts}
 use Rattle.std.proofs.lemmas.List.{nil_from_length}
 use Rattle.dml_grammar.specs.declared.faults.Kind.{Kind}
-use Rattle.dml_grammar.specs.declared.faults.Kind.TheVariants.{BadRange, LongLine, MissingImage, NotAscii, SecondImage, UnknownWord, WrongWords}
+use Rattle.dml_grammar.specs.declared.faults.Kind.TheVariants.{BadRange, LongLine, MissingImage, NotAscii, SecondImage, WrongWords}
 use Rattle.dml_grammar.specs.declared.lines.Line.{Line}
 use Rattle.dml_grammar.specs.declared.lines.Line.TheVariants as line
 use Rattle.dml_grammar.specs.declared.table.Word.{Word}
 use Rattle.dml_grammar.specs.declared.table.Word.TheVariants as word
 use Rattle.dml_grammar.specs.declared.table.Slot.{Slot}
 use Rattle.dml_grammar.specs.Grammar as grammar
-use Rattle.dml_grammar.specs.Grammar.{Verdict, Skipped, Faulty, Fine, verdict, verdict_of, judged, longest_line, first_of, place_faults, entry_faults, faults_of, word_faults}
-use Rattle.dml_script.specs.Runnable.{IsCarried, IsCarriedBy}
+use Rattle.dml_grammar.specs.Grammar.{Verdict, Skipped, Faulty, Fine, verdict, words_verdict, judged, longest_line, batch_faults, first_of, image_faults, place_faults, entry_faults, faults_of, word_faults}
 use Rattle.dml_grammar.specs.Table.{word_named, parts_of}
 use Rattle.dml_grammar.specs.Text.{is_text, words}
 use Rattle.dml_grammar.proofs.LineLemmas.{Entries, fitted_slots, bytes_of_slots, all_bytes_fit}
@@ -27,7 +22,9 @@ abbrev pub MayFollow : List Line → Line → Type 0
 MayFollow before (line.Image pages) = (before ≡ []) × (1 ≤ pages) × (pages ≤ 4096)
 MayFollow before (line.Page page bytes) = (0 < length before) × (page < grammar.pages_of before) × (length bytes ≤ 4096)
 MayFollow before (line.Poke address bytes) = (0 < length before) × (grammar.has_bytes before address (length bytes) ≡ true)
-MayFollow before (line.Job job) = (0 < length before) × IsCarried job
+MayFollow before (line.Job job) = 0 < length before
+MayFollow before line.Batch = 0 < length before
+MayFollow before line.End = 0 < length before
 MayFollow before (line.Show address len) = (0 < length before) × (address + len ≤ 2 ^ 64)
 
 -- where no fault is found, no test passes
@@ -56,83 +53,52 @@ page_bytes : (ws : List (List ℕ)) (entries : Entries) → grammar.fitted (part
 page_bytes ws entries is =
     subst (λ (slots : List Slot). length (grammar.values_of entries).bytes ≤ bytes_of_slots slots) (fitted_slots (parts_of word.Page) ws entries is) (all_bytes_fit entries)
 
--- the later opcodes left out, an opcode is that of a no-op, a move, a fill or a dualcast, or of no operation
-carried_opcode : (n : ℕ) → list_any (λ opcode. nat_eq n opcode) grammar.later_opcodes ≡ false
-    → IsCarriedBy (option_map (λ row. row.1) (find (λ row. nat_eq n row.0) operations))
-carried_opcode n none =
-    let compare = or_parts (nat_eq n 0x05) _ none in
-    let pattern = or_parts (nat_eq n 0x06) _ compare.1 in
-    let create = or_parts (nat_eq n 0x07) _ pattern.1 in
-    let apply = or_parts (nat_eq n 0x08) _ create.1 in
-    elim (cases_Bool (nat_eq n 0x00)) [
-      | inl no_op ↦ rw no_op tt
-      | inr other ↦
-          elim (cases_Bool (nat_eq n 0x03)) [
-            | inl move ↦ rw (other, move) tt
-            | inr still ↦
-                elim (cases_Bool (nat_eq n 0x04)) [
-                  | inl fill ↦ rw (other, still, fill) tt
-                  | inr none ↦
-                      elim (cases_Bool (nat_eq n 0x09)) [
-                        | inl dualcast ↦ rw (other, still, none, compare.0, pattern.0, create.0, apply.0, dualcast) tt
-                        | inr last ↦ rw (other, still, none, compare.0, pattern.0, create.0, apply.0, last) tt
-                      ]
-                ]
-          ]
-    ]
-
-carried_later : (bytes : List ℕ) → list_any (λ opcode. nat_eq (u8_at bytes 7) opcode) grammar.later_opcodes ≡ false → IsCarried (decoded bytes)
-carried_later bytes none = subst IsCarriedBy (sym (op_of-decoded bytes)) (carried_opcode (u8_at bytes 7) none)
-
-follows_by : (first : Word) (ws : List (List ℕ)) (entries : Entries) (before : List Line) → grammar.fitted (parts_of first) ws ≡ Some entries
+word_follows : (first : Word) (ws : List (List ℕ)) (entries : Entries) (before : List Line) → grammar.fitted (parts_of first) ws ≡ Some entries
     → (nat_eq (length before) 0 && not (grammar.is_image first)) ≡ false → (nat_lt 0 (length before) && grammar.is_image first) ≡ false
-    → grammar.has_later_opcode first (grammar.values_of entries) ≡ false
     → grammar.is_out_of_range first (grammar.values_of entries) before ≡ false
     → MayFollow before (grammar.line_of first (grammar.values_of entries))
-follows_by word.Image ws entries before is missing second now range =
+word_follows word.Image ws entries before is missing second range =
     let within = and_parts _ _ (not-false _ range) in (none_before before second, leb-true _ _ within.0, leb-true _ _ within.1)
-follows_by word.Page ws entries before is missing second now range = (some_before before missing, ltb-true _ _ (not-false _ range), page_bytes ws entries is)
-follows_by word.Poke ws entries before is missing second now range = (some_before before missing, not-false _ range)
-follows_by word.NoOp ws entries before is missing second now range = (some_before before missing, tt)
-follows_by word.Move ws entries before is missing second now range = (some_before before missing, tt)
-follows_by word.Fill ws entries before is missing second now range = (some_before before missing, tt)
-follows_by word.Dualcast ws entries before is missing second now range = (some_before before missing, tt)
-follows_by word.Raw ws entries before is missing second now range = (some_before before missing, carried_later _ now)
-follows_by word.Show ws entries before is missing second now range = (some_before before missing, ltb-false _ _ (or_parts _ _ range).1)
+word_follows word.Page ws entries before is missing second range = (some_before before missing, ltb-true _ _ (not-false _ range), page_bytes ws entries is)
+word_follows word.Poke ws entries before is missing second range = (some_before before missing, not-false _ range)
+word_follows (word.Job op) ws entries before is missing second range = some_before before missing
+word_follows word.Raw ws entries before is missing second range = some_before before missing
+word_follows word.Batch ws entries before is missing second range = some_before before missing
+word_follows word.End ws entries before is missing second range = some_before before missing
+word_follows word.Show ws entries before is missing second range = (some_before before missing, ltb-false _ _ (or_parts _ _ range).1)
 
-follows_in : (first : Word) (ws : List (List ℕ)) (fitted : Option Entries) (before : List Line) → grammar.fitted (parts_of first) ws ≡ fitted
+entries_follow : (first : Word) (ws : List (List ℕ)) (fitted : Option Entries) (before : List Line) → grammar.fitted (parts_of first) ws ≡ fitted
     → first_of (place_faults first before ++ entry_faults first fitted before) ≡ None
     → MayFollow before (grammar.line_of first (grammar.values_of (unwrap_or fitted [])))
-follows_in first ws None before is none = cc (none_of_two (place_faults first before) ((true, WrongWords) ∷ []) none).1
-follows_in first ws (Some entries) before is none =
+entries_follow first ws None before is none = cc (none_of_two (place_faults first before) ((true, WrongWords) ∷ []) none).1
+entries_follow first ws (Some entries) before is none =
     let parts = none_of_two (place_faults first before) (entry_faults first (Some entries) before) none in
     let second_place = (nat_lt 0 (length before) && grammar.is_image first, SecondImage) ∷ [] in
-    let missing = none_first (nat_eq (length before) 0 && not (grammar.is_image first)) MissingImage second_place parts.0 in
+    let image = none_of_two (image_faults first before) (batch_faults first (grammar.open_jobs before)) parts.0 in
+    let missing = none_first (nat_eq (length before) 0 && not (grammar.is_image first)) MissingImage second_place image.0 in
     let second = none_first (nat_lt 0 (length before) && grammar.is_image first) SecondImage [] missing.1 in
-    let range_place = (grammar.is_out_of_range first (grammar.values_of entries) before, BadRange) ∷ [] in
     let values = none_of_two (map (λ e. grammar.slot_fault e.0 e.1) entries)
-    ((grammar.has_later_opcode first (grammar.values_of entries), UnknownWord) ∷ range_place) parts.1 in
-    let now = none_first _ UnknownWord range_place values.1 in
-    follows_by first ws entries before is missing.0 second.0 now.0 (none_first _ BadRange [] now.1).0
+    ((grammar.is_out_of_range first (grammar.values_of entries) before, BadRange) ∷ []) parts.1 in
+    word_follows first ws entries before is missing.0 second.0 (none_first _ BadRange [] values.1).0
 
-follows_judged : (found : Option Word) (kind : Option Kind) (after : List (List ℕ)) (before : List Line) (l : Line) → judged kind found after ≡ Fine l
+judged_follows : (found : Option Word) (kind : Option Kind) (after : List (List ℕ)) (before : List Line) (l : Line) → judged kind found after ≡ Fine l
     → (kind ≡ None → first_of (word_faults found after before) ≡ None) → MayFollow before l
-follows_judged found (Some kind) after before l is none = cc
-follows_judged None None after before l is none = cc
-follows_judged (Some first) None after before l is none =
+judged_follows found (Some kind) after before l is none = cc
+judged_follows None None after before l is none = cc
+judged_follows (Some first) None after before l is none =
     let same : grammar.line_of first (grammar.values_of (unwrap_or (grammar.fitted (parts_of first) after) [])) ≡ l = cc in
-    subst (λ (l : Line). MayFollow before l) same (follows_in first after (grammar.fitted (parts_of first) after) before refl (none refl))
+    subst (λ (l : Line). MayFollow before l) same (entries_follow first after (grammar.fitted (parts_of first) after) before refl (none refl))
 
-follows_of : (ws : List (List ℕ)) (text : List ℕ) (before : List Line) (l : Line) → verdict_of ws text before ≡ Fine l → MayFollow before l
-follows_of [] text before l is = cc
-follows_of (first ∷ after) text before l is =
+words_follow : (ws : List (List ℕ)) (text : List ℕ) (before : List Line) (l : Line) → words_verdict ws text before ≡ Fine l → MayFollow before l
+words_follow [] text before l is = cc
+words_follow (first ∷ after) text before l is =
     elim (cases_Bool (grammar.is_comment first)) [
       | inl comment ↦ let skipped : Skipped ≡ Fine l = rw comment at is in cc
       | inr other ↦
           let fine : judged (first_of (faults_of text first after before)) (word_named first) after ≡ Fine l = rw other at is in
           let text_faults = (nat_lt longest_line (length text), LongLine) ∷ (not (list_all is_text text), NotAscii) ∷ [] in
-          follows_judged (word_named first) _ after before l fine (λ none. (none_of_two text_faults (word_faults (word_named first) after before) none).1)
+          judged_follows (word_named first) _ after before l fine (λ none. (none_of_two text_faults (word_faults (word_named first) after before) none).1)
     ]
 
 pub follows : (text : List ℕ) (before : List Line) (l : Line) → verdict text before ≡ Fine l → MayFollow before l
-follows text before l is = follows_of (words text) text before l is
+follows text before l is = words_follow (words text) text before l is

@@ -1,12 +1,12 @@
 -- What the definition of an answer means: it may be cut between two lines, and job lines show the fold of
 -- their jobs.
-use Rattle.std.specs.Prelude.{◌≡◌, ℕ, ◌+◌, List, [], ◌∷◌, ◌++◌, map}
+use Rattle.std.specs.Prelude.{◌≡◌, ℕ, ◌+◌, List, [], ◌∷◌, ◌++◌, length, map, None}
 use Rattle.dml_types.specs.declared.jobs.Job.{Job}
 use Rattle.dml_types.specs.declared.records.Record.{Record}
-use Rattle.dml_types.specs.Step.{records_of}
+use Rattle.dml_types.specs.Step.{batch, records_of}
 use Rattle.dml_grammar.specs.declared.lines.Line.{Line}
 use Rattle.dml_grammar.specs.declared.lines.Line.TheVariants as line
-use Rattle.dml_script.specs.Output.{job_line}
+use Rattle.dml_script.specs.Output.{batch_line, job_line}
 use Rattle.dml_script.specs.Run.{Session, after_line, answer_from}
 
 -- what lines leave
@@ -30,3 +30,22 @@ abbrev pub AnswersJobs : Type 0
 AnswersJobs = (staging : ℕ) (session : Session) (jobs : List Job)
     → answer_from staging session (map (λ job. line.Job job) jobs)
     ≡ job_lines session.jobs (records_of session.memory jobs staging)
+
+-- the lines of a batch show the records of its jobs and then its own, and leave what it leaves
+abbrev pub batch_lines : List Job → List Line
+batch_lines jobs = line.Batch ∷ map (λ job. line.Job job) jobs ++ line.End ∷ []
+
+abbrev pub AnswersBatch : Type 0
+AnswersBatch = (staging : ℕ) (session : Session) (jobs : List Job)
+    → answer_from staging session (batch_lines jobs)
+    ≡ job_lines session.jobs (batch session.memory jobs staging).2
+    ++ batch_line (batch session.memory jobs staging).1
+
+abbrev pub LeavesBatch : Type 0
+LeavesBatch = (staging : ℕ) (session : Session) (jobs : List Job)
+    → after_lines staging session (batch_lines jobs)
+    ≡ record {
+      memory = (batch session.memory jobs staging).0;
+      jobs = session.jobs + length jobs;
+      batch = None;
+    }

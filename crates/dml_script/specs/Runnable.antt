@@ -1,29 +1,10 @@
 -- What is known of a script's lines where they meet the memory so far: the grammar gives it of every script
 -- without a fault, and the run rests on it.
-use Rattle.std.specs.Prelude.{ℕ, ◌+◌, ◌^◌, ◌<◌, ◌≤◌, IsTrue, List, [], ◌∷◌, length, Option, None, Some}
-use Rattle.dml_types.specs.declared.jobs.Job.{Job}
-use Rattle.dml_types.specs.declared.operations.Op.{Op}
-use Rattle.dml_types.specs.declared.operations.Op.TheVariants.{NoOp, Move, Fill, Compare, ComparePattern, CreateDelta, ApplyDelta, Dualcast}
-use Rattle.dml_types.specs.Job.{op_of}
+use Rattle.std.specs.Prelude.{ℕ, ◌+◌, ◌^◌, ◌<◌, ◌≤◌, IsTrue, List, [], ◌∷◌, length}
 use Rattle.dml_types.specs.Memory.{page_size, has_all}
 use Rattle.dml_grammar.specs.declared.lines.Line.{Line}
 use Rattle.dml_grammar.specs.declared.lines.Line.TheVariants as line
 use Rattle.dml_script.specs.Run.{Session, after_line, opening}
-
--- the operations that a script's jobs can have for now
-abbrev pub IsCarriedBy : Option Op → Type 0
-IsCarriedBy None = Unit {0}
-IsCarriedBy (Some NoOp) = Unit {0}
-IsCarriedBy (Some Move) = Unit {0}
-IsCarriedBy (Some Fill) = Unit {0}
-IsCarriedBy (Some Compare) = ⊥
-IsCarriedBy (Some ComparePattern) = ⊥
-IsCarriedBy (Some CreateDelta) = ⊥
-IsCarriedBy (Some ApplyDelta) = ⊥
-IsCarriedBy (Some Dualcast) = Unit {0}
-
-abbrev pub IsCarried : Job → Type 0
-IsCarried job = IsCarriedBy (op_of job)
 
 -- of a line after the first: its page is in the image, its bytes are present, and its range ends at or below
 -- 2^64
@@ -31,7 +12,9 @@ abbrev pub Fits : Session → Line → Type 0
 Fits session (line.Image pages) = ⊥
 Fits session (line.Page page bytes) = (page < length session.memory.present) × (length bytes ≤ page_size)
 Fits session (line.Poke address bytes) = IsTrue (has_all session.memory address (length bytes))
-Fits session (line.Job job) = IsCarried job
+Fits session (line.Job job) = Unit {0}
+Fits session line.Batch = Unit {0}
+Fits session line.End = Unit {0}
 Fits session (line.Show address len) = address + len ≤ 2 ^ 64
 
 abbrev pub AllFit : ℕ → Session → List Line → Type 0

@@ -1,9 +1,9 @@
 //! The run of a script from a reader to a writer.
 
-ghost use Rattle.std.specs.Prelude.{◌≡◌, ◌≢◌, ◌+◌, ◌^◌, ◌<◌, ◌≤◌, false, true, length, Err, OnOk, OnErr, IsErrOf, IfSome};
+ghost use Rattle.std.specs.Prelude.{◌≡◌, ◌≢◌, ◌+◌, ◌^◌, ◌<◌, ◌≤◌, false, true, length, Err, OnOk, OnErr, IsErrOf, IfErr, IfOk, IfSome};
 ghost use Rattle.std.specs.Io.KnownBytes.{IsAtEnd};
 ghost use Rattle.dml_types.specs.Limits.{IsValid};
-ghost use Rattle.dml_script.specs.Run.{HasFault, IsScript, answer, answer_from, longest_script, opening, text_if};
+ghost use Rattle.dml_script.specs.Run.{HasFault, IsScript, after_line, answer, answer_from, longest_script, opening, added_text};
 ghost use Rattle.dml_script.specs.Runnable.{AllFit, IsRunnable};
 ghost use Rattle.dml_script.specs.Watching.{inner_of, has_failed, is_flushed, Writes, WritesFront};
 ghost use Rattle.dml_grammar.specs.declared.faults.ScriptFault.{ScriptFault as TheFault};
@@ -15,7 +15,7 @@ use crate::sessions::Session;
 use crate::texts::out_text;
 use crate::watching::Watched;
 use crate::writing::{AnswerError, flush, write_all};
-use dml_engine::{Engine, EngineError};
+use dml_engine::Engine;
 use dml_grammar::{
     Line, MAX_SCRIPT, ScriptError, ScriptFault, ScriptLines, fault_text, read_script,
 };
@@ -23,6 +23,8 @@ use dml_image::Image;
 use dml_types::Settings;
 use std::alloc::{AllocError, Global};
 use std::io::{Read, Write};
+use std::sync::Wait;
+use std::thread::Threads;
 use thiserror::Error;
 
 /// Why a script was not run to its end.
@@ -87,7 +89,8 @@ impl From<AnswerError> for RunFault {
 /// Reads a whole script, and then writes its answer and flushes the writer.
 ///
 /// Each line of the answer is one write, so a writer to the outside should be buffered.
-pub fn run_script<R: Read, W: Write>(
+pub fn run_script<T: Threads + Wait + Sync, R: Read, W: Write>(
+    rt: &T,
     alloc: Global,
     reader: &mut Watched<R>,
     writer: &mut Watched<W>,
@@ -121,12 +124,13 @@ pub fn run_script<R: Read, W: Write>(
         × IfSome (R.remaining (inner_of reader.old)) IsScript }
 {
     let bytes = read_all(alloc, reader)?;
-    answer_input(alloc, bytes.as_slice(), writer, settings)
+    answer_input(rt, alloc, bytes.as_slice(), writer, settings)
 }
 
 /// Checks a whole script and writes its answer.
 #[tactic(auto, using(crate::proofs::FitLemmas::runnable, crate::proofs::RunLemmas::answer_is, crate::proofs::RunLemmas::front_of_answer))]
-fn answer_input<W: Write>(
+fn answer_input<T: Threads + Wait + Sync, W: Write>(
+    rt: &T,
     alloc: Global,
     bytes: &[u8],
     writer: &mut Watched<W>,
@@ -147,12 +151,13 @@ fn answer_input<W: Write>(
     ensures no_length { result ≢ Err faults.TooLong }
 {
     let script = read_script(alloc, bytes)?;
-    answer_script(alloc, script.lines(alloc), writer, settings)?;
+    answer_script(rt, alloc, script.lines(alloc), writer, settings)?;
     Ok(())
 }
 
 /// Writes the answer of a script's lines, and flushes the writer.
-fn answer_script<W: Write>(
+fn answer_script<T: Threads + Wait + Sync, W: Write>(
+    rt: &T,
     alloc: Global,
     mut lines: ScriptLines<'_>,
     writer: &mut Watched<W>,
@@ -171,19 +176,25 @@ fn answer_script<W: Write>(
     let Some(Line::Image { pages }) = lines.next_line(alloc)? else {
         unreachable!()
     };
-    let Ok(image) = Image::new(alloc, pages) else {
-        return Err(AnswerError::NoMemory);
-    };
-    let engine = match Engine::new(alloc, image, settings) {
-        Ok(engine) => engine,
-        Err((_, EngineError::NoMemory)) => return Err(AnswerError::NoMemory),
-        Err((_, EngineError::BadSettings)) => unreachable!(),
-    };
-    answer_lines(alloc, Session::new(engine), lines, writer)
+    let session = begin(alloc, pages, settings)?;
+    answer_lines(rt, alloc, session, lines, writer)
+}
+
+/// The session behind the first line of a script, which gives the image so many pages.
+fn begin(alloc: Global, pages: u32, settings: Settings) -> Result<Session, AnswerError>
+    requires valid { IsValid settings }
+    ensures session { IfOk result (λ session. session.session ≡ after_line settings.staging opening (Line.Image pages)) }
+    ensures staging { IfOk result (λ session. session.staging ≡ settings.staging) }
+    ensures err { IfErr result (λ e. e ≡ AnswerError.NoMemory) }
+{
+    let image = Image::new(alloc, pages)?;
+    let engine = Engine::new(alloc, image, settings)?;
+    Ok(Session::new(engine))
 }
 
 /// Writes what the lines after the first show, and flushes the writer.
-fn answer_lines<W: Write>(
+fn answer_lines<T: Threads + Wait + Sync, W: Write>(
+    rt: &T,
     alloc: Global,
     mut session: Session,
     mut lines: ScriptLines<'_>,
@@ -201,7 +212,7 @@ fn answer_lines<W: Write>(
     ensures failed { IsErrOf result AnswerError.Write → has_failed writer.new ≡ true }
 {
     while let Some(line) = lines.next_line(alloc)? {
-        let item = session.take(alloc, &line)?;
+        let item = session.take(rt, alloc, &line)?;
         write_item(alloc, item, writer)?;
     }
     flush(writer)
@@ -214,9 +225,9 @@ fn write_item<W: Write>(
     writer: &mut Watched<W>,
 ) -> Result<(), AnswerError>
     requires writer { has_failed writer.old ≡ false }
-    ensures ok { OnOk result (Writes W.contents writer.old writer.new (text_if item)) }
+    ensures ok { OnOk result (Writes W.contents writer.old writer.new (added_text item)) }
     ensures passed { result ≢ Err AnswerError.Write → has_failed writer.new ≡ false }
-    ensures front { OnErr result (WritesFront W.contents writer.old writer.new (text_if item)) }
+    ensures front { OnErr result (WritesFront W.contents writer.old writer.new (added_text item)) }
     ensures failed { IsErrOf result AnswerError.Write → has_failed writer.new ≡ true }
 {
     let Some(item) = item else {

@@ -2,43 +2,65 @@
 
 ghost use Rattle.std.specs.Prelude.{◌≡◌, ◌+◌, ◌-◌, ◌%◌, ◌^◌, ◌<◌, ◌≤◌, ◌++◌, length, map, replicate, None, Some, IfOk, OnOk, OnErr};
 ghost use Rattle.dml_image.specs.Brought.{brought};
-ghost use Rattle.dml_script.specs.Run.{IsInPage, after_line, item_of, page_of, shown_bytes};
+ghost use Rattle.dml_script.specs.Run.{IsInPage, after_line, counted, item_of, page_of, shown_bytes};
 ghost use Rattle.dml_script.specs.Runnable.{Fits};
 
 use crate::items::{Item, Shown};
 use dml_engine::Engine;
 use dml_grammar::Line;
 use dml_image::Image;
+use dml_types::{BatchRecord, Record, Status};
 use std::alloc::{AllocError, Global};
 use std::marker::Model;
+use std::sync::Wait;
+use std::thread::Threads;
 
 const PAGE_SIZE: usize = 4096;
 
-/// The engine of a script's run, and the number of jobs so far.
+/// The record of a batch without a job.
+const EMPTY_BATCH: BatchRecord = BatchRecord {
+    status: Status::Success,
+    completed: 0,
+};
+
+/// The engine of a script's run, the number of jobs so far, and the record of the batch that is open, if one is.
 #[derive(Drop)]
 pub struct Session {
     engine: Engine,
     jobs: u32,
+    batch: Option<BatchRecord>,
 }
 
 impl Model for Session {
+    ghost use Rattle.std.specs.Prelude.{◌≤◌, IfSome};
     ghost use Rattle.dml_script.specs.Run.{Running};
 
     ghost Value = { Running };
 
-    ghost view = { λ s. record { session = record { memory = s.engine.image; jobs = s.jobs }; staging = s.engine.settings.staging } };
+    ghost view = { λ s. record { session = record { memory = s.engine.image; jobs = s.jobs; batch = s.batch }; staging = s.engine.settings.staging } };
+
+    ghost invariant = { λ s. IfSome s.batch (λ so_far. so_far.completed ≤ s.jobs) };
 }
 
 impl Session {
     pub fn new(engine: Engine) -> Session
-        ensures session { result.session ≡ record { memory = engine.entry.image; jobs = 0 } }
+        ensures session { result.session ≡ record { memory = engine.entry.image; jobs = 0; batch = None } }
         ensures staging { result.staging ≡ engine.entry.settings.staging }
     {
-        Session { engine, jobs: 0 }
+        Session {
+            engine,
+            jobs: 0,
+            batch: None,
+        }
     }
 
     /// Takes a line that is not the first. Where memory is refused, all is as it was.
-    pub fn take(&mut self, alloc: Global, line: &Line) -> Result<Option<Item>, AllocError>
+    pub fn take<T: Threads + Wait + Sync>(
+        &mut self,
+        rt: &T,
+        alloc: Global,
+        line: &Line,
+    ) -> Result<Option<Item>, AllocError>
         requires fits { Fits self.old.session line.now }
         requires counted { self.old.session.jobs < 2 ^ 32 - 1 }
         ensures item { IfOk result (λ item. item ≡ item_of self.old.staging self.old.session line.now) }
@@ -51,10 +73,19 @@ impl Session {
             Line::Page { page, bytes } => self.bring(*page, &bytes.list)?,
             Line::Poke { addr, bytes } => self.engine.write(*addr, &bytes.list),
             Line::Job(job) => {
-                let answer = self.engine.submit(*job);
+                let answer = self.engine.submit(rt, alloc, *job);
                 let number = self.jobs;
                 self.jobs += 1;
+                if let Some(so_far) = self.batch {
+                    self.batch = Some(counted(so_far, &answer));
+                }
                 return Ok(Some(Item::Job { number, answer }));
+            }
+            Line::Batch => self.batch = Some(EMPTY_BATCH),
+            Line::End => {
+                let ended = self.batch;
+                self.batch = None;
+                return Ok(ended.map(|answer| Item::Batch { answer }));
             }
             Line::Show { addr, len } => {
                 let bytes = shown(alloc, self.engine.image(), *addr, *len as usize)?;
@@ -75,6 +106,21 @@ impl Session {
         self.engine
             .bring(page, &page_content(bytes))
             .map_err(|_| AllocError)
+    }
+}
+
+/// The record of a batch with another job.
+fn counted(so_far: BatchRecord, answer: &Record) -> BatchRecord
+    requires { so_far.completed < 2 ^ 32 - 1 }
+    ensures { result ≡ counted so_far answer.now }
+{
+    BatchRecord {
+        status: if answer.is_success() {
+            so_far.status
+        } else {
+            Status::BatchFailed
+        },
+        completed: so_far.completed + 1,
     }
 }
 

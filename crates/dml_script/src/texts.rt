@@ -17,23 +17,34 @@ pub enum TextError {
     NoMemory,
 }
 
+impl From<AllocError> for TextError {
+    ghost use Rattle.std.specs.Prelude.{◌≡◌};
+    ghost use Rattle.dml_script.specs.declared.texts.TextError.TheVariants.{NoMemory};
+
+    ghost from_gives = { λ _ e. e ≡ NoMemory };
+
+    fn from(_error: AllocError) -> TextError {
+        TextError::NoMemory
+    }
+}
+
 /// The line of a script's answer for an item, with its line feed.
 pub fn out_text(alloc: Global, item: &Item) -> Result<String, TextError>
     ensures { IfOk result (λ text. string_bytes text ≡ text_of item.now) }
 {
-    let made = match item {
-        Item::Job { number, answer } => record_text(alloc, *number, answer),
-        Item::Batch { answer } => batch_text(alloc, answer),
-        Item::Show { addr, bytes } => show_text(alloc, *addr, &bytes.list),
+    let text = match item {
+        Item::Job { number, answer } => record_text(alloc, *number, answer)?,
+        Item::Batch { answer } => batch_text(alloc, answer)?,
+        Item::Show { addr, bytes } => show_text(alloc, *addr, &bytes.list)?,
     };
-    made.map_err(|_| TextError::NoMemory)
+    Ok(text)
 }
 
 /// The fields of a job in one line, without a line feed.
 pub fn job_text(alloc: Global, job: &Job) -> Result<String, TextError>
     ensures { IfOk result (λ text. string_bytes text ≡ fields_of job.now) }
 {
-    fields_text(alloc, *job).map_err(|_| TextError::NoMemory)
+    Ok(fields_text(alloc, *job)?)
 }
 
 fn record_text(alloc: Global, number: u32, answer: &Record) -> Result<String, AllocError>

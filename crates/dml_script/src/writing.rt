@@ -7,6 +7,8 @@ ghost use Rattle.dml_script.specs.Watching.{inner_of, has_failed, is_flushed, Wr
 use crate::running::RunFault;
 use crate::texts::TextError;
 use crate::watching::Watched;
+use dml_engine::EngineError;
+use dml_image::{Image, ImageError};
 use std::alloc::AllocError;
 use std::io::Write;
 
@@ -36,6 +38,29 @@ impl From<TextError> for AnswerError {
     ghost from_gives = { λ _ e. e ≡ NoMemory };
 
     fn from(_error: TextError) -> AnswerError {
+        AnswerError::NoMemory
+    }
+}
+
+// The image and the engine of a script without faults, at valid settings, are refused for want of memory alone.
+impl From<ImageError> for AnswerError {
+    ghost use Rattle.std.specs.Prelude.{◌≡◌};
+    ghost use Rattle.dml_script.specs.declared.writing.AnswerError.TheVariants.{NoMemory};
+
+    ghost from_gives = { λ _ e. e ≡ NoMemory };
+
+    fn from(_error: ImageError) -> AnswerError {
+        AnswerError::NoMemory
+    }
+}
+
+impl From<(Image<'static>, EngineError)> for AnswerError {
+    ghost use Rattle.std.specs.Prelude.{◌≡◌};
+    ghost use Rattle.dml_script.specs.declared.writing.AnswerError.TheVariants.{NoMemory};
+
+    ghost from_gives = { λ _ e. e ≡ NoMemory };
+
+    fn from(_error: (Image<'static>, EngineError)) -> AnswerError {
         AnswerError::NoMemory
     }
 }

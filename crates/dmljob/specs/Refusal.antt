@@ -1,12 +1,10 @@
 -- How the program ends without an answer: its exit status and its text.
-use Rattle.std.specs.Prelude.{◌≡◌, ◌⊎◌, ℕ, List, ◌++◌, Option, Some, None, codes, Result, Ok, Err}
+use Rattle.std.specs.Prelude.{◌≡◌, ◌⊎◌, ℕ, List, ◌++◌, Option, Some, codes, Result, Ok, Err}
 use Rattle.std.specs.Fmt.{decimal}
-use Rattle.clap.specs.Words.{kind_of}
-use Rattle.clap.specs.declared.error.Error.{Error}
-use Rattle.clap.specs.declared.error.kind.ErrorKind.{ErrorKind}
-use Rattle.clap.specs.declared.error.kind.ErrorKind.TheVariants as kind
-use Rattle.std.specs.declared.io.ErrorKind.{ErrorKind as ReadErrorKind}
-use Rattle.std.specs.declared.io.ErrorKind.TheVariants as io
+use Rattle.dml_command.specs.Refusal.{line_refusal_text}
+use Rattle.dml_command.specs.declared.refusals.LineRefusal.TheVariants as line
+use Rattle.dml_command.specs.declared.requests.Request.{Request}
+use Rattle.dml_command.specs.declared.requests.Request.TheVariants as request
 use Rattle.dml_grammar.specs.Faults.{text_of}
 use Rattle.dml_grammar.specs.declared.faults.ScriptFault.{ScriptFault}
 use Rattle.dml_script.specs.declared.running.RunFault.{RunFault}
@@ -15,61 +13,28 @@ use Rattle.dmljob.specs.declared.refusals.Refusal.{Refusal}
 use Rattle.dmljob.specs.declared.refusals.Refusal.TheVariants as refusal
 
 -- 0 where help was asked for, 2 for a script, 3 for the words, 4 for the machine
-abbrev pub status_in : Refusal → ℕ
-status_in (refusal.Help error) = 0
-status_in (refusal.Script fault) = 2
-status_in refusal.TooLong = 2
-status_in (refusal.Words error) = 3
-status_in refusal.NotText = 3
-status_in refusal.Settings = 3
-status_in refusal.NotHex = 3
-status_in refusal.NoMemory = 4
-status_in refusal.Read = 4
-status_in refusal.Write = 4
+abbrev pub exit_code : Refusal → ℕ
+exit_code (refusal.Line (line.Help error)) = 0
+exit_code (refusal.Line (line.Words error)) = 3
+exit_code (refusal.Line line.NotText) = 3
+exit_code (refusal.Line line.Settings) = 3
+exit_code (refusal.Line line.NotHex) = 3
+exit_code (refusal.Line line.NoMemory) = 4
+exit_code (refusal.Script fault) = 2
+exit_code refusal.TooLong = 2
+exit_code refusal.NoMemory = 4
+exit_code refusal.Read = 4
+exit_code refusal.Write = 4
 
--- clap writes the texts on the words itself
-abbrev pub text_in : Refusal → Option (List ℕ)
-text_in (refusal.Help error) = None
-text_in (refusal.Words error) = None
-text_in (refusal.Script fault) =
+abbrev pub ending_text : Refusal → Option (List ℕ)
+ending_text (refusal.Line refused) = line_refusal_text refused
+ending_text (refusal.Script fault) =
     Some (codes "dmljob: line " ++ decimal fault.line ++ codes ": " ++ text_of fault.kind
     ++ codes "\n")
-text_in refusal.TooLong = Some (codes "dmljob: the script is too long\n")
-text_in refusal.NotText = Some (codes "dmljob: an argument is not UTF-8 text\n")
-text_in refusal.Settings = Some (codes "dmljob: the settings are out of range\n")
-text_in refusal.NotHex = Some (codes "dmljob: not 64 bytes of hex\n")
-text_in refusal.NoMemory = Some (codes "dmljob: out of memory\n")
-text_in refusal.Read = Some (codes "dmljob: cannot read the script\n")
-text_in refusal.Write = Some (codes "dmljob: cannot write the answer\n")
-
--- What clap's error is to the program, for each kind that it can have: a request for help or for the
--- version, want of memory, and else a mistake in the words.
-abbrev pub refusal_by : ErrorKind → Error → Refusal
-refusal_by kind.DisplayHelp error = refusal.Help error
-refusal_by kind.DisplayVersion error = refusal.Help error
-refusal_by kind.OutOfMemory error = refusal.NoMemory
-refusal_by kind.InvalidValue error = refusal.Words error
-refusal_by kind.UnknownArgument error = refusal.Words error
-refusal_by kind.InvalidSubcommand error = refusal.Words error
-refusal_by kind.NoEquals error = refusal.Words error
-refusal_by kind.ValueValidation error = refusal.Words error
-refusal_by kind.TooManyValues error = refusal.Words error
-refusal_by kind.TooFewValues error = refusal.Words error
-refusal_by kind.WrongNumberOfValues error = refusal.Words error
-refusal_by kind.ArgumentConflict error = refusal.Words error
-refusal_by kind.MissingRequiredArgument error = refusal.Words error
-refusal_by kind.MissingSubcommand error = refusal.Words error
-refusal_by kind.DisplayHelpOnMissingArgumentOrSubcommand error = refusal.Words error
-refusal_by kind.Io error = refusal.Words error
-refusal_by kind.Format error = refusal.Words error
-
-abbrev pub refusal_of : Error → Refusal
-refusal_of error = refusal_by (kind_of error) error
-
--- what it is to the program that its words cannot be had: they are no text, or memory is wanting
-abbrev pub unread_refusal : ReadErrorKind → Refusal
-unread_refusal io.InvalidData = refusal.NotText
-unread_refusal _ = refusal.NoMemory
+ending_text refusal.TooLong = Some (codes "dmljob: the script is too long\n")
+ending_text refusal.NoMemory = Some (codes "dmljob: out of memory\n")
+ending_text refusal.Read = Some (codes "dmljob: cannot read the script\n")
+ending_text refusal.Write = Some (codes "dmljob: cannot write the answer\n")
 
 -- what the end of a script's run is to the program
 abbrev pub refusal_of_run : RunFault → Refusal
@@ -94,12 +59,18 @@ IfScript _ P = Unit {0}
 abbrev pub IsOfDescription : Refusal → Type 0
 IsOfDescription refused = (refused ≡ refusal.NoMemory) ⊎ (refused ≡ refusal.Write)
 
+-- what a request is refused by, once it is judged
+abbrev pub IsOfRequest : Request → Refusal → Type 0
+IsOfRequest (request.Run settings) refused = IsOfRun refused
+IsOfRequest (request.Decode bytes) refused = IsOfDescription refused
+
 -- what the program ends by: its refusal, but a failed write where help cannot be written
 abbrev pub IsShown : Refusal → Refusal → Type 0
-IsShown (refusal.Help error) shown = (shown ≡ refusal.Help error) ⊎ (shown ≡ refusal.Write)
+IsShown (refusal.Line (line.Help error)) shown =
+    (shown ≡ refusal.Line (line.Help error)) ⊎ (shown ≡ refusal.Write)
 IsShown refused shown = shown ≡ refused
 
 -- the exit status after an answer, or in place of one
 abbrev pub EndsWith : Result Unit Refusal → ℕ → Type 0
 EndsWith (Ok done) status = status ≡ 0
-EndsWith (Err refused) status = (shown : Refusal) × IsShown refused shown × (status ≡ status_in shown)
+EndsWith (Err refused) status = (shown : Refusal) × IsShown refused shown × (status ≡ exit_code shown)

@@ -39,11 +39,11 @@ fn push_verdict(text: &mut String, job: &Job) -> Result<(), AllocError>
 
 /// The two lines on a descriptor: the fields of its job, and whether the job is accepted at a
 /// staging of 1,048,576 bytes, with its need, or refused, with its status.
-pub fn description(alloc: Global, bytes: &[u8; 64]) -> Result<String, AllocError>
+pub fn description(alloc: Global, bytes: &[u8; 64]) -> Result<String, TextError>
     ensures { IfOk result (λ text. string_bytes text ≡ description_of bytes.now) }
 {
     let job = decode(bytes);
-    let mut text = job_text(alloc, &job).map_err(|_: TextError| AllocError)?;
+    let mut text = job_text(alloc, &job)?;
     text.push('\n')?;
     push_verdict(&mut text, &job)?;
     Ok(text)

@@ -4,22 +4,21 @@
 ghost use Rattle.std.specs.Prelude.{IfErr};
 ghost use Rattle.std.specs.Process.{exit_status};
 ghost use Rattle.dml_types.specs.Limits.{IsValid};
-ghost use Rattle.dmljob.specs.Refusal.{EndsWith, IsShown};
-ghost use Rattle.dmljob.specs.Request.{HasValidSettings, IsOfRequest};
+ghost use Rattle.dml_command.specs.Request.{HasValidSettings};
+ghost use Rattle.dmljob.specs.Refusal.{EndsWith, IsOfRequest, IsShown};
 
 mod answers;
 mod descriptions;
-mod help;
 mod refusals;
-mod requests;
-mod words;
 
 use answers::answer_request;
+use dml_command::{LineRefusal, Request, read_request};
 use dml_script::Watched;
 use refusals::{Refusal, status_of};
-use requests::{Request, read_request};
 use std::io::BufWriter;
 use std::process::ExitCode;
+use std::sync::Wait;
+use std::thread::Threads;
 use std::{env, io};
 
 // The program's words; the first is its name.
@@ -30,7 +29,11 @@ fn arguments_in(rt: &HostRuntime) -> io::Result<Vec<String>> {
 
 // Answers a request on the standard input and output: no contract can see those, so what is written is promised by
 // `answer_request` alone.
-fn answered(rt: &HostRuntime, request: Request) -> Result<(), Refusal>
+fn answered<T: Threads + Wait + Sync>(
+    rt: &HostRuntime,
+    threads: &T,
+    request: Request,
+) -> Result<(), Refusal>
     requires { HasValidSettings request }
     ensures { IfErr result (IsOfRequest request) }
 {
@@ -39,7 +42,7 @@ fn answered(rt: &HostRuntime, request: Request) -> Result<(), Refusal>
         return Err(Refusal::NoMemory);
     };
     let (mut reader, mut writer) = (Watched::new(rt.reader()), Watched::new(output));
-    answer_request(alloc, &mut reader, &mut writer, request)
+    answer_request(threads, alloc, &mut reader, &mut writer, request)
 }
 
 // Help goes to the standard output, which may fail.
@@ -47,7 +50,7 @@ fn with_help_shown(rt: &HostRuntime, refusal: Refusal) -> Refusal
     ensures { IsShown refusal result }
 {
     match &refusal {
-        Refusal::Help(_) if rt.print(&refusal).is_err() => Refusal::Write,
+        Refusal::Line(LineRefusal::Help(_)) if rt.print(&refusal).is_err() => Refusal::Write,
         _ => refusal,
     }
 }
@@ -60,7 +63,7 @@ fn ended(rt: &HostRuntime, answer: Result<(), Refusal>) -> ExitCode
         return ExitCode::from(0);
     };
     let refusal = with_help_shown(rt, refusal);
-    if !matches!(refusal, Refusal::Help(_)) {
+    if !matches!(refusal, Refusal::Line(LineRefusal::Help(_))) {
         let _ = rt.eprint(&refusal);
     }
     ExitCode::from(status_of(&refusal))
@@ -68,8 +71,8 @@ fn ended(rt: &HostRuntime, answer: Result<(), Refusal>) -> ExitCode
 
 fn main(rt: HostRuntime) -> ExitCode {
     let answer = match read_request(rt.alloc(), arguments_in(&rt)) {
-        Ok(request) => answered(&rt, request),
-        Err(refusal) => Err(refusal),
+        Ok(request) => answered(&rt, &rt, request),
+        Err(refusal) => Err(Refusal::Line(refusal)),
     };
     ended(&rt, answer)
 }

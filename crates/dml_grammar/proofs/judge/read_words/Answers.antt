@@ -24,13 +24,10 @@ pub returns-clause-fine : goal.returns-clause-fine
 returns-clause-fine c =
     let fitted : grammar.fitted (parts_of c.args.word) (words c.args.rest.now) ≡ Some (entries_seen c.as_slice.result.now) =
     cc (c.in-Some.ensures, c.as_slice.ensures.value, c.parts_of.ensures.parts) in
-    let within : grammar.is_out_of_range c.args.word (grammar.values_of (entries_seen c.as_slice.result.now)) c.args.pages.now ≡ false =
+    let within : grammar.is_out_of_range c.args.word (grammar.values_of (entries_seen c.as_slice.result.now)) c.args.progress.now ≡ false =
     rw c.in_ok-values.ensures.values at (sym c.is_out_of_range.ensures.value ∙ c.if-is_out_of_range.false) in
-    let later : grammar.has_later_opcode c.args.word (grammar.values_of (entries_seen c.as_slice.result.now)) ≡ false =
-    rw c.in_ok-values.ensures.values at (sym c.has_later_opcode.ensures ∙ c.if-has_later_opcode.false)
-    in
-    rw fitted (first_of_more (slot_faults c.as_slice.result.now) _ c.in_ok-values.ensures.fine ∙ rw (later, within) refl)
+    rw fitted (first_of_more (slot_faults c.as_slice.result.now) _ c.in_ok-values.ensures.fine ∙ rw within refl)
 
 pub returns-clause-next : goal.returns-clause-next
 returns-clause-next c =
-    rw c.line_of.ensures (next_in_range c.args.word (values_seen c.in_ok-values.values) c.args.pages.now c.requires.image c.requires.others (sym c.is_out_of_range.ensures.value ∙ c.if-is_out_of_range.false))
+    rw c.line_of.ensures (next_in_range c.args.word (values_seen c.in_ok-values.values) c.args.progress.now c.requires.image c.requires.others c.requires.room (sym c.is_out_of_range.ensures.value ∙ c.if-is_out_of_range.false))

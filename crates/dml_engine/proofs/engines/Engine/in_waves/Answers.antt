@@ -1,0 +1,87 @@
+use Rattle.std.proofs.Common.{◌≡◌, ◌<◌, ◌≤◌, length, map, ap, sym, subst, ◌∙◌, arith, All}
+use Rattle.std.proofs.lemmas.List.{length-map}
+use Rattle.dml_types.specs.declared.limits.Settings.{Settings}
+use Rattle.dml_types.specs.Memory.{IsMemory}
+use Rattle.dml_order.specs.Order.{run_all}
+use Rattle.dml_levels.specs.Laws.{Progress, begun, carried, in_list_order, unless_refused}
+use Rattle.dml_engine.specs.Lists.{AreOpened, IsReady}
+use Rattle.dml_engine.proofs.IdleLemmas.{opened_after}
+use Rattle.dml_engine.proofs.ListLemmas.{wave_done, waves_done, waves_give}
+use Rattle.dml_engine.proofs.engines.Engine.in_waves.Goals as goal
+
+pub loop-wave-preserved : goal.loop-wave-preserved
+loop-wave-preserved g c =
+    let jobs = c.args.jobs.now in
+    let staging = c.args.self.now.settings.staging in
+    let after = carried jobs staging in
+    let waves = c.deref-wave-items.result.now in
+    let at = c.loop-wave.wave-index in
+    let below : at < length waves = omega arith in
+    let wave = c.wave-item.result in
+    let now = begun c.loop-wave.self.image c.loop-wave.records in
+    let next = begun c.carry_out_wave.new.self.image c.carry_out_wave.new.records in
+    let same_settings = c.loop-wave.invariant.2 in
+    let same_wave : c.deref.result.now ≡ wave = c.deref.ensures.value ∙ c.wave.view_is in
+    let done : next ≡ run_all after now wave =
+    c.carry_out_wave.ensures.progress
+    ∙ (ap (λ (settings : Settings). run_all (carried jobs settings.staging) now c.deref.result.now) same_settings
+    ∙ ap (run_all after now) same_wave) in
+    let checked = c.as_slice.result.now in
+    let settings = c.settings-settings.result in
+    let all : All (IsReady checked settings.staging settings.chunk) waves =
+    subst (All (IsReady checked settings.staging settings.chunk)) (sym c.deref-wave-items.ensures.value) c.in-Ok-find_waves.ensures.ready in
+    let ready : IsReady checked settings.staging settings.chunk wave =
+    subst (IsReady checked settings.staging settings.chunk) (sym c.wave-item.is) (all at wave below) in
+    let size : length checked ≡ length jobs =
+    ap length (c.as_slice.ensures.value ∙ c.in-Ok.ensures.checked) ∙ length-map jobs (unless_refused settings.staging) in
+    let places = subst (λ n. All (λ i. i < n) wave) size ready.places in (
+      wave_done after waves at wave now next (begun c.args.self.now.image c.open_all.new.records) below c.wave-item.is done c.loop-wave.invariant.0,
+      subst (λ (state : Progress). AreOpened jobs staging state.records) (sym done) (opened_after jobs staging wave now c.loop-wave.invariant.1 places),
+      c.carry_out_wave.ensures.settings ∙ same_settings,
+    )
+
+pub returns-clause-image : goal.returns-clause-image
+returns-clause-image g c =
+    let jobs = c.args.jobs.now in
+    let memory = c.args.self.now.image in
+    let staging = c.args.self.now.settings.staging in
+    let settings = c.settings-settings.result in
+    let waves = c.deref-wave-items.result.now in
+    let checked = c.as_slice.result.now in
+    let whole = (subst IsMemory c.image.ensures c.pages-pages.ensures.memory).whole in
+    let same : checked ≡ map (unless_refused staging) jobs =
+    c.as_slice.ensures.value
+    ∙ (c.in-Ok.ensures.checked
+    ∙ ap (λ (settings : Settings). map (unless_refused settings.staging) jobs) c.settings-settings.ensures.value) in
+    let given =
+    waves_give c.law_of_waves.ensures.in_order c.law_of_conflicts.ensures.without_refused memory jobs checked staging settings.staging
+    settings.chunk c.open_all.new.records waves whole c.in-Ok.ensures.opened.size same
+    (c.deref-wave-items.ensures.value ∙ c.in-Ok-find_waves.ensures.cut) in
+    let past : length waves ≤ c.loop-wave.wave-index = omega arith in
+    let end : begun c.loop-wave.self.image c.loop-wave.records ≡ in_list_order memory jobs staging =
+    waves_done (carried jobs staging) waves c.loop-wave.wave-index (begun c.loop-wave.self.image c.loop-wave.records)
+    (in_list_order memory jobs staging) past (c.loop-wave.invariant.0 ∙ given) in
+    ap (λ (now : Progress). now.image) end
+
+pub returns-clause-records : goal.returns-clause-records
+returns-clause-records g c =
+    let jobs = c.args.jobs.now in
+    let memory = c.args.self.now.image in
+    let staging = c.args.self.now.settings.staging in
+    let settings = c.settings-settings.result in
+    let waves = c.deref-wave-items.result.now in
+    let checked = c.as_slice.result.now in
+    let whole = (subst IsMemory c.image.ensures c.pages-pages.ensures.memory).whole in
+    let same : checked ≡ map (unless_refused staging) jobs =
+    c.as_slice.ensures.value
+    ∙ (c.in-Ok.ensures.checked
+    ∙ ap (λ (settings : Settings). map (unless_refused settings.staging) jobs) c.settings-settings.ensures.value) in
+    let given =
+    waves_give c.law_of_waves.ensures.in_order c.law_of_conflicts.ensures.without_refused memory jobs checked staging settings.staging
+    settings.chunk c.open_all.new.records waves whole c.in-Ok.ensures.opened.size same
+    (c.deref-wave-items.ensures.value ∙ c.in-Ok-find_waves.ensures.cut) in
+    let past : length waves ≤ c.loop-wave.wave-index = omega arith in
+    let end : begun c.loop-wave.self.image c.loop-wave.records ≡ in_list_order memory jobs staging =
+    waves_done (carried jobs staging) waves c.loop-wave.wave-index (begun c.loop-wave.self.image c.loop-wave.records)
+    (in_list_order memory jobs staging) past (c.loop-wave.invariant.0 ∙ given) in
+    ap (λ (now : Progress). now.records) end

@@ -1,0 +1,197 @@
+//! Gates that hold the workers of an engine.
+
+use super::{USUAL, answer};
+use crate::{Engine, SubmitError};
+use dml_image::Image;
+use dml_pool::Gate;
+use dml_types::{Job, Record, Settings, Status};
+use std::alloc::Global;
+use std::process::Abort;
+use std::sync::Wait;
+use std::sync::atomic::{AtomicU64, Ordering};
+use std::test::Fail;
+use std::thread::{self, Threads};
+use std::time::{Clock, Duration};
+
+/// The turns after which a gate gives up.
+const TURNS: u32 = 10_000;
+
+/// What is counted for each of three tasks: a byte of a word.
+const MARKS: [u64; 3] = [0x1, 0x100, 0x1_0000];
+
+/// Each of three tasks once.
+const ALL_ONCE: u64 = 0x1_0101;
+
+/// How often each task entered, and how often a task was let go before all had.
+#[derive(Drop)]
+struct Counts {
+    entered: AtomicU64,
+    given_up: AtomicU64,
+}
+
+impl Counts {
+    fn new() -> Counts {
+        Counts {
+            entered: AtomicU64::new(0),
+            given_up: AtomicU64::new(0),
+        }
+    }
+
+    fn both(&self) -> (u64, u64) {
+        (
+            self.entered.load(Ordering::SeqCst),
+            self.given_up.load(Ordering::SeqCst),
+        )
+    }
+}
+
+/// A gate that holds each task until those of `wanted` have entered.
+#[derive(Drop)]
+struct Meeting<'c, C> {
+    clock: &'c C,
+    counts: &'c Counts,
+    wanted: u64,
+}
+
+impl<'c, C: Clock> Gate for Meeting<'c, C> {
+    fn enter(&self, task: usize) {
+        let Some(mark) = MARKS.get(task) else {
+            return;
+        };
+        self.counts.entered.fetch_add(*mark, Ordering::SeqCst);
+        for _ in 0..TURNS {
+            if self.counts.entered.load(Ordering::SeqCst) & self.wanted == self.wanted {
+                return;
+            }
+            thread::sleep(self.clock, Duration::from_millis(1));
+        }
+        self.counts.given_up.fetch_add(1, Ordering::SeqCst);
+    }
+}
+
+/// Two fills, and a move of what the first wrote.
+pub(super) fn small_jobs() -> [Job; 3] {
+    [
+        Job::fill(0x0101_0101_0101_0101, 0, 16),
+        Job::fill(0x0202_0202_0202_0202, 64, 8),
+        Job::move_bytes(0, 128, 16),
+    ]
+}
+
+/// An engine with one present page whose jobs are cut in chunks of 8 bytes.
+fn engine_of_eight(alloc: Global, workers: u32) -> Option<Engine> {
+    let mut image = Image::new(alloc, 1).ok()?;
+    image.bring(0, &[0; 4096]).ok()?;
+    let settings = Settings {
+        chunk: 8,
+        workers,
+        ..USUAL
+    };
+    Engine::new(alloc, image, settings).ok()
+}
+
+/// The records of two fills.
+fn filled() -> [Record; 2] {
+    [
+        answer(Status::Success, 0, 16, 0),
+        answer(Status::Success, 0, 8, 0),
+    ]
+}
+
+/// One call of an engine with a gate that holds three tasks until all have entered.
+#[derive(Clone, Copy, Debug)]
+enum Call {
+    Submit,
+    Into,
+    List,
+    Batch,
+}
+
+/// Makes the call with jobs of three tasks, and expects its records.
+fn expect_call<R: Abort + Threads + Wait + Sync, G: Gate + Sync>(
+    rt: &R,
+    alloc: Global,
+    engine: &mut Engine<G>,
+    call: Call,
+) -> Result<(), SubmitError> {
+    let jobs = [Job::fill(1, 0, 16), Job::fill(2, 64, 8)];
+    match call {
+        Call::Submit => {
+            let filled = engine.submit(rt, alloc, Job::fill(1, 0, 24));
+            assert_eq!(rt; filled, answer(Status::Success, 0, 24, 0));
+        }
+        Call::Into => {
+            let mut records = Vec::with_capacity(alloc, 2).map_err(|_| SubmitError::NoMemory)?;
+            engine.submit_into(rt, alloc, &jobs, &mut records);
+            assert_eq!(rt; records.as_slice(), filled().as_slice());
+        }
+        Call::List => {
+            let records = engine.submit_list(rt, alloc, &jobs)?;
+            assert_eq!(rt; records.as_slice(), filled().as_slice());
+        }
+        Call::Batch => {
+            let (batch, records) = engine.submit_batch(rt, alloc, &jobs)?;
+            assert_eq!(rt; (batch.status, batch.completed), (Status::Success, 2));
+            assert_eq!(rt; records.as_slice(), filled().as_slice());
+        }
+    }
+    Ok(())
+}
+
+#[test]
+fn every_submit_runs_at_once(rt: HostRuntime) -> Result<(), Fail> {
+    for turn in 0..10 {
+        for call in [Call::Submit, Call::Into, Call::List, Call::Batch] {
+            let counts = Counts::new();
+            let gate = Meeting {
+                clock: &rt,
+                counts: &counts,
+                wanted: ALL_ONCE,
+            };
+            let mut engine = engine_of_eight(rt.alloc(), 3)
+                .ok_or("no memory")?
+                .with_gate(gate);
+            expect_call(&rt, rt.alloc(), &mut engine, call)?;
+            assert_eq!(rt; counts.both(), (ALL_ONCE, 0), "turn {turn}: {call:?}");
+        }
+    }
+    Ok(())
+}
+
+#[test]
+fn two_tasks_at_once(rt: HostRuntime) -> Result<(), Fail> {
+    for turn in 0..10 {
+        let counts = Counts::new();
+        let gate = Meeting {
+            clock: &rt,
+            counts: &counts,
+            wanted: 0x101,
+        };
+        let mut engine = engine_of_eight(rt.alloc(), 2)
+            .ok_or("no memory")?
+            .with_gate(gate);
+        let jobs = [Job::fill(1, 0, 8), Job::fill(2, 8, 8)];
+        let records = engine.submit_list(&rt, rt.alloc(), &jobs)?;
+        let filled = answer(Status::Success, 0, 8, 0);
+        assert_eq!(rt; records.as_slice(), [filled; 2].as_slice(), "turn {turn}");
+        assert_eq!(rt; counts.both(), (0x101, 0), "turn {turn}");
+    }
+    Ok(())
+}
+
+/// The jobs of a list of two levels enter the gate wave by wave, the first of each wave as its task 0.
+#[test]
+fn waves_enter_one_after_another(rt: HostRuntime) -> Result<(), Fail> {
+    let counts = Counts::new();
+    let gate = Meeting {
+        clock: &rt,
+        counts: &counts,
+        wanted: 0,
+    };
+    let mut engine = engine_of_eight(rt.alloc(), 2)
+        .ok_or("no memory")?
+        .with_gate(gate);
+    engine.submit_list(&rt, rt.alloc(), &small_jobs())?;
+    assert_eq!(rt; counts.both(), (0x1_0202, 0));
+    Ok(())
+}

@@ -1,0 +1,182 @@
+//! Calls whose growths of memory are refused.
+
+use super::gates::small_jobs;
+use super::{USUAL, answer, engine};
+use crate::{Engine, EngineError, SubmitError};
+use dml_image::{Image, ImageError};
+use dml_pool::Free;
+use dml_types::{Job, Record, Settings, Status};
+use std::alloc::Global;
+use std::process::Abort;
+use std::test::Fail;
+
+// The refused_* below hold whichever growth is refused: they are also run with each refused in turn, from the first one
+// behind those that their set-up takes.
+
+fn image_of_a_page(alloc: Global) -> Result<Image<'static>, ImageError> {
+    let mut image = Image::new(alloc, 1)?;
+    image.bring(0, &[7; 4096])?;
+    Ok(image)
+}
+
+/// What `refused_new` does before its call.
+#[test]
+fn set_up_of_new(rt: HostRuntime) -> Result<(), Fail> {
+    assert_eq!(rt; image_of_a_page(rt.alloc())?.byte(4095), Some(7));
+    Ok(())
+}
+
+/// The engine, or the image as it was.
+#[test]
+fn refused_new(rt: HostRuntime) -> Result<(), Fail> {
+    let image = match Engine::new(rt.alloc(), image_of_a_page(rt.alloc())?, USUAL) {
+        Ok(engine) => engine.into_image(),
+        Err((image, error)) => {
+            assert_eq!(rt; error, EngineError::NoMemory);
+            image
+        }
+    };
+    assert_eq!(rt; image.pages(), 1);
+    assert_eq!(rt; image.byte(4095), Some(7));
+    Ok(())
+}
+
+/// What `refused_submit` does before its calls.
+#[test]
+fn set_up_of_submit(rt: HostRuntime) -> Result<(), Fail> {
+    let engine = engine(rt.alloc()).ok_or("no memory")?;
+    assert_eq!(rt; engine.image().byte(8), Some(0));
+    Ok(())
+}
+
+/// A job that is submitted is carried out.
+#[test]
+fn refused_submit(rt: HostRuntime) -> Result<(), Fail> {
+    let mut engine = engine(rt.alloc()).ok_or("no memory")?;
+    let moved = engine.submit(&rt, rt.alloc(), Job::move_bytes(0, 4090, 12));
+    assert_eq!(rt; moved, answer(Status::WriteFault, 0, 6, 4096));
+    assert_eq!(rt;
+        engine.submit(&rt, rt.alloc(), Job::fill(1, 8, 8)),
+        answer(Status::Success, 0, 8, 0)
+    );
+    assert_eq!(rt; engine.image().byte(8), Some(1));
+    Ok(())
+}
+
+/// An engine whose lists all go to three workers, and a list for records.
+fn watched_engine(alloc: Global) -> Option<(Engine, Vec<Record>)> {
+    let mut image = Image::new(alloc, 2).ok()?;
+    image.bring(0, &[0; 4096]).ok()?;
+    let settings = Settings {
+        chunk: 8,
+        workers: 3,
+        ..USUAL
+    };
+    let engine = Engine::new(alloc, image, settings).ok()?.with_gate(Free);
+    let records = Vec::with_capacity(alloc, small_jobs().len()).ok()?;
+    Some((engine, records))
+}
+
+/// The records of the small jobs, and what they leave.
+fn expect_small_jobs(rt: &impl Abort, engine: &Engine, records: &[Record]) {
+    assert_eq!(rt;
+        records,
+        [
+            answer(Status::Success, 0, 16, 0),
+            answer(Status::Success, 0, 8, 0),
+            answer(Status::Success, 0, 16, 0),
+        ]
+        .as_slice()
+    );
+    let image = engine.image();
+    for (addr, byte) in [(0, 1), (8, 1), (64, 2), (128, 1), (136, 1)] {
+        assert_eq!(rt; image.byte(addr), Some(byte), "{addr}");
+    }
+}
+
+/// Nothing of the small jobs was done.
+fn expect_untouched(rt: &impl Abort, engine: &Engine) {
+    for addr in [0, 8, 64, 128] {
+        assert_eq!(rt; engine.image().byte(addr), Some(0), "{addr}");
+    }
+}
+
+/// What the calls on a watched engine do before.
+fn watched_set_up(rt: &impl Abort, alloc: Global) -> Result<(), Fail> {
+    let (engine, records) = watched_engine(alloc).ok_or("no memory")?;
+    assert_eq!(rt; engine.image().byte(8), Some(0));
+    assert!(rt; records.is_empty());
+    Ok(())
+}
+
+#[test]
+fn set_up_of_submit_on_workers(rt: HostRuntime) -> Result<(), Fail> {
+    watched_set_up(&rt, rt.alloc())
+}
+
+/// A job is carried out, with workers or without.
+#[test]
+fn refused_submit_on_workers(rt: HostRuntime) -> Result<(), Fail> {
+    let (mut engine, _records) = watched_engine(rt.alloc()).ok_or("no memory")?;
+    let filled = engine.submit(&rt, rt.alloc(), Job::fill(1, 4080, 24));
+    assert_eq!(rt; filled, answer(Status::WriteFault, 0, 16, 4096));
+    assert_eq!(rt; engine.image().byte(4088), Some(1));
+    Ok(())
+}
+
+#[test]
+fn set_up_of_submit_into(rt: HostRuntime) -> Result<(), Fail> {
+    watched_set_up(&rt, rt.alloc())
+}
+
+/// A list is carried out, with workers or without.
+#[test]
+fn refused_submit_into(rt: HostRuntime) -> Result<(), Fail> {
+    let (mut engine, mut records) = watched_engine(rt.alloc()).ok_or("no memory")?;
+    let jobs = small_jobs();
+    assert!(rt; records.is_empty() && jobs.len() <= records.capacity());
+    engine.submit_into(&rt, rt.alloc(), &jobs, &mut records);
+    expect_small_jobs(&rt, &engine, &records);
+    Ok(())
+}
+
+#[test]
+fn set_up_of_submit_list(rt: HostRuntime) -> Result<(), Fail> {
+    watched_set_up(&rt, rt.alloc())
+}
+
+/// The right records, or want of memory with nothing changed.
+#[test]
+fn refused_submit_list(rt: HostRuntime) -> Result<(), Fail> {
+    let (mut engine, _records) = watched_engine(rt.alloc()).ok_or("no memory")?;
+    match engine.submit_list(&rt, rt.alloc(), &small_jobs()) {
+        Ok(records) => expect_small_jobs(&rt, &engine, &records),
+        Err(error) => {
+            assert_eq!(rt; error, SubmitError::NoMemory);
+            expect_untouched(&rt, &engine);
+        }
+    }
+    Ok(())
+}
+
+#[test]
+fn set_up_of_submit_batch(rt: HostRuntime) -> Result<(), Fail> {
+    watched_set_up(&rt, rt.alloc())
+}
+
+/// The right records, or want of memory with nothing changed.
+#[test]
+fn refused_submit_batch(rt: HostRuntime) -> Result<(), Fail> {
+    let (mut engine, _records) = watched_engine(rt.alloc()).ok_or("no memory")?;
+    match engine.submit_batch(&rt, rt.alloc(), &small_jobs()) {
+        Ok((batch, records)) => {
+            assert_eq!(rt; (batch.status, batch.completed), (Status::Success, 3));
+            expect_small_jobs(&rt, &engine, &records);
+        }
+        Err(error) => {
+            assert_eq!(rt; error, SubmitError::NoMemory);
+            expect_untouched(&rt, &engine);
+        }
+    }
+    Ok(())
+}

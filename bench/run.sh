@@ -114,9 +114,11 @@ awk '
                     middle(kind[n] "_2", bytes), middle(kind[n] "_4", bytes), \
                     ratio(kind[n] "_1", kind[n] "_2", bytes), ratio(kind[n] "_1", kind[n] "_4", bytes)
         printf "\n"
-        bar("move of 1 MiB, of two memcpy passes", ratio("move", "staged", 1048576), 1.3)
-        bar("fill of 1 MiB, of the word loop", ratio("fill", "words", 1048576), 1.3)
-        bar("move of 64 bytes, in nanoseconds", middle("move", 64), 250)
+        split("move move_down move_up", job)
+        for (n = 1; n <= 3; n++)
+            bar(job[n] " of 1 MiB by submit, of memmove", ratio(job[n], "memmove", 1048576), 1.25)
+        bar("fill of 1 MiB by submit, of the word loop", ratio("fill", "words", 1048576), 1.1)
+        bar("move of 64 bytes by submit, of memmove", ratio("move", "memmove", 64), 7.2)
         for (n = 1; n <= names; n++)
             if (name[n] ~ /^image_move/)
                 bar(name[n] " of 1 MiB, of memmove", ratio(name[n], "memmove", 1048576), 1.25)

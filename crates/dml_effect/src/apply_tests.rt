@@ -1,5 +1,5 @@
 use crate::tests::{carried_over, image_with, poke, record, shows, write_over};
-use crate::uses::applied_in_three;
+use crate::uses::{applied_in_none, applied_in_three};
 use crate::{commit, submit_to};
 use dml_arena::Arena;
 use dml_desc::check;
@@ -85,14 +85,40 @@ fn applied_rows() -> [AppliedRow; 4] {
     ]
 }
 
+/// The row empty_ranges: of an empty target, and of an empty record.
+fn empty_rows() -> [AppliedRow; 2] {
+    let to_no_block = AppliedRow {
+        pages: 1,
+        brought: [0, 0],
+        entries: [(0, 0, 0), (10, 0, 0), (20, 0, 0)],
+        job: Job::apply_delta(0, 10, 256, 0),
+        answer: record(Status::OffsetRange, 0, 0, 0),
+        blocks: [(256, 0), (264, 0), (272, 0), (280, 0)],
+    };
+    [
+        to_no_block,
+        AppliedRow {
+            job: Job::apply_delta(0, 0, 256, 32),
+            answer: record(Status::Success, 0, 0, 0),
+            ..to_no_block
+        },
+    ]
+}
+
+/// Carries out a row whole.
+fn expect_whole(rt: &impl Abort, alloc: Global, row: AppliedRow) -> Result<(), Fail> {
+    let mut image = row.image(rt, alloc)?;
+    let mut arena = Arena::new(alloc, 30)?;
+    let answer = submit_to(&mut image, &mut arena, &row.job, 30);
+    assert_eq!(rt; answer, row.answer);
+    assert!(rt; row.is_shown_by(&image));
+    Ok(())
+}
+
 #[test]
 fn applies(rt: HostRuntime) -> Result<(), Fail> {
     for row in applied_rows() {
-        let mut image = row.image(&rt, rt.alloc())?;
-        let mut arena = Arena::new(rt.alloc(), 30)?;
-        let answer = submit_to(&mut image, &mut arena, &row.job, 30);
-        assert_eq!(rt; answer, row.answer);
-        assert!(rt; row.is_shown_by(&image));
+        expect_whole(&rt, rt.alloc(), row)?;
     }
     Ok(())
 }
@@ -120,17 +146,49 @@ fn applied_in_chunks(
     answer
 }
 
+/// Carries out a row in chunks of 8, 16, 32 and 4,096 bytes.
+fn expect_in_chunks(rt: &impl Abort, alloc: Global, row: AppliedRow) -> Result<(), Fail> {
+    let mut arena = Arena::new(alloc, 30)?;
+    for chunk in [8, 16, 32, 4096] {
+        let mut image = row.image(rt, alloc)?;
+        let answer = applied_in_chunks(rt, &mut image, &mut arena, &row.job, chunk / 8);
+        assert_eq!(rt; answer, row.answer);
+        assert!(rt; row.is_shown_by(&image));
+    }
+    Ok(())
+}
+
 #[test]
 fn applies_in_chunks(rt: HostRuntime) -> Result<(), Fail> {
-    let mut arena = Arena::new(rt.alloc(), 30)?;
-    for chunk in [8, 16, 32, 4096] {
-        for row in applied_rows() {
-            let mut image = row.image(&rt, rt.alloc())?;
-            let answer = applied_in_chunks(&rt, &mut image, &mut arena, &row.job, chunk / 8);
-            assert_eq!(rt; answer, row.answer);
-            assert!(rt; row.is_shown_by(&image));
-        }
+    for row in applied_rows() {
+        expect_in_chunks(&rt, rt.alloc(), row)?;
     }
+    Ok(())
+}
+
+/// Carries out an apply of an empty record, which has no chunk.
+fn applied_in_no_chunk(rt: &impl Abort, image: &mut Image, job: &Job) -> Record {
+    let Ok(checked) = check(job, 0) else {
+        panic!(rt; "{job:?} is refused");
+    };
+    assert!(rt; checked.op() == Op::ApplyDelta && job.delta_size == 0);
+    let effect = applied_in_none(image, &checked);
+    let answer = *effect.answer();
+    assert_eq!(rt; commit(image, effect), answer);
+    answer
+}
+
+#[test]
+fn empty_ranges(rt: HostRuntime) -> Result<(), Fail> {
+    for row in empty_rows() {
+        expect_whole(&rt, rt.alloc(), row)?;
+        expect_in_chunks(&rt, rt.alloc(), row)?;
+    }
+    let [_, row] = empty_rows();
+    let mut image = row.image(&rt, rt.alloc())?;
+    let answer = applied_in_no_chunk(&rt, &mut image, &row.job);
+    assert_eq!(rt; answer, row.answer);
+    assert!(rt; row.is_shown_by(&image));
     Ok(())
 }
 

@@ -9,6 +9,8 @@ mod apply_tests;
 mod applying;
 mod carrying;
 #[cfg(test)]
+mod compare_tests;
+#[cfg(test)]
 mod create_tests;
 mod creating;
 mod effects;

@@ -1,10 +1,12 @@
 //! What callers rest on.
-ghost use Rattle.std.specs.Prelude.{◌≡◌, ◌/◌, ◌<◌, ◌≤◌, [], Some, IfOk, IsTrue};
-ghost use Rattle.dml_types.specs.declared.operations.Op.TheVariants.{ApplyDelta, CreateDelta, Move};
+ghost use Rattle.std.specs.Prelude.{◌≡◌, ◌/◌, ◌<◌, ◌≤◌, ◌⊎◌, [], Some, IfOk, IsTrue};
+ghost use Rattle.dml_types.specs.declared.operations.Op.TheVariants.{ApplyDelta, Compare, ComparePattern, CreateDelta, Move};
+ghost use Rattle.dml_types.specs.Chunk.{scan_found, scan_staged};
 ghost use Rattle.dml_types.specs.Job.{op_of};
 ghost use Rattle.dml_types.specs.Memory.{puts_made};
 ghost use Rattle.dml_types.specs.Refusal.{need};
 ghost use Rattle.dml_types.specs.Step.{effect, step};
+ghost use Rattle.dml_arena.specs.Piece.{SamePlace};
 ghost use Rattle.dml_effect.specs.Effects.{are_present, some_puts};
 
 use crate::applying::join_apply;
@@ -15,8 +17,10 @@ use dml_arena::Region;
 use dml_delta::{scan_apply, scan_create};
 use dml_desc::Checked;
 use dml_image::Image;
-use dml_scan::scan_move;
+use dml_scan::{ScanPiece, scan_compare, scan_compare_pattern, scan_move};
+use dml_types::Op;
 use std::alloc::{AllocError, Global};
+use std::iter;
 
 /// The effect of a move that is scanned in two chunks, cut at an offset.
 pub fn moved_in_two<'a>(image: &Image, job: &Checked, edge: u32, room: Region<'a>) -> Effect<'a>
@@ -66,6 +70,61 @@ pub fn created_in_chunks<'a>(
     Ok(join_create(image, job, pieces.into_iter()))
 }
 
+/// The effect of a compare, of two ranges or with a pattern, that is scanned in chunks of so many bytes.
+pub fn compared_in_chunks<'a>(
+    alloc: Global,
+    image: &Image,
+    job: &Checked,
+    chunk: u32,
+    room: Region<'a>,
+) -> Result<Effect<'a>, AllocError>
+    requires operation { (op_of job.now ≡ Some Compare) ⊎ (op_of job.now ≡ Some ComparePattern) }
+    requires some { 0 < chunk }
+    requires empty { room.bytes ≡ [] }
+    ensures answer { IfOk result (λ done. done.answer ≡ (step image.now job.now (need job.now)).1) }
+    ensures puts { IfOk result (λ done. done.puts ≡ some_puts (effect image.now job.now (need job.now)).puts) }
+    ensures present { IfOk result (λ done. IsTrue (are_present image.now done.puts)) }
+{
+    let op = job.op();
+    let size = job.job().size;
+    let mut pieces = Vec::new(alloc);
+    let mut rest = room;
+    let mut from = 0;
+    while from < size {
+        let to = from + chunk.min(size - from);
+        let (low, high) = rest.cut(0);
+        pieces.push(scan_chunk(image, job, op, from, to, low))?;
+        rest = high;
+        from = to;
+    }
+    Ok(join_found(image, job, pieces.into_iter()))
+}
+
+/// Scans a chunk of a compare, of two ranges or with a pattern.
+fn scan_chunk<'a>(
+    image: &Image,
+    job: &Checked,
+    op: Op,
+    from: u32,
+    to: u32,
+    room: Region<'a>,
+) -> ScanPiece<'a>
+    requires compare { (op_of job.now ≡ Some Compare) ⊎ (op_of job.now ≡ Some ComparePattern) }
+    requires operation { op_of job.now ≡ Some op }
+    requires order { from ≤ to }
+    requires within { to ≤ job.now.size }
+    requires empty { room.bytes ≡ [] }
+    ensures chunk { (result.from ≡ from) × (result.to ≡ to) }
+    ensures found { result.found ≡ scan_found op image.now job.now from to }
+    ensures staged { result.staged.bytes ≡ scan_staged op image.now job.now from to }
+    ensures place { SamePlace room.entry result.staged }
+{
+    match op {
+        Op::Compare => scan_compare(image, job, from, to, room),
+        _ => scan_compare_pattern(image, job, from, to, room),
+    }
+}
+
 /// The effect of an apply that is scanned in three chunks, cut before two of its entries.
 pub fn applied_in_three<'a>(
     image: &Image,
@@ -90,4 +149,16 @@ pub fn applied_in_three<'a>(
     let second = scan_apply(image, job, low, high, middle);
     let third = scan_apply(image, job, high, count, back);
     join_apply(image, job, [first, second, third].into_iter())
+}
+
+/// The effect of an apply of an empty record, which has no chunk.
+pub fn applied_in_none<'a>(image: &Image, job: &Checked) -> Effect<'a>
+    requires operation { op_of job.now ≡ Some ApplyDelta }
+    requires nothing { job.now.delta_size ≡ 0 }
+    ensures answer { result.answer ≡ (step image.now job.now (need job.now)).1 }
+    ensures puts { result.puts ≡ some_puts (effect image.now job.now (need job.now)).puts }
+    ensures image { puts_made image.now result.puts ≡ (step image.now job.now (need job.now)).0 }
+    ensures present { IsTrue (are_present image.now result.puts) }
+{
+    join_apply(image, job, iter::empty())
 }

@@ -32,10 +32,15 @@ outcome() {
     cmp "$work/err" "$work/wanted_err" >&2 || complain "dmljob $*: the standard error"
 }
 
-# script FORMAT STATUS OUT ERR: a script by `dmljob run`
+# script FORMAT STATUS OUT ERR: a script by `dmljob run`, at the defaults and at other chunks and workers, all alike
 script() {
     printf "$1" >"$work/in"
     outcome "$2" "$3" "$4" run
+    for chunk in 8 16 4096 1048576; do
+        for workers in 1 2 16; do
+            outcome "$2" "$3" "$4" run --chunk "$chunk" --workers "$workers"
+        done
+    done
 }
 
 # fault FORMAT LINE TEXT: a script with a fault, of which nothing is written
@@ -253,8 +258,8 @@ for words in help --help -h; do
     typed "$(cat examples/fill.answer)" $(sed -n '/^and type:$/,$s/^  dmljob \(.*\) < .*/\1/p' "$work/out")
 done
 for words in 'run --help' 'run -h' 'help run'; do
-    shows "$words" "The most workers for a list of jobs in a library call, 1 to 16; a script's jobs are carried out one after another, each alone, and no answer depends on it [default: 4]" \
-        'How many bytes one task of a list in a library call covers, a multiple of 8 from 8 to 1048576; no answer depends on it [default: 4096]' \
+    shows "$words" "The most workers for a list of jobs, 1 to 16; successive jobs of a script are a list, and so is each batch; no answer depends on it [default: 4]" \
+        'How many bytes one task of a list covers, a multiple of 8 from 8 to 1048576; no answer depends on it [default: 4096]' \
         'How many bytes the staging arena has, 0 to 16777216 [default: 1048576]' 'fill PATTERN DST N ' \
         'compare SRC SRC2 N ' 'apply DELTA SIZE DST N ' 'batch ' 'end ' 'show ADDR LEN '
     typed "$(cat examples/fill.answer)" $(sed -n 's/^  dmljob \(run .*\) < .*/\1/p' "$work/out")

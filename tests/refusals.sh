@@ -47,7 +47,9 @@ dml_grammar:refused_read_script dml_script:refused_out_text dml_script:refused_j
 dml_script:refused_run_script dml_command:refused_command_of dmljob:refused_description dml_levels:refused_levels
 dml_levels:refused_waves dml_pool:refused_run_wave dml_pool:refused_run_wave_of_three
 dml_wave:refused_carry_out_wave dml_wave:refused_carry_out_wave_of_three dml_engine:refused_submit_on_workers
-dml_engine:refused_submit_into dml_engine:refused_submit_list dml_engine:refused_submit_batch'
+dml_engine:refused_submit_into dml_engine:refused_submit_list dml_engine:refused_submit_batch dml_engine:refused_waves
+dml_engine:refused_later_growths dml_engine:refused_later_growths_of_a_batch dml_core:refused_new
+dml_core:refused_replay'
 
 # The tests that make nothing before their call.
 make_nothing='dml_arena:refused_new dml_image:refused_new dml_grammar:refused_read_script dml_script:refused_job_text

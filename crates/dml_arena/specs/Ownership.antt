@@ -1,7 +1,8 @@
 -- What the block and a loan of a part of it own. Places are counts of bytes in the block's own memory.
 --     room_of p n, holds_at p xs       room for n bytes at p;  and the bytes xs there
 --     front n xs b o       n bytes from place o of block b on, of which the first hold xs
---     span_owns κ γ p n xs       a `&mut` to them for κ, with the ghost name γ.       span_lent p xs       what a `&` to it holds
+--     span_owns κ γ p n xs       a `&mut` to them for κ, with the ghost name γ
+--     span_lent p xs       what a `&` to it holds
 use Rattle.std.specs.Prelude.{ℕ, ◌+◌, ◌-◌, ◌≤◌, List, length}
 use base.Stored.{coded_list, coded_ℕ}
 use base.Fraction.{full_share}
@@ -28,7 +29,8 @@ holds_at (block_ptr b o) xs = bytes full_share xs b o
 holds_at null_ptr xs = ffalse
 
 abbrev pub front : ℕ → List ℕ → ℕ → ℕ → Fml
-front n xs b o = fex (length xs ≤ n) (λ _. fsep (bytes full_share xs b o) (froom (bytes_type (n - length xs)) b (o + length xs)))
+front n xs b o =
+    fex (length xs ≤ n) (λ _. fsep (bytes full_share xs b o) (froom (bytes_type (n - length xs)) b (o + length xs)))
 
 -- the same as a type in memory, whose value is xs
 abbrev pub Front : ℕ → SemTy

@@ -4,8 +4,8 @@ use base.Fml.{GName}
 use denote.RawPtr.{block_of, count_of}
 use Rattle.dml_arena.specs.declared.region.Region.TheInside.{Inside}
 
--- `opening` is the block that the region is a part of, `start` its first place there, `room` how many bytes it has place for,
--- and `bytes` are those that it holds, from its start on. `tie` is for `arena_stays` alone
+-- `opening` is the block that the region is a part of, `start` its first place there, `room` how many bytes it
+-- has place for, and `bytes` are those that it holds, from its start on. `tie` is for `arena_stays` alone
 pub record Piece : Type 0 where
   pub opening : ℕ
   pub start : ℕ
@@ -20,7 +20,14 @@ pub record SamePlace (old new : Piece) : Type 0 where
   pub room : new.room ≡ old.room
 
 abbrev pub piece_of : Inside → Piece
-piece_of r = record { opening = block_of r.span.ptr; start = r.start; room = r.room; bytes = r.span.bytes; tie = r.span.tie }
+piece_of r =
+    record {
+      opening = block_of r.span.ptr;
+      start = r.start;
+      room = r.room;
+      bytes = r.span.bytes;
+      tie = r.span.tie;
+    }
 
 -- the numbers that a region keeps are those of its span
 pub record IsCounted (r : Inside) : Type 0 where

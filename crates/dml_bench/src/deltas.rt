@@ -6,7 +6,7 @@ use dml_delta::{scan_apply, scan_create};
 use dml_desc::{Checked, check};
 use dml_engine::Engine;
 use dml_image::Image;
-use dml_types::{Job, Op, Status};
+use dml_types::{ENTRY, Job, Op, Status};
 use std::alloc::Global;
 use std::io;
 use std::rt::Clock;
@@ -21,8 +21,6 @@ const STAGING: u32 = 1_048_576;
 const SOURCE_PAGES: u32 = 128;
 
 const ENTRIES: u32 = 4096;
-
-const ENTRY: u32 = 10;
 
 /// Where the record lies that an apply reads.
 const RECORD: u64 = 3 * 524_288;
@@ -119,7 +117,7 @@ fn rows() -> [Row; 3] {
 }
 
 /// Times the scans of these jobs, and then the jobs by `Engine::submit` with one worker.
-pub fn time_deltas<T: Threads + Wait + Sync + Clock + Eprint>(
+pub(crate) fn time_deltas<T: Threads + Wait + Sync + Clock + Eprint>(
     rt: &T,
     alloc: Global,
     calls: u32,

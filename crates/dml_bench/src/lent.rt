@@ -19,7 +19,7 @@ fn submitted_over(content: &mut [u8], arena: &mut Arena, job: &Job) -> Option<St
 }
 
 /// Times moves of 64 bytes and of a page over two mebibytes.
-pub fn time_over(rt: &HostRuntime, calls: u32) -> io::Result<()>
+pub(crate) fn time_over(rt: &HostRuntime, calls: u32) -> io::Result<()>
     requires { 0 < calls }
 {
     let Ok(mut arena) = Arena::new(rt.alloc(), MEBIBYTE) else {

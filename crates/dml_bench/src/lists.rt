@@ -77,7 +77,7 @@ fn greatest_level(alloc: Global, jobs: &[Checked]) -> Option<u32> {
 }
 
 /// Times the levels of lists of 64 and of 1,024 jobs.
-pub fn time_levels(rt: &HostRuntime, calls: u32) -> io::Result<()>
+pub(crate) fn time_levels(rt: &HostRuntime, calls: u32) -> io::Result<()>
     requires { 0 < calls }
 {
     let rows = [

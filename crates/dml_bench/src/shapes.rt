@@ -94,7 +94,7 @@ fn list_of(alloc: Global, shape: Shape, jobs: u32) -> io::Result<Vec<Job>>
 }
 
 /// An image of 16 MiB, all present and all alike.
-pub fn large_image(alloc: Global) -> io::Result<Image<'static>> {
+pub(crate) fn large_image(alloc: Global) -> io::Result<Image<'static>> {
     let Ok(mut image) = Image::new(alloc, PAGES) else {
         return Err(io::ErrorKind::OutOfMemory.into());
     };
@@ -199,7 +199,7 @@ fn time_shape<T: Threads + Wait + Sync + Clock + Eprint>(
 
 /// Times lists of many shapes with 1, 2 and 4 workers. Without `measures` each list has two jobs, and is submitted
 /// twice.
-pub fn time_shapes<T: Threads + Wait + Sync + Clock + Eprint>(
+pub(crate) fn time_shapes<T: Threads + Wait + Sync + Clock + Eprint>(
     rt: &T,
     alloc: Global,
     image: Image<'static>,
@@ -247,7 +247,7 @@ fn time_each<T: Threads + Wait + Sync + Clock + Eprint>(
 
 /// Times lists of jobs of 64 KiB with one worker, and with two and four that begin however little work there is: rows
 /// of a name with the number of workers, the bytes of the whole list, and its nanoseconds.
-pub fn time_pays<T: Threads + Wait + Sync + Clock + Eprint>(
+pub(crate) fn time_pays<T: Threads + Wait + Sync + Clock + Eprint>(
     rt: &T,
     alloc: Global,
     image: Image<'static>,

@@ -118,7 +118,7 @@ fn has_all(image: &Image, task: Task<'_>) -> bool {
 
 /// Times a wave of small tasks with one worker, and their kernels alone: rows of a name, the number of tasks, and the
 /// nanoseconds of all.
-pub fn time_waves<T: Threads + Wait + Sync + Clock + Eprint>(
+pub(crate) fn time_waves<T: Threads + Wait + Sync + Clock + Eprint>(
     rt: &T,
     alloc: Global,
     image: &Image,

@@ -15,7 +15,7 @@ use Rattle.clap.specs.declared.builder.value_parser.Reading.TheVariants.{AsWritt
 use Rattle.clap.specs.declared.builder.value_parser.ValueParser.{ValueParser}
 use Rattle.clap.specs.declared.builder.value_parser.ValueParser.TheVariants as parser
 use Rattle.clap.specs.declared.parser.matches.ValueSource.TheVariants.{DefaultValue}
-use Rattle.dml_command.specs.Line.{HasSettings, dmljob, number_in, option_in, option_rule}
+use Rattle.dml_command.specs.Line.{HasSettings, dmljob, parsed_number, option_in, option_rule}
 use Rattle.dml_command.proofs.Kept.{OfFound, known_found, level_keeps}
 use Rattle.dml_command.proofs.Numbers.{has_number}
 use Rattle.dml_command.proofs.Read.{AllRead, first_read, one_read, row_added, row_stays, used_read, with_values_read}
@@ -98,7 +98,7 @@ help_leaves P rows h = same_either P rows (has_row (codes "help") rows) h
 has_option : (name : Text) (rows : List Row) → AllNumbers rows → has_row name rows ≡ true → is_some (option_in rows name) ≡ true
 has_option name rows fine has =
     let value = one_read WithoutMinus (accepts false number) name rows fine has in
-    ap (λ t. is_some (option_and_then number_in t)) value.1 ∙ has_number value.0 value.2
+    ap (λ t. is_some (option_and_then parsed_number t)) value.1 ∙ has_number value.0 value.2
 
 pub run_given : (words : List Text) → level_fault run_shape [] nothing_held words false [] ≡ [] → HasSettings (rows_after run_shape.rules [] words)
 run_given words free =

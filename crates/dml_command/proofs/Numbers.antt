@@ -13,7 +13,7 @@ use Rattle.clap.specs.declared.builder.value_parser.ValueParser.TheVariants as p
 use Rattle.clap.proofs.CallerReads.{signed_reads}
 use Rattle.clap.proofs.WalkLemmas.{one_text-rows}
 use Rattle.clap.proofs.ValueTestLemmas.{accepts-Accepts}
-use Rattle.dml_command.specs.Line.{number_in, option_in}
+use Rattle.dml_command.specs.Line.{parsed_number, option_in}
 
 digits_pass : (ds : List ℕ) → AllDigits 10 ds → list_all (λ d. nat_lt (digit_value d) 10) ds ≡ true
 digits_pass [] h = refl
@@ -31,13 +31,13 @@ abbrev is_number : List ℕ → Bool
 is_number ds = nat_lt 0 (length ds) && list_all (λ d. nat_lt (digit_value d) 10) ds && nat_lt (digits_value 10 ds) (2 ^ 32)
 
 -- a result is what the text has, where it is that of `parse`
-number_read : {E : Type 0} (text : Text) (r : Result ℕ E) → ParsesUnsigned 32 10 text r → result_ok r ≡ number_in text
+number_read : {E : Type 0} (text : Text) (r : Result ℕ E) → ParsesUnsigned 32 10 text r → result_ok r ≡ parsed_number text
 number_read text (Ok n) h =
     let ds = without_leading_plus text in
     rw (lt-ltb 0 (length ds) h.0.0.0, digits_pass ds h.0.0.1, lt-ltb (digits_value 10 ds) (2 ^ 32) h.0.1) (ap Some h.1)
 number_read text (Err e) h = go (is_number (without_leading_plus text)) refl
   where
-    go : (b : Bool) → is_number (without_leading_plus text) ≡ b → None ≡ number_in text
+    go : (b : Bool) → is_number (without_leading_plus text) ≡ b → None ≡ parsed_number text
     go false t = rw t refl
     go true t =
         let outer = both _ _ t in
@@ -46,24 +46,24 @@ number_read text (Err e) h = go (is_number (without_leading_plus text)) refl
 
 module _ {E : Type 0} (gives : Text → Result ℕ E → Type 0) (parses : (t : Text) (r : Result ℕ E) → gives t r → ParsesUnsigned 32 10 t r) where
   -- what a getter reads of the text
-  text_read : (text : Text) (r : Option ℕ) → ReadsOne gives text r → r ≡ number_in text
+  text_read : (text : Text) (r : Option ℕ) → ReadsOne gives text r → r ≡ parsed_number text
   text_read text (Some n) h = number_read {E = E} text (Ok n) (parses text (Ok n) h)
   text_read text None h = number_read {E = E} text (Err h.0) (parses text (Err h.0) h.1)
 
   option_read : (text : Option Text) (r : Option ℕ) → (text ≡ None → r ≡ None) → ((t : Text) → text ≡ Some t → ReadsOne gives t r)
-      → r ≡ option_and_then number_in text
+      → r ≡ option_and_then parsed_number text
   option_read None r none value = none refl
   option_read (Some t) r none value = text_read t r (value t refl)
 
   pub number_found : (f : Found) (id : Text) (r : Option ℕ) → (one_text f id ≡ None → r ≡ None) → ((t : Text) → one_text f id ≡ Some t → ReadsOne gives t r)
       → r ≡ option_in (rows_of f) id
-  number_found f id r none value = option_read (one_text f id) r none value ∙ ap (option_and_then number_in) (one_text-rows f id)
+  number_found f id r none value = option_read (one_text f id) r none value ∙ ap (option_and_then parsed_number) (one_text-rows f id)
 
 is_digits_number : (ds : List ℕ) → IsNumeral 10 ds × (digits_value 10 ds < 2 ^ 32) → is_number ds ≡ true
 is_digits_number ds h = rw (lt-ltb 0 (length ds) h.0.0, digits_pass ds h.0.1, lt-ltb (digits_value 10 ds) (2 ^ 32) h.1) refl
 
 -- a text that an option takes has a number
-parsed : (text : Text) → ReadsOne {T = ℕ} {E = Unit {0}} (λ t r. ParsesUnsigned 32 10 t r) text (number_in text)
+parsed : (text : Text) → ReadsOne {T = ℕ} {E = Unit {0}} (λ t r. ParsesUnsigned 32 10 t r) text (parsed_number text)
 parsed text = go (is_number (without_leading_plus text)) refl
   where
     go : (b : Bool) → is_number (without_leading_plus text) ≡ b
@@ -74,8 +74,8 @@ parsed text = go (is_number (without_leading_plus text)) refl
         (((ltb-true _ _ inner.0, digits_from (without_leading_plus text) inner.1), ltb-true _ _ outer.1), refl)
     go false e = (tt, λ h. true≢false (sym (is_digits_number (without_leading_plus text) h) ∙ e))
 
-pub has_number : (t : Text) → accepts false (parser.Signed (pos 0) (pos 4294967295)) t ≡ true → is_some (number_in (without_minus t)) ≡ true
+pub has_number : (t : Text) → accepts false (parser.Signed (pos 0) (pos 4294967295)) t ≡ true → is_some (parsed_number (without_minus t)) ≡ true
 has_number t pass =
-    let read = signed_reads (Unit {0}) (λ u r. ParsesUnsigned 32 10 u r) 32 0 4294967295 t (number_in (without_minus t)) (parsed (without_minus t)) (λ u r h. h)
+    let read = signed_reads (Unit {0}) (λ u r. ParsesUnsigned 32 10 u r) 32 0 4294967295 t (parsed_number (without_minus t)) (parsed (without_minus t)) (λ u r h. h)
     (lit< tt) (accepts-Accepts false (parser.Signed (pos 0) (pos 4294967295)) t pass) in
     ap is_some read.1

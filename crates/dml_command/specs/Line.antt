@@ -45,15 +45,15 @@ dmljob = with_subcommand (with_subcommand bare_app run_app.top) decode_app.top
 -- ---- what a line says
 
 -- the number of a text of decimal digits, which may begin with a plus, where it has 32 bits
-abbrev pub number_in : Text → Option ℕ
-number_in text =
+abbrev pub parsed_number : Text → Option ℕ
+parsed_number text =
     let digits = without_leading_plus text in
     if nat_lt 0 (length digits) && list_all (λ d. nat_lt (digit_value d) 10) digits
     && nat_lt (digits_value 10 digits) (2 ^ 32) then Some (digits_value 10 digits) else None
 
 -- the number that the option of this name has among what was found
 abbrev pub option_in : List Row → Text → Option ℕ
-option_in rows name = option_and_then number_in (one_of name rows)
+option_in rows name = option_and_then parsed_number (one_of name rows)
 
 -- the settings are those of the three options
 abbrev pub IsFound : List Row → Settings → Type 0

@@ -19,12 +19,12 @@ pub const RUN: &str =
 its lines show";
 
 pub const WORKERS: &str =
-    "The most workers for a list of jobs in a library call, 1 to 16; a script's jobs are carried \
-out one after another, each alone, and no answer depends on it";
+    "The most workers for a list of jobs, 1 to 16; successive jobs of a script are a list, and so \
+is each batch; no answer depends on it";
 
 pub const CHUNK: &str =
-    "How many bytes one task of a list in a library call covers, a multiple of 8 from 8 to \
-1048576; no answer depends on it";
+    "How many bytes one task of a list covers, a multiple of 8 from 8 to 1048576; no answer depends \
+on it";
 
 pub const ARENA: &str = "How many bytes the staging arena has, 0 to 16777216";
 
@@ -48,8 +48,9 @@ pub const SCRIPT: &str = "The lines of a script; numbers are decimal, or hexadec
   show ADDR LEN                  show LEN bytes from ADDR on, as -- where they are absent
 A line of a job, but raw, may end with: flags F. One of compare, compare-pattern or create may have
 before that: check E; its status is then 02 where its result is not E (of create: where the bit of
-its result is not set in E), unless the job is refused or meets an absent byte. A line that begins
-with # is a comment.
+its result is not set in E), unless the job is refused or meets an absent byte. A job of a batch with
+flag 1, the fence, waits for all before it; where one of these has another status than 01, it and all
+later jobs of the batch are abandoned, with status 00. A line that begins with # is a comment.
 
 For example, with the script in the file first.script:
   dmljob run --workers 2 < first.script";

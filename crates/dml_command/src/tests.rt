@@ -36,7 +36,7 @@ fn line_is<R: Abort + AllocGlobal>(
 }
 
 #[test]
-fn takes_lines(rt: HostRuntime) -> Result<(), Fail> {
+fn takes_workers(rt: HostRuntime) -> Result<(), Fail> {
     let workers = |workers| Settings {
         workers,
         ..DEFAULTS
@@ -51,6 +51,15 @@ fn takes_lines(rt: HostRuntime) -> Result<(), Fail> {
         ("dmljob run --workers 0000000000000000000004", workers(4)),
         ("dmljob run --workers=-0", workers(0)),
         ("dmljob run --workers 4294967295", workers(4_294_967_295)),
+    ] {
+        line_is(&rt, text, Ok(Line::Run(settings)))?;
+    }
+    Ok(())
+}
+
+#[test]
+fn takes_other_settings(rt: HostRuntime) -> Result<(), Fail> {
+    for (text, settings) in [
         (
             "dmljob run --chunk 12",
             Settings {
@@ -76,6 +85,11 @@ fn takes_lines(rt: HostRuntime) -> Result<(), Fail> {
     ] {
         line_is(&rt, text, Ok(Line::Run(settings)))?;
     }
+    Ok(())
+}
+
+#[test]
+fn takes_digits(rt: HostRuntime) -> Result<(), Fail> {
     for (text, hex) in [
         ("dmljob decode 0aF", "0aF"),
         ("dmljob decode -", "-"),
@@ -118,14 +132,23 @@ fn refuses_words(rt: HostRuntime) -> Result<(), Fail> {
         ("dmljob", ErrorKind::MissingSubcommand),
         ("dmljob nope", ErrorKind::InvalidSubcommand),
         ("dmljob help nope", ErrorKind::InvalidSubcommand),
-        ("dmljob help", ErrorKind::DisplayHelp),
-        ("dmljob help run", ErrorKind::DisplayHelp),
-        ("dmljob --help", ErrorKind::DisplayHelp),
-        ("dmljob -h", ErrorKind::DisplayHelp),
-        ("dmljob run --help", ErrorKind::DisplayHelp),
-        ("dmljob decode -h", ErrorKind::DisplayHelp),
     ] {
         line_is(&rt, text, Err(kind))?;
+    }
+    Ok(())
+}
+
+#[test]
+fn shows_help(rt: HostRuntime) -> Result<(), Fail> {
+    for text in [
+        "dmljob help",
+        "dmljob help run",
+        "dmljob --help",
+        "dmljob -h",
+        "dmljob run --help",
+        "dmljob decode -h",
+    ] {
+        line_is(&rt, text, Err(ErrorKind::DisplayHelp))?;
     }
     Ok(())
 }

@@ -8,8 +8,8 @@ use Rattle.std.proofs.lemmas.List.Concat.{flat_map-append}
 use Rattle.std.proofs.lemmas.List.Elements.{filter-append}
 use Rattle.dml_types.specs.declared.jobs.Job.{Job}
 use Rattle.dml_types.specs.Memory.{Memory}
-use Rattle.dml_types.specs.Delta.{entry_for}
-use Rattle.dml_delta.specs.Entries.{entry_in, gathered}
+use Rattle.dml_types.specs.Delta.{block_entry}
+use Rattle.dml_delta.specs.Entries.{nth_entry, gathered}
 
 range_split : (a m n : ℕ) → range_with_len a (m + n) ≡ range_with_len a m ++ range_with_len (a + m) n
 range_split a zero n =
@@ -79,13 +79,13 @@ length_gathered f passes k short a (suc n) =
     one true xs m rest more = omega (arith, length-append (f a) (flat_map f xs), short a)
     one false xs m rest more = omega arith
 
-pub length_entry : (memory : Memory) (job : Job) (b : ℕ) → length (entry_for memory job b) ≤ 10
+pub length_entry : (memory : Memory) (job : Job) (b : ℕ) → length (block_entry memory job b) ≤ 10
 length_entry memory job b =
     let address = job.target + 8 * b in
     omega (arith, length-take (address + 8 - address) (drop address memory.bytes))
 
-pub length_entries : (memory : Memory) (job : Job) (passes : ℕ → Bool) (a n : ℕ) → length (gathered (entry_for memory job) passes a n) ≤ 10 * n
-length_entries memory job passes a n = length_gathered (entry_for memory job) passes 10 (length_entry memory job) a n
+pub length_entries : (memory : Memory) (job : Job) (passes : ℕ → Bool) (a n : ℕ) → length (gathered (block_entry memory job) passes a n) ≤ 10 * n
+length_entries memory job passes a n = length_gathered (block_entry memory job) passes 10 (length_entry memory job) a n
 
 -- none passes
 pub gathered_none : (f : ℕ → List ℕ) (passes : ℕ → Bool) (a n : ℕ) → ((i : ℕ) → i < n → passes (a + i) ≡ false) → gathered f passes a n ≡ []
@@ -116,11 +116,11 @@ gathered_end f passes at n within none =
     ∙ append-nil (gathered f passes 0 at))))
 
 -- an entry for a block of a list
-pub length_entry_in : (number : ℕ) (bytes : List ℕ) (i : ℕ) → length (entry_in number bytes i) ≤ 10
+pub length_entry_in : (number : ℕ) (bytes : List ℕ) (i : ℕ) → length (nth_entry number bytes i) ≤ 10
 length_entry_in number bytes i = omega (arith, length-take (8 * i + 8 - 8 * i) (drop (8 * i) bytes))
 
-pub length_entries_in : (number : ℕ) (bytes : List ℕ) (passes : ℕ → Bool) (a n : ℕ) → length (gathered (entry_in number bytes) passes a n) ≤ 10 * n
-length_entries_in number bytes passes a n = length_gathered (entry_in number bytes) passes 10 (length_entry_in number bytes) a n
+pub length_entries_in : (number : ℕ) (bytes : List ℕ) (passes : ℕ → Bool) (a n : ℕ) → length (gathered (nth_entry number bytes) passes a n) ≤ 10 * n
+length_entries_in number bytes passes a n = length_gathered (nth_entry number bytes) passes 10 (length_entry_in number bytes) a n
 
 -- what was written behind the first bytes of a buffer: two parts, one behind the other
 pub added : (bytes number block old first second : List ℕ) (len : ℕ) → take len bytes ≡ old → len ≤ length bytes → number ≡ first → length first ≡ 2 → block ≡ second → length second ≡ 8 → take (len + 10) (put_mid (len + 2) (len + 10 - (len + 2)) (put_mid len (len + 2 - len) bytes number) block) ≡ old ++ (first ++ second)

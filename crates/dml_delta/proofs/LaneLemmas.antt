@@ -11,28 +11,28 @@ use Rattle.std.proofs.lemmas.Simd.{bit_mask_l, mask_l-mod, tops_compared, get_or
 use Rattle.std.proofs.lemmas.Slice.Eq.{bytes_eq-Decides}
 use lib.Count.{count_trailing_zeros}
 use lib.Lanes.{Each1, zip2, mask_l, top, number_l, digits_l}
-use Rattle.dml_delta.specs.Entries.{block_in, differs_in, entry_in, gathered, is_marked}
+use Rattle.dml_delta.specs.Entries.{nth_block, nth_differs, nth_entry, gathered, is_marked}
 use Rattle.dml_types.specs.declared.jobs.Job.{Job}
 use Rattle.dml_types.specs.Memory.{Memory, bytes_at}
-use Rattle.dml_types.specs.Delta.{block_at, differs, entry_for}
+use Rattle.dml_types.specs.Delta.{block_bytes, differs, block_entry}
 use Rattle.dml_delta.proofs.EntryLemmas.{gathered_alike}
 
 -- blocks
-block_is : (xs : List ℕ) (i : ℕ) → block_in xs i ≡ take 8 (drop (8 * i) xs)
+block_is : (xs : List ℕ) (i : ℕ) → nth_block xs i ≡ take 8 (drop (8 * i) xs)
 block_is xs i = let eight : 8 * i + 8 - 8 * i ≡ 8 = omega arith in ap (λ (n : ℕ). take n (drop (8 * i) xs)) eight
 
-pub block_past : (xs : List ℕ) (i : ℕ) → length xs ≤ 8 * i → block_in xs i ≡ []
+pub block_past : (xs : List ℕ) (i : ℕ) → length xs ≤ 8 * i → nth_block xs i ≡ []
 block_past xs i past = block_is xs i ∙ ap (take 8) (drop_all (8 * i) xs past)
 
 -- of a part of a list that begins with block a
-pub block_of_part : (xs : List ℕ) (place a m i : ℕ) → place ≡ 8 * a → 8 * i + 8 ≤ m → block_in (take m (drop place xs)) i ≡ block_in xs (a + i)
+pub block_of_part : (xs : List ℕ) (place a m i : ℕ) → place ≡ 8 * a → 8 * i + 8 ≤ m → nth_block (take m (drop place xs)) i ≡ nth_block xs (a + i)
 block_of_part xs place a m i at within = same_lists _ _ (search (rules, places)) (λ k d h. grind (arith, places))
 
 -- of a list that is filled up
-pub block_of_front : (xs zs : List ℕ) (i : ℕ) → 8 * i + 8 ≤ length xs → block_in (xs ++ zs) i ≡ block_in xs i
+pub block_of_front : (xs zs : List ℕ) (i : ℕ) → 8 * i + 8 ≤ length xs → nth_block (xs ++ zs) i ≡ nth_block xs i
 block_of_front xs zs i within = same_lists _ _ (search (rules, places)) (λ k d h. grind (arith, places))
 
-pub block_behind : (xs ys zs : List ℕ) (i : ℕ) → length xs ≡ length ys → length xs ≤ 8 * i → block_in (xs ++ zs) i ≡ block_in (ys ++ zs) i
+pub block_behind : (xs ys zs : List ℕ) (i : ℕ) → length xs ≡ length ys → length xs ≤ 8 * i → nth_block (xs ++ zs) i ≡ nth_block (ys ++ zs) i
 block_behind xs ys zs i same past = same_lists _ _ (search (rules, places)) (λ k d h. grind (arith, places))
 
 pub zeros_left : (m n : ℕ) → n ≤ m → drop n (replicate {A = ℕ} m 0) ≡ replicate (m - n) 0
@@ -42,10 +42,10 @@ zeros_left m n within =
     ∙ (ap (λ (xs : List ℕ). drop n xs) (sym (replicate-append-replicate {A = ℕ} n (m - n) 0)) ∙ drop_at (replicate {A = ℕ} n 0) (replicate (m - n) 0) n (length-replicate {A = ℕ} n 0))
 
 -- equal blocks do not differ
-pub alike : (one other : List ℕ) (i : ℕ) → block_in one i ≡ block_in other i → differs_in one other i ≡ false
-alike one other i same = ap not ((bytes_eq-Decides (block_in one i) (block_in other i)).1 same)
+pub alike : (one other : List ℕ) (i : ℕ) → nth_block one i ≡ nth_block other i → nth_differs one other i ≡ false
+alike one other i same = ap not ((bytes_eq-Decides (nth_block one i) (nth_block other i)).1 same)
 
-pub differs_filled : (one other zs : List ℕ) (i : ℕ) → length one ≡ length other → length one % 8 ≡ 0 → differs_in (one ++ zs) (other ++ zs) i ≡ differs_in one other i
+pub differs_filled : (one other zs : List ℕ) (i : ℕ) → length one ≡ length other → length one % 8 ≡ 0 → nth_differs (one ++ zs) (other ++ zs) i ≡ nth_differs one other i
 differs_filled one other zs i same whole =
     ⊎_elim (λ inside.
     ap₂ (λ (a b : List ℕ). not (bytes_eq a b)) (block_of_front one zs i (omega arith)) (block_of_front other zs i (omega arith)))
@@ -79,7 +79,7 @@ unlike a b = not (eqb a b)
 abbrev lane_marks : List ℕ → List ℕ → ℕ
 lane_marks xs ys = mask_l (map (top 63) (zip2 (λ a b. cond (unlike a b) 18446744073709551615 0) xs ys)) % 18446744073709551616
 
-word_is : (xs : List ℕ) (i : ℕ) → length xs ≡ 64 → ((k : ℕ) → Fits w8 (get_or xs k 0)) → i < 8 → (get_or (words xs) i 0 ≡ number_l 256 (block_in xs i)) × (Each1 (λ x. x < 256) (block_in xs i)) × (length (block_in xs i) ≡ 8)
+word_is : (xs : List ℕ) (i : ℕ) → length xs ≡ 64 → ((k : ℕ) → Fits w8 (get_or xs k 0)) → i < 8 → (get_or (words xs) i 0 ≡ number_l 256 (nth_block xs i)) × (Each1 (λ x. x < 256) (nth_block xs i)) × (length (nth_block xs i) ≡ 8)
 word_is xs i long fit below =
     let all : take 64 xs ≡ xs = take_all 64 xs (omega arith) in
     let bytes : Each1 (λ x. x < 256) (take 64 xs) = below_from_Fits w8 _ (chunk-fits w8 0 64 xs fit) in (
@@ -89,7 +89,7 @@ word_is xs i long fit below =
       ap (λ (zs : List ℕ). length zs) (block_is xs i) ∙ length-chunk (8 * i) 8 xs (omega arith),
     )
 
-pub marks_are : (one other : List ℕ) (i : ℕ) → length one ≡ 64 → length other ≡ 64 → ((k : ℕ) → Fits w8 (get_or one k 0)) → ((k : ℕ) → Fits w8 (get_or other k 0)) → is_marked (lane_marks (words one) (words other)) i ≡ differs_in one other i
+pub marks_are : (one other : List ℕ) (i : ℕ) → length one ≡ 64 → length other ≡ 64 → ((k : ℕ) → Fits w8 (get_or one k 0)) → ((k : ℕ) → Fits w8 (get_or other k 0)) → is_marked (lane_marks (words one) (words other)) i ≡ nth_differs one other i
 marks_are one other i long too fit fits =
     let bits = zip2 unlike (words one) (words other) in
     let mask : lane_marks (words one) (words other) ≡ mask_l bits =
@@ -101,7 +101,7 @@ marks_are one other i long too fit fits =
     let a = word_is one i long fit below in
     let b = word_is other i too fits below in
     get_or-zip2 unlike (words one) (words other) i 0 0 false below below
-    ∙ (ap₂ unlike a.0 b.0 ∙ ap not (number_eq (block_in one i) (block_in other i) (a.2 ∙ sym b.2) a.1 b.1)))
+    ∙ (ap₂ unlike a.0 b.0 ∙ ap not (number_eq (nth_block one i) (nth_block other i) (a.2 ∙ sym b.2) a.1 b.1)))
     (λ past.
     get_or_past bits i false past
     ∙ sym (alike one other i (block_past one i (omega arith) ∙ sym (block_past other i (omega arith)))))
@@ -138,9 +138,9 @@ pub no_marks : (i : ℕ) → is_marked 0 i ≡ false
 no_marks i = ap (λ (b : ℕ). eqb b 1) (bit_at-zero i)
 
 -- the entries of a part of two lists are those of its blocks in the lists
-pub part_entries : (one other : List ℕ) (marks number place a m k n : ℕ) → place ≡ 8 * a → 8 * n ≤ m → 8 * n ≤ k → ((i : ℕ) → is_marked marks i ≡ differs_in (take m (drop place one)) (take k (drop place other)) i) → gathered (entry_in (number + a) (take k (drop place other))) (is_marked marks) 0 n ≡ gathered (entry_in number other) (differs_in one other) a n
+pub part_entries : (one other : List ℕ) (marks number place a m k n : ℕ) → place ≡ 8 * a → 8 * n ≤ m → 8 * n ≤ k → ((i : ℕ) → is_marked marks i ≡ nth_differs (take m (drop place one)) (take k (drop place other)) i) → gathered (nth_entry (number + a) (take k (drop place other))) (is_marked marks) 0 n ≡ gathered (nth_entry number other) (nth_differs one other) a n
 part_entries one other marks number place a m k n at within too same =
-    gathered_alike (entry_in (number + a) (take k (drop place other))) (entry_in number other) (is_marked marks) (differs_in one other) 0 a n
+    gathered_alike (nth_entry (number + a) (take k (drop place other))) (nth_entry number other) (is_marked marks) (nth_differs one other) 0 a n
     (λ i below.
     let from_zero : 0 + i ≡ i = omega arith in
     ap (is_marked marks) from_zero
@@ -149,26 +149,26 @@ part_entries one other marks number place a m k n at within too same =
     (λ i below.
     let from_zero : 0 + i ≡ i = omega arith in
     let numbered : number + a + i ≡ number + (a + i) = omega arith in
-    ap (entry_in (number + a) (take k (drop place other))) from_zero
+    ap (nth_entry (number + a) (take k (drop place other))) from_zero
     ∙ ap₂ (λ (b : ℕ) (x : List ℕ). to_le_bytes w16 b ++ x) numbered (block_of_part other place a k i at (omega arith)))
 
 -- blocks that are read from a memory at once
-block_of_read : (memory : Memory) (address b n m i : ℕ) → 8 * i + 8 ≤ m → m ≤ n → block_in (take m (bytes_at memory (address + 8 * b) n)) i ≡ block_at memory address (b + i)
+block_of_read : (memory : Memory) (address b n m i : ℕ) → 8 * i + 8 ≤ m → m ≤ n → nth_block (take m (bytes_at memory (address + 8 * b) n)) i ≡ block_bytes memory address (b + i)
 block_of_read memory address b n m i within short = same_lists _ _ (search (rules, places)) (λ k d h. grind (arith, places))
 
-pub memory_entries : (memory : Memory) (job : Job) (one other : List ℕ) (b m n : ℕ) → one ≡ bytes_at memory (job.source + 8 * b) (length one) → other ≡ bytes_at memory (job.target + 8 * b) (length other) → m ≤ length one → m ≤ length other → 8 * n ≤ m → gathered (entry_in b (take m other)) (differs_in (take m one) (take m other)) 0 n ≡ gathered (entry_for memory job) (differs memory job) b n
+pub memory_entries : (memory : Memory) (job : Job) (one other : List ℕ) (b m n : ℕ) → one ≡ bytes_at memory (job.source + 8 * b) (length one) → other ≡ bytes_at memory (job.target + 8 * b) (length other) → m ≤ length one → m ≤ length other → 8 * n ≤ m → gathered (nth_entry b (take m other)) (nth_differs (take m one) (take m other)) 0 n ≡ gathered (block_entry memory job) (differs memory job) b n
 memory_entries memory job one other b m n read also short too within =
-    gathered_alike (entry_in b (take m other)) (entry_for memory job) (differs_in (take m one) (take m other)) (differs memory job) 0 b n
+    gathered_alike (nth_entry b (take m other)) (block_entry memory job) (nth_differs (take m one) (take m other)) (differs memory job) 0 b n
     (λ i below.
     let from_zero : 0 + i ≡ i = omega arith in
-    ap (differs_in (take m one) (take m other)) from_zero
+    ap (nth_differs (take m one) (take m other)) from_zero
     ∙ ap₂ (λ (x y : List ℕ). not (bytes_eq x y)) (first i below) (second i below))
     (λ i below.
     let from_zero : 0 + i ≡ i = omega arith in
-    ap (entry_in b (take m other)) from_zero ∙ ap (λ (x : List ℕ). to_le_bytes w16 (b + i) ++ x) (second i below))
+    ap (nth_entry b (take m other)) from_zero ∙ ap (λ (x : List ℕ). to_le_bytes w16 (b + i) ++ x) (second i below))
   where
-    first : (i : ℕ) → i < n → block_in (take m one) i ≡ block_at memory job.source (b + i)
-    first i below = ap (λ (xs : List ℕ). block_in (take m xs) i) read ∙ block_of_read memory job.source b (length one) m i (omega arith) short
+    first : (i : ℕ) → i < n → nth_block (take m one) i ≡ block_bytes memory job.source (b + i)
+    first i below = ap (λ (xs : List ℕ). nth_block (take m xs) i) read ∙ block_of_read memory job.source b (length one) m i (omega arith) short
 
-    second : (i : ℕ) → i < n → block_in (take m other) i ≡ block_at memory job.target (b + i)
-    second i below = ap (λ (xs : List ℕ). block_in (take m xs) i) also ∙ block_of_read memory job.target b (length other) m i (omega arith) too
+    second : (i : ℕ) → i < n → nth_block (take m other) i ≡ block_bytes memory job.target (b + i)
+    second i below = ap (λ (xs : List ℕ). nth_block (take m xs) i) also ∙ block_of_read memory job.target b (length other) m i (omega arith) too

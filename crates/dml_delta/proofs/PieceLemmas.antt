@@ -4,7 +4,7 @@ use Rattle.std.specs.Prelude.{option_map}
 use Rattle.dml_types.specs.declared.jobs.Job.{Job}
 use Rattle.dml_types.specs.Memory.{Memory, bytes_at}
 use Rattle.dml_types.specs.Effect.{Fault}
-use Rattle.dml_types.specs.Delta.{block_fault, differs, entry_fault, entry_for, good_entries, offset_at, readable_blocks}
+use Rattle.dml_types.specs.Delta.{block_fault, differs, entry_fault, block_entry, good_entries, entry_offset, readable_blocks}
 use Rattle.dml_types.specs.Chunk.{apply_bad, apply_last, apply_staged, create_fault, create_staged}
 use Rattle.dml_delta.specs.Bad.{bad_of}
 use Rattle.dml_delta.specs.declared.applies.BadEntry.{BadEntry}
@@ -16,22 +16,22 @@ unfolding create_fault
 create_fault_is memory job from to n fault count is =
     is ∙ ap (λ (k : ℕ). cond (eqb (from + k) to) None (Some (from + k, (block_fault memory job (from + k)).address))) count
 
-pub create_staged_is : (memory : Memory) (job : Job) (from to n : ℕ) (old new : List ℕ) → n ≡ readable_blocks memory job from to → old ≡ [] → new ≡ old ++ gathered (entry_for memory job) (differs memory job) from n → new ≡ create_staged memory job from to
+pub create_staged_is : (memory : Memory) (job : Job) (from to n : ℕ) (old new : List ℕ) → n ≡ readable_blocks memory job from to → old ≡ [] → new ≡ old ++ gathered (block_entry memory job) (differs memory job) from n → new ≡ create_staged memory job from to
 unfolding create_staged
 create_staged_is memory job from to n old new count empty is =
-    is ∙ ap₂ (λ (xs : List ℕ) (k : ℕ). xs ++ gathered (entry_for memory job) (differs memory job) from k) empty count
+    is ∙ ap₂ (λ (xs : List ℕ) (k : ℕ). xs ++ gathered (block_entry memory job) (differs memory job) from k) empty count
 
 pub apply_bad_is : (memory : Memory) (job : Job) (from to n : ℕ) (bad : Option BadEntry) → n ≡ good_entries memory job from to → option_map bad_of bad ≡ cond (eqb (from + n) to) None (option_map (λ (fault : Fault). (from + n, fault)) (entry_fault from memory job (from + n))) → option_map bad_of bad ≡ apply_bad memory job from to
 unfolding apply_bad
 apply_bad_is memory job from to n bad count is =
     is ∙ ap (λ (k : ℕ). cond (eqb (from + k) to) None (option_map (λ (fault : Fault). (from + k, fault)) (entry_fault from memory job (from + k)))) count
 
-pub apply_last_is : (memory : Memory) (job : Job) (from to n : ℕ) (last : Option ℕ) → n ≡ good_entries memory job from to → last ≡ cond (eqb (from + n) from) None (Some (offset_at memory job (from + n - 1))) → last ≡ apply_last memory job from to
+pub apply_last_is : (memory : Memory) (job : Job) (from to n : ℕ) (last : Option ℕ) → n ≡ good_entries memory job from to → last ≡ cond (eqb (from + n) from) None (Some (entry_offset memory job (from + n - 1))) → last ≡ apply_last memory job from to
 unfolding apply_last
 apply_last_is memory job from to n last count is =
     is
-    ∙ (ap (λ b. cond b None (Some (offset_at memory job (from + n - 1)))) (none_behind from n)
-    ∙ ap (λ (k : ℕ). cond (eqb k 0) None (Some (offset_at memory job (from + k - 1)))) count)
+    ∙ (ap (λ b. cond b None (Some (entry_offset memory job (from + n - 1)))) (none_behind from n)
+    ∙ ap (λ (k : ℕ). cond (eqb k 0) None (Some (entry_offset memory job (from + k - 1)))) count)
 
 pub apply_staged_is : (memory : Memory) (job : Job) (from to n : ℕ) (old new : List ℕ) → n ≡ good_entries memory job from to → old ≡ [] → new ≡ old ++ bytes_at memory (job.source + 10 * from) (10 * n) → new ≡ apply_staged memory job from to
 unfolding apply_staged

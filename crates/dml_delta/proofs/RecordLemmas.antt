@@ -9,10 +9,10 @@ use Rattle.dml_delta.specs.Bad.{bad_of}
 use Rattle.dml_delta.specs.declared.applies.BadEntry.{BadEntry}
 use Rattle.dml_types.specs.Memory.{IsWhole, bytes_at, Memory, has, has_all, present_bytes}
 use Rattle.dml_types.specs.Effect.{Fault, read_fault, write_fault}
-use Rattle.dml_types.specs.Delta.{entry_fault, first_absent, good_entries, has_block, offset_at}
+use Rattle.dml_types.specs.Delta.{block_number, entry_fault, first_absent, good_entries, has_block, entry_offset}
 use Rattle.dml_types.specs.declared.statuses.Status.TheVariants.{NotRising, OffsetRange}
 use Rattle.dml_types.specs.Chunk.{apply_first}
-use Rattle.dml_delta.specs.Record.{allowed_in, is_allowed, least_in, offset_in}
+use Rattle.dml_delta.specs.Record.{allowed_in, is_allowed, least_in}
 use Rattle.std.specs.Int.{from_le_bytes, w16}
 use Rattle.std.specs.Prelude.{slice_range}
 use Rattle.dml_types.proofs.FirstLemmas.{first_is, first_le, fails_before, passes_at}
@@ -37,13 +37,13 @@ some_cause f false g false h false k = refl
 -- the fault of an entry, by whether all its bytes are present and its offset does not rise
 abbrev fault_when : Memory → Job → ℕ → Bool → Bool → Option Fault
 fault_when memory job x present falls =
-    let offset = offset_at memory job x in
+    let offset = entry_offset memory job x in
     cause_of (not present) (read_fault (first_absent memory (job.source + 10 * x) 10)) falls (record { status = NotRising; address = 0 })
     (nat_le (job.size / 8) offset) (record { status = OffsetRange; address = 0 })
     (not (has_block memory job.target offset)) (write_fault (first_absent memory (job.target + 8 * offset) 8))
 
 abbrev falls_at : ℕ → Memory → Job → ℕ → Bool
-falls_at behind memory job x = nat_lt behind x && nat_le (offset_at memory job x) (offset_at memory job (x - 1))
+falls_at behind memory job x = nat_lt behind x && nat_le (entry_offset memory job x) (entry_offset memory job (x - 1))
 
 fault_is : (behind : ℕ) (memory : Memory) (job : Job) (x : ℕ) → entry_fault behind memory job x ≡ fault_when memory job x (has_all memory (job.source + 10 * x) 10) (falls_at behind memory job x)
 fault_is behind memory job x = refl
@@ -51,7 +51,7 @@ fault_is behind memory job x = refl
 -- all bytes of a good entry are present
 pub good_is_present : (behind : ℕ) (memory : Memory) (job : Job) (x : ℕ) → entry_fault behind memory job x ≡ None → has_all memory (job.source + 10 * x) 10 ≡ true
 good_is_present behind memory job x good =
-    let offset = offset_at memory job x in
+    let offset = entry_offset memory job x in
     not-false (has_all memory (job.source + 10 * x) 10)
     (no_cause (not (has_all memory (job.source + 10 * x) 10)) (read_fault (first_absent memory (job.source + 10 * x) 10))
     (falls_at behind memory job x) (record { status = NotRising; address = 0 })
@@ -96,7 +96,7 @@ entry_present memory address from n x all low high =
 
 -- the offset that a chunk tells of its first entry
 abbrev told_first : Memory → Job → ℕ → Bool → Option ℕ
-told_first memory job from tells = cond tells (Some (offset_at memory job from)) None
+told_first memory job from tells = cond tells (Some (entry_offset memory job from)) None
 
 pub first_of_none : (memory : Memory) (job : Job) (from to : ℕ) → from ≡ to → None ≡ apply_first memory job from to
 unfolding apply_first
@@ -109,7 +109,7 @@ first_of_absent memory job from to short =
     let gone : has_all memory (job.source + 10 * from) 10 ≡ false = ne_eqb _ _ (λ all. omega arith) in
     ap (told_first memory job from) (sym (and_right (not (eqb from to)) (has_all memory (job.source + 10 * from) 10) gone))
 
-pub first_of_present : (memory : Memory) (job : Job) (from to offset : ℕ) → from ≢ to → has_all memory (job.source + 10 * from) 10 ≡ true → offset ≡ offset_at memory job from → Some offset ≡ apply_first memory job from to
+pub first_of_present : (memory : Memory) (job : Job) (from to offset : ℕ) → from ≢ to → has_all memory (job.source + 10 * from) 10 ≡ true → offset ≡ entry_offset memory job from → Some offset ≡ apply_first memory job from to
 unfolding apply_first
 first_of_present memory job from to offset apart here is =
     ap (λ (o : ℕ). Some o) is
@@ -142,16 +142,16 @@ stops_absent memory job from n count is short =
 
 -- the least offset that entry x may have
 abbrev pub least_from : Memory → Job → ℕ → ℕ → ℕ
-least_from memory job from x = cond (eqb x from) 0 (offset_at memory job (x - 1) + 1)
+least_from memory job from x = cond (eqb x from) 0 (entry_offset memory job (x - 1) + 1)
 
 not_le : (m n : ℕ) → not (nat_le m n) ≡ nat_lt n m
 not_le m n =
     ⊎_elim (λ low. ap not (lt-leb m n low) ∙ sym (lt-ltb n m low)) (λ high. ap not (le-leb m n high) ∙ sym (le-ltb n m high)) (cases_lt n m)
 
-falls_is : (memory : Memory) (job : Job) (from x : ℕ) → from ≤ x → falls_at from memory job x ≡ not (nat_le (least_from memory job from x) (offset_at memory job x))
+falls_is : (memory : Memory) (job : Job) (from x : ℕ) → from ≤ x → falls_at from memory job x ≡ not (nat_le (least_from memory job from x) (entry_offset memory job x))
 falls_is memory job from x order =
-    let offset = offset_at memory job x in
-    let last = offset_at memory job (x - 1) in
+    let offset = entry_offset memory job x in
+    let last = entry_offset memory job (x - 1) in
     ⊎_elim (λ same.
     and_left (nat_lt from x) (nat_le offset last) (le-ltb from x (omega arith))
     ∙ sym (ap (λ (b : Bool). not (nat_le (cond b 0 (last + 1)) offset)) (eq-eqb x from same) ∙ ap not (le-leb 0 offset (omega arith))))
@@ -166,9 +166,9 @@ falls_is memory job from x order =
         (cases_lt last offset)
 
 -- whether an entry is bad, where all its bytes are present
-judged_present : (memory : Memory) (job : Job) (from x : ℕ) → from ≤ x → has_all memory (job.source + 10 * x) 10 ≡ true → is_some (entry_fault from memory job x) ≡ not (is_allowed memory job (least_from memory job from x) (offset_at memory job x))
+judged_present : (memory : Memory) (job : Job) (from x : ℕ) → from ≤ x → has_all memory (job.source + 10 * x) 10 ≡ true → is_some (entry_fault from memory job x) ≡ not (is_allowed memory job (least_from memory job from x) (entry_offset memory job x))
 judged_present memory job from x order all =
-    let offset = offset_at memory job x in
+    let offset = entry_offset memory job x in
     let least = least_from memory job from x in
     let past = nat_le (job.size / 8) offset in
     let block = has_block memory job.target offset in
@@ -187,7 +187,7 @@ offset_read : (memory : Memory) (address n i : ℕ) → 10 * i + 2 ≤ n → sli
 offset_read memory address n i within = same_lists _ _ (search (rules, places)) (λ k d h. grind (arith, places))
 
 module _ (memory : Memory) (job : Job) (from x least : ℕ) (entries : List ℕ) (order : from ≤ x) (behind : least ≡ least_from memory job from x) (read : entries ≡ bytes_at memory (job.source + 10 * x) (length entries)) (all : has_all memory (job.source + 10 * x) (length entries) ≡ true) where
-  offset_told : (i : ℕ) → 10 * i + 2 ≤ length entries → offset_in entries i ≡ offset_at memory job (x + i)
+  offset_told : (i : ℕ) → 10 * i + 2 ≤ length entries → block_number entries i ≡ entry_offset memory job (x + i)
   offset_told i within =
       let place : job.source + 10 * x + 10 * i ≡ job.source + 10 * (x + i) = omega arith in
       ap (from_le_bytes w16)
@@ -198,15 +198,15 @@ module _ (memory : Memory) (job : Job) (from x least : ℕ) (entries : List ℕ)
   least_told i within =
       ⊎_elim (λ none.
       let start : x ≡ x + i = omega arith in
-      ap (λ (b : Bool). cond b least (offset_in entries (i - 1) + 1)) (eq-eqb i 0 none) ∙ (behind ∙ ap (least_from memory job from) start))
+      ap (λ (b : Bool). cond b least (block_number entries (i - 1) + 1)) (eq-eqb i 0 none) ∙ (behind ∙ ap (least_from memory job from) start))
       (λ some.
       let last : x + (i - 1) ≡ x + i - 1 = omega arith in
-      ap (λ (b : Bool). cond b least (offset_in entries (i - 1) + 1)) (ne_eqb i 0 some)
-      ∙ (ap (λ (o : ℕ). o + 1) (offset_told (i - 1) (omega arith) ∙ ap (offset_at memory job) last)
-      ∙ sym (ap (λ (b : Bool). cond b 0 (offset_at memory job (x + i - 1) + 1)) (ne_eqb (x + i) from (λ same. some (omega arith))))))
+      ap (λ (b : Bool). cond b least (block_number entries (i - 1) + 1)) (ne_eqb i 0 some)
+      ∙ (ap (λ (o : ℕ). o + 1) (offset_told (i - 1) (omega arith) ∙ ap (entry_offset memory job) last)
+      ∙ sym (ap (λ (b : Bool). cond b 0 (entry_offset memory job (x + i - 1) + 1)) (ne_eqb (x + i) from (λ same. some (omega arith))))))
       (cases_eq i 0)
 
-  told : (i : ℕ) → i < length entries / 10 → is_some (entry_fault from memory job (x + i)) ≡ not (is_allowed memory job (least_in least entries i) (offset_in entries i))
+  told : (i : ℕ) → i < length entries / 10 → is_some (entry_fault from memory job (x + i)) ≡ not (is_allowed memory job (least_in least entries i) (block_number entries i))
   told i below =
       let here : has_all memory (job.source + 10 * (x + i)) 10 ≡ true =
       has_all_from memory (job.source + 10 * (x + i)) 10
@@ -218,12 +218,12 @@ module _ (memory : Memory) (job : Job) (from x least : ℕ) (entries : List ℕ)
 
   pub run_good : (k : ℕ) → k ≡ allowed_in memory job least entries → (i : ℕ) → i < k → entry_fault from memory job (x + i) ≡ None
   run_good k is i below =
-      let bad = λ (j : ℕ). not (is_allowed memory job (least_in least entries j) (offset_in entries j)) in
+      let bad = λ (j : ℕ). not (is_allowed memory job (least_in least entries j) (block_number entries j)) in
       none_found (entry_fault from memory job (x + i)) (told i (omega (arith, first_le (length entries / 10) bad)) ∙ fails_before (length entries / 10) bad i (omega arith))
 
   pub run_stops : (k : ℕ) → k ≡ allowed_in memory job least entries → k < length entries / 10 → is_some (entry_fault from memory job (x + k)) ≡ true
   run_stops k is below =
-      let bad = λ (j : ℕ). not (is_allowed memory job (least_in least entries j) (offset_in entries j)) in
+      let bad = λ (j : ℕ). not (is_allowed memory job (least_in least entries j) (block_number entries j)) in
       told k below ∙ (ap bad is ∙ passes_at (length entries / 10) bad (omega arith))
 
 -- good entries in front and behind

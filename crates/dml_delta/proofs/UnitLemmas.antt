@@ -3,7 +3,7 @@ use Rattle.std.proofs.Common.{◌≡◌, ℕ, ◌+◌, ◌-◌, ◌*◌, ◌/◌
 use Rattle.std.proofs.lemmas.Bool.{false≢true, not-false, not-true, and_parts, false_from_ne_true, eq-eqb}
 use Rattle.dml_types.specs.declared.jobs.Job.{Job}
 use Rattle.dml_types.specs.Memory.{first, Memory, has, has_all, bytes_at, present_bytes}
-use Rattle.dml_types.specs.Delta.{readable_blocks, block_at, has_block, is_readable}
+use Rattle.dml_types.specs.Delta.{readable_blocks, block_bytes, has_block, is_readable}
 use Rattle.dml_types.proofs.FirstLemmas.{first_le, first_is, first_agree, fails_before, passes_at}
 use Rattle.dml_types.proofs.MemoryLemmas.{has_all_at, has_all_from}
 use Rattle.dml_image.proofs.RunLemmas.{first_both}
@@ -94,7 +94,7 @@ block_here memory address from count b all low high =
     let place : address + 8 * b ≡ address + 8 * from + 8 * (b - from) = omega arith in
     ap (has memory) place ∙ has_all_at memory (address + 8 * from) (8 * count) (8 * (b - from)) all (omega arith)
 
-pub block_read : (memory : Memory) (address b : ℕ) (part : List ℕ) → part ≡ bytes_at memory (address + 8 * b) (length part) → length part ≡ min 8 (4096 - (address + 8 * b) % 4096) → address % 8 ≡ 0 → part ≡ block_at memory address b
+pub block_read : (memory : Memory) (address b : ℕ) (part : List ℕ) → part ≡ bytes_at memory (address + 8 * b) (length part) → length part ≡ min 8 (4096 - (address + 8 * b) % 4096) → address % 8 ≡ 0 → part ≡ block_bytes memory address b
 block_read memory address b part is long aligned =
     let eight : length part ≡ 8 = omega arith in is ∙ ap (λ (n : ℕ). bytes_at memory (address + 8 * b) n) eight
 

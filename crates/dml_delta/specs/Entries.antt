@@ -8,15 +8,15 @@ abbrev pub gathered : (ℕ → List ℕ) → (ℕ → Bool) → ℕ → ℕ → 
 gathered f passes a n = flat_map f (filter passes (range_with_len a n))
 
 -- block i of a list, and whether block i of one list differs from that of another
-abbrev pub block_in : List ℕ → ℕ → List ℕ
-block_in bytes i = slice_range bytes (8 * i) (8 * i + 8)
+abbrev pub nth_block : List ℕ → ℕ → List ℕ
+nth_block bytes i = slice_range bytes (8 * i) (8 * i + 8)
 
-abbrev pub differs_in : List ℕ → List ℕ → ℕ → Bool
-differs_in one other i = not (bytes_eq (block_in one i) (block_in other i))
+abbrev pub nth_differs : List ℕ → List ℕ → ℕ → Bool
+nth_differs one other i = not (bytes_eq (nth_block one i) (nth_block other i))
 
 -- the entry for block i of a list whose first block has a number
-abbrev pub entry_in : ℕ → List ℕ → ℕ → List ℕ
-entry_in number bytes i = to_le_bytes w16 (number + i) ++ block_in bytes i
+abbrev pub nth_entry : ℕ → List ℕ → ℕ → List ℕ
+nth_entry number bytes i = to_le_bytes w16 (number + i) ++ nth_block bytes i
 
 -- whether bit i of a mask is set
 abbrev pub is_marked : ℕ → ℕ → Bool

@@ -1,17 +1,12 @@
 -- A list of whole entries of a delta record, judged one after another.
-use Rattle.std.specs.Prelude.{ℕ, ◌+◌, ◌-◌, ◌*◌, ◌/◌, Bool, not, ◌&&◌, List, length, if◌then◌else◌, ◌==◌, nat_lt, nat_le, slice_range}
-use Rattle.std.specs.Int.{from_le_bytes, w16}
+use Rattle.std.specs.Prelude.{ℕ, ◌+◌, ◌-◌, ◌*◌, ◌/◌, Bool, not, ◌&&◌, List, length, if◌then◌else◌, ◌==◌, nat_lt, nat_le}
 use Rattle.dml_types.specs.declared.jobs.Job.{Job}
 use Rattle.dml_types.specs.Memory.{first, Memory}
-use Rattle.dml_types.specs.Delta.{has_block}
-
--- the offset of entry i
-abbrev pub offset_in : List ℕ → ℕ → ℕ
-offset_in bytes i = from_le_bytes w16 (slice_range bytes (10 * i) (10 * i + 2))
+use Rattle.dml_types.specs.Delta.{block_number, has_block}
 
 -- the least offset that entry i may have, where entry 0 may have any from `least` on
 abbrev pub least_in : ℕ → List ℕ → ℕ → ℕ
-least_in least bytes i = if i == 0 then least else offset_in bytes (i - 1) + 1
+least_in least bytes i = if i == 0 then least else block_number bytes (i - 1) + 1
 
 -- whether an offset is allowed: it rises, and it is that of a present block of the destination
 abbrev pub is_allowed : Memory → Job → ℕ → ℕ → Bool
@@ -22,4 +17,4 @@ is_allowed memory job least offset =
 abbrev pub allowed_in : Memory → Job → ℕ → List ℕ → ℕ
 allowed_in memory job least bytes =
     first (length bytes / 10)
-    (λ i. not (is_allowed memory job (least_in least bytes i) (offset_in bytes i)))
+    (λ i. not (is_allowed memory job (least_in least bytes i) (block_number bytes i)))

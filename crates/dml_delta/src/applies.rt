@@ -8,7 +8,6 @@ ghost use Rattle.dml_types.specs.Delta as delta;
 ghost use Rattle.dml_types.specs.Chunk.{apply_bad, apply_first, apply_last, apply_staged};
 ghost use Rattle.dml_delta.specs.Bad.{bad_of};
 
-use crate::reach::present_bytes;
 use crate::record::{entries_at, judge};
 use dml_arena::Region;
 use dml_desc::Checked;
@@ -81,11 +80,11 @@ pub fn scan_apply<'a>(
 }
 
 /// The offset of an entry, in blocks.
-fn offset_at(image: &Image, job: &Checked, entry: u32) -> u16
+fn entry_offset(image: &Image, job: &Checked, entry: u32) -> u16
     requires operation { op_of job.now ≡ Some ApplyDelta }
     requires within { entry < job.now.delta_size / 10 }
     requires present { IsTrue (has_all image.now (job.now.source + 10 * entry) 2) }
-    ensures { result ≡ delta.offset_at image.now job.now entry }
+    ensures { result ≡ delta.entry_offset image.now job.now entry }
 {
     let mut bytes = [0; 2];
     image.read_into(job.job().source + 10 * u64::from(entry), &mut bytes);
@@ -103,10 +102,10 @@ fn first_offset(image: &Image, job: &Checked, from: u32, to: u32) -> Option<u16>
         return None; // its address may be 2^64
     }
     let place = job.job().source + 10 * u64::from(from);
-    if present_bytes(image, place, 10) < 10 {
+    if image.present_bytes(place, 10) < 10 {
         return None;
     }
-    Some(offset_at(image, job, from))
+    Some(entry_offset(image, job, from))
 }
 
 /// The offset of the last one of the entries from `from` up to `end`, if there is one.
@@ -115,12 +114,12 @@ fn last_offset(image: &Image, job: &Checked, from: u32, end: u32) -> Option<u16>
     requires order { from ≤ end }
     requires within { end ≤ job.now.delta_size / 10 }
     requires present { IsTrue (has_all image.now (job.now.source + 10 * from) (10 * (end - from))) }
-    ensures { result ≡ (if end == from then None else Some (delta.offset_at image.now job.now (end - 1))) }
+    ensures { result ≡ (if end == from then None else Some (delta.entry_offset image.now job.now (end - 1))) }
 {
     if end == from {
         return None;
     }
-    Some(offset_at(image, job, end - 1))
+    Some(entry_offset(image, job, end - 1))
 }
 
 /// The entry behind a chunk's good ones, with its fault, if the chunk has it.
@@ -159,19 +158,19 @@ fn bad_entry(image: &Image, job: &Checked, behind: u32, entry: u32) -> Option<Ba
         ..
     } = job.job();
     let place = source + 10 * u64::from(entry);
-    let readable = present_bytes(image, place, 10);
+    let readable = image.present_bytes(place, 10);
     if readable < 10 {
         return bad(Status::ReadFault, place + u64::from(readable));
     }
-    let offset = offset_at(image, job, entry);
-    if entry > behind && offset <= offset_at(image, job, entry - 1) {
+    let offset = entry_offset(image, job, entry);
+    if entry > behind && offset <= entry_offset(image, job, entry - 1) {
         return bad(Status::NotRising, 0);
     }
     if u32::from(offset) >= size / 8 {
         return bad(Status::OffsetRange, 0);
     }
     let block = target + 8 * u64::from(offset);
-    let writable = present_bytes(image, block, 8);
+    let writable = image.present_bytes(block, 8);
     if writable < 8 {
         return bad(Status::WriteFault, block + u64::from(writable));
     }
@@ -195,7 +194,7 @@ fn stage_good(image: &Image, job: &Checked, from: u32, to: u32, room: &mut Regio
     }
     let source = job.job().source;
     let place = source + 10 * u64::from(from);
-    let readable = present_bytes(image, place, 10 * (to - from)) / 10;
+    let readable = image.present_bytes(place, 10 * (to - from)) / 10;
     let mut good = 0;
     let mut least = 0;
     while good < readable {

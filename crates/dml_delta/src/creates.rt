@@ -3,14 +3,13 @@ ghost use Rattle.dml_arena.specs.Piece.{SamePlace};
 ghost use Rattle.dml_types.specs.declared.operations.Op.TheVariants.{CreateDelta};
 ghost use Rattle.dml_types.specs.Job.{op_of};
 ghost use Rattle.dml_types.specs.Memory.{has_all};
-ghost use Rattle.dml_types.specs.Delta.{block_fault, differs, entry_for, is_readable};
+ghost use Rattle.dml_types.specs.Delta.{block_fault, differs, block_entry, is_readable};
 ghost use Rattle.dml_types.specs.Delta as delta;
 ghost use Rattle.dml_types.specs.Chunk.{create_fault, create_staged};
 ghost use Rattle.dml_delta.specs.Entries.{gathered};
 
 use crate::entries::Entries;
 use crate::lanes::add_differing;
-use crate::reach::present_bytes;
 use dml_arena::Region;
 use dml_desc::Checked;
 use dml_image::Image;
@@ -75,8 +74,8 @@ fn readable_blocks(image: &Image, job: &Checked, from: u32, to: u32) -> u32
     let job = job.job();
     let first = 8 * u64::from(from);
     let len = 8 * (to - from);
-    let in_source = present_bytes(image, job.source + first, len);
-    let in_target = present_bytes(image, job.target + first, len);
+    let in_source = image.present_bytes(job.source + first, len);
+    let in_target = image.present_bytes(job.target + first, len);
     in_source.min(in_target) / 8
 }
 
@@ -93,11 +92,11 @@ fn fault_at(image: &Image, job: &Checked, block: u32, to: u32) -> Option<(u32, u
     }
     let job = job.job();
     let first = 8 * u64::from(block);
-    let in_source = present_bytes(image, job.source + first, 8);
+    let in_source = image.present_bytes(job.source + first, 8);
     if in_source < 8 {
         return Some((block, job.source + first + u64::from(in_source)));
     }
-    let in_target = present_bytes(image, job.target + first, 8);
+    let in_target = image.present_bytes(job.target + first, 8);
     Some((block, job.target + first + u64::from(in_target)))
 }
 
@@ -109,7 +108,7 @@ fn stage_differing(image: &Image, job: &Checked, from: u32, count: u32, room: &m
     requires target { IsTrue (has_all image.now (job.now.target + 8 * from) (8 * count)) }
     requires fits { length room.old.bytes + 10 * count ≤ room.old.room }
     ensures place { SamePlace room.old room.new }
-    ensures bytes { room.new.bytes ≡ room.old.bytes ++ gathered (entry_for image.now job.now) (differs image.now job.now) from count }
+    ensures bytes { room.new.bytes ≡ room.old.bytes ++ gathered (block_entry image.now job.now) (differs image.now job.now) from count }
 {
     let job = job.job();
     let mut entries = Entries::new();

@@ -1,7 +1,7 @@
 //! The blocks in which two slices of whole blocks differ, eight at a time.
 ghost use Rattle.std.specs.Prelude.{◌≡◌, ℕ, ◌+◌, ◌-◌, ◌*◌, ◌/◌, ◌%◌, ◌≤◌, true, ◌++◌, length, replicate};
 ghost use Rattle.dml_arena.specs.Piece.{SamePlace};
-ghost use Rattle.dml_delta.specs.Entries.{block_in, differs_in, entry_in, gathered, is_marked};
+ghost use Rattle.dml_delta.specs.Entries.{nth_block, nth_differs, nth_entry, gathered, is_marked};
 
 use crate::entries::Entries;
 use dml_arena::Region;
@@ -23,7 +23,7 @@ pub fn add_differing(
     requires numbers { number + length one.now / 8 ≤ 65536 }
     requires fits { length room.old.bytes + length entries.old + 10 * (length one.now / 8) ≤ room.old.room }
     ensures place { SamePlace room.old room.new }
-    ensures bytes { room.new.bytes ++ entries.new ≡ (room.old.bytes ++ entries.old) ++ gathered (entry_in number other.now) (differs_in one.now other.now) 0 (length one.now / 8) }
+    ensures bytes { room.new.bytes ++ entries.new ≡ (room.old.bytes ++ entries.old) ++ gathered (nth_entry number other.now) (nth_differs one.now other.now) 0 (length one.now / 8) }
 {
     let groups = one.len() / GROUP;
     for k in 0..groups {
@@ -42,7 +42,7 @@ pub fn add_differing(
 #[inline(always)]
 fn marks_of_group(one: &[u8], other: &[u8]) -> u64
     requires lengths { (length one.now ≡ 64) × (length other.now ≡ 64) }
-    ensures { (i : ℕ) → is_marked result i ≡ differs_in one.now other.now i }
+    ensures { (i : ℕ) → is_marked result i ≡ nth_differs one.now other.now i }
 {
     let one = u64x8::from_le_bytes(u8x64::from_slice(one));
     let other = u64x8::from_le_bytes(u8x64::from_slice(other));
@@ -54,7 +54,7 @@ fn marks_of_rest(one: &[u8], other: &[u8]) -> u64
     requires lengths { length other.now ≡ length one.now }
     requires whole { length one.now % 8 ≡ 0 }
     requires few { length one.now ≤ 64 }
-    ensures { (i : ℕ) → is_marked result i ≡ differs_in one.now other.now i }
+    ensures { (i : ℕ) → is_marked result i ≡ nth_differs one.now other.now i }
 {
     if one.is_empty() {
         return 0;
@@ -80,7 +80,7 @@ fn add_marked(entries: &mut Entries, marks: u64, blocks: &[u8], number: u32, roo
     requires numbers { number + length blocks.now / 8 ≤ 65536 }
     requires fits { length room.old.bytes + length entries.old ≤ room.old.room }
     ensures place { SamePlace room.old room.new }
-    ensures bytes { room.new.bytes ++ entries.new ≡ (room.old.bytes ++ entries.old) ++ gathered (entry_in number blocks.now) (is_marked marks) 0 (length blocks.now / 8) }
+    ensures bytes { room.new.bytes ++ entries.new ≡ (room.old.bytes ++ entries.old) ++ gathered (nth_entry number blocks.now) (is_marked marks) 0 (length blocks.now / 8) }
 {
     if marks != 0 {
         entries.make_room(room);
@@ -94,14 +94,14 @@ fn add_entries(entries: &mut Entries, marks: u64, blocks: &[u8], number: u32)
     requires marks { (i : ℕ) → is_marked marks i ≡ true → 8 * i + 8 ≤ length blocks.now }
     requires numbers { number + length blocks.now / 8 ≤ 65536 }
     requires fits { length entries.old + 80 ≤ 640 }
-    ensures { entries.new ≡ entries.old ++ gathered (entry_in number blocks.now) (is_marked marks) 0 (length blocks.now / 8) }
+    ensures { entries.new ≡ entries.old ++ gathered (nth_entry number blocks.now) (is_marked marks) 0 (length blocks.now / 8) }
 {
     let mut marks = marks;
     let mut at = 0;
     while marks != 0 {
         let skipped = marks.trailing_zeros();
         let block = at + skipped;
-        entries.add((number + block) as u16, block_of(blocks, block));
+        entries.add((number + block) as u16, block_slice(blocks, block));
         marks = marks >> skipped >> 1;
         at = block + 1;
     }
@@ -109,9 +109,9 @@ fn add_entries(entries: &mut Entries, marks: u64, blocks: &[u8], number: u32)
 
 /// The bytes of a block.
 #[inline(always)]
-fn block_of(blocks: &[u8], i: u32) -> &[u8]
+fn block_slice(blocks: &[u8], i: u32) -> &[u8]
     requires { 8 * i + 8 ≤ length blocks.now }
-    ensures bytes { result.now ≡ block_in blocks.now i }
+    ensures bytes { result.now ≡ nth_block blocks.now i }
     ensures length { length result.now ≡ 8 }
 {
     let start = 8 * i as usize;

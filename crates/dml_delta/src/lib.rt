@@ -9,7 +9,6 @@ mod applies;
 mod creates;
 mod entries;
 mod lanes;
-mod reach;
 mod record;
 
 pub use applies::{ApplyPiece, BadEntry, scan_apply};

@@ -4,13 +4,13 @@ ghost use Rattle.dml_types.specs.declared.operations.Op.TheVariants.{ApplyDelta}
 ghost use Rattle.dml_types.specs.Job.{op_of};
 ghost use Rattle.dml_types.specs.Memory.{IsMemory, bytes_at, has_all};
 ghost use Rattle.dml_delta.specs.Record.{allowed_in, is_allowed, least_in};
-ghost use Rattle.dml_delta.specs.Record as spec;
 
 use dml_desc::Checked;
 use dml_image::Image;
+use dml_types::block_number;
 
-/// The bytes of an entry: 2 of its offset, and 8 of its block.
-const ENTRY: usize = 10;
+/// The bytes of an entry.
+const ENTRY: usize = dml_types::ENTRY as usize;
 
 /// How far a run of entries is good.
 #[derive(Clone, Copy)]
@@ -57,7 +57,7 @@ pub fn judge(image: &Image, job: &Checked, least: u32, entries: &[u8]) -> Run
     let count = entries.len() / ENTRY;
     let mut least = least;
     for i in 0..count {
-        let offset = offset_in(entries, i);
+        let offset = block_number(entries, i);
         if !is_allowed(image, job, least, offset) {
             let good = i as u32;
             return Run { good, least };
@@ -66,15 +66,6 @@ pub fn judge(image: &Image, job: &Checked, least: u32, entries: &[u8]) -> Run
     }
     let good = count as u32;
     Run { good, least }
-}
-
-/// The offset of an entry, in blocks.
-#[inline(always)]
-fn offset_in(entries: &[u8], i: usize) -> u16
-    requires { 10 * i + 2 ≤ length entries.now }
-    ensures { result ≡ spec.offset_in entries.now i }
-{
-    u16::from_le_bytes([entries[ENTRY * i], entries[ENTRY * i + 1]])
 }
 
 /// Whether an offset is not below the least one, and is that of a present block of the destination.

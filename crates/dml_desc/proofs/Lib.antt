@@ -1,3 +1,4 @@
 pub mod CheckedLemmas
+pub mod EncodingLemmas
 pub mod LayoutLemmas
 pub mod RefusalLemmas

@@ -3,17 +3,21 @@ use Rattle.std.specs.Prelude.{◌≡◌, ◌↔◌, ◌+◌, ◌%◌, ◌^◌, �
 use Rattle.dml_types.specs.declared.jobs.Job.{Job}
 use Rattle.dml_types.specs.declared.operations.Op.{Op}
 use Rattle.dml_types.specs.declared.operations.Op.TheVariants.{NoOp, Move, Fill, Compare, ComparePattern, CreateDelta, ApplyDelta, Dualcast}
-use Rattle.dml_types.specs.Job.{op_of, span, shares}
+use Rattle.dml_types.specs.declared.records.Record.{Record}
+use Rattle.dml_types.specs.Memory.{Memory}
+use Rattle.dml_types.specs.Effect.{Effect}
+use Rattle.dml_types.specs.Step.{effect, step}
+use Rattle.dml_types.specs.Job.{op_of, span, shares, unfenced}
 use Rattle.dml_types.specs.Refusal.{refusal, need, has_bad_flags, has_bad_size, has_bad_delta_size, is_misaligned, has_dualcast_bits, has_overlap, has_range_past}
 
--- a job breaks no rule where there is as much staging as it needs
+-- a job breaks no rule where there is as much staging as it needs, apart from its fence: that counts in a batch alone
 pub record IsChecked (job : Job) : Type 0 where
-  pub accepted : refusal job (need job) ≡ None
+  pub accepted : refusal (unfenced job) (need job) ≡ None
 
 -- the same, rule by rule, for its operation
 pub record KeepsRules (op : Op) (job : Job) : Type 0 where
   pub operation : op_of job ≡ Some op
-  pub flags : has_bad_flags job ≡ false
+  pub flags : has_bad_flags (unfenced job) ≡ false
   pub size : has_bad_size op job ≡ false
   pub delta_size : has_bad_delta_size op job ≡ false
   pub alignment : is_misaligned op job ≡ false
@@ -83,7 +87,15 @@ Limits CreateDelta job = CreateLimits job
 Limits ApplyDelta job = ApplyLimits job
 Limits Dualcast job = DualcastLimits job
 
--- what the rules ask of a job of an operation: accepted flags and these limits, and no more
+-- what the rules ask of a job of an operation: accepted flags, the fence apart, and these limits, and no more
 abbrev pub CheckedWithinLimits : Type 0
 CheckedWithinLimits =
-    (op : Op) (job : Job) → op_of job ≡ Some op → IsChecked job ↔ ((has_bad_flags job ≡ false) × Limits op job)
+    (op : Op) (job : Job) → op_of job ≡ Some op
+    → IsChecked job ↔ ((has_bad_flags (unfenced job) ≡ false) × Limits op job)
+
+-- what a checked job does: that of the job without its fence, with as much staging as it needs
+abbrev pub checked_effect : Memory → Job → Effect
+checked_effect memory job = effect memory (unfenced job) (need job)
+
+abbrev pub checked_step : Memory → Job → Memory × Record
+checked_step memory job = step memory (unfenced job) (need job)

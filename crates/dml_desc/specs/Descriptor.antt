@@ -1,5 +1,5 @@
--- The 64 bytes of a descriptor and the 32 of a completion record, with the layout of `linux/idxd.h`. All numbers
--- are little-endian.
+-- The 64 bytes of a descriptor and the 32 of a completion record, with the layout of `linux/idxd.h`. All
+-- numbers are little-endian.
 use Rattle.std.specs.Prelude.{ℕ, ◌+◌, ◌%◌, ◌^◌, List, ◌∷◌, ◌++◌, Option, Some, replicate, slice_index, slice_range}
 use Rattle.std.specs.Int.{from_le_bytes, to_le_bytes, w32, w64}
 use Rattle.dml_types.specs.declared.jobs.Job.{Job}
@@ -23,7 +23,12 @@ u64_at bytes place = from_le_bytes w64 (slice_range bytes place (place + 8))
 -- the fields that stand in every descriptor
 abbrev pub common_fields : List ℕ → Job
 common_fields bytes =
-    record (plain (u8_at bytes 7)) { flags = u32_at bytes 4 % 2 ^ 24; source = u64_at bytes 16; target = u64_at bytes 24; size = u32_at bytes 32 }
+    record (plain (u8_at bytes 7)) {
+      flags = u32_at bytes 4 % 2 ^ 24;
+      source = u64_at bytes 16;
+      target = u64_at bytes 24;
+      size = u32_at bytes 32;
+    }
 
 -- those that an operation adds; elsewhere its descriptor is read past
 abbrev pub with_own_fields : Option Op → List ℕ → Job → Job
@@ -42,8 +47,9 @@ decoded bytes = let job = common_fields bytes in with_own_fields (op_of job) byt
 -- the bytes of a job's completion record, and of a batch's
 abbrev pub bytes_of_record : Record → List ℕ
 bytes_of_record outcome =
-    code_of outcome.status ∷ outcome.result ∷ 0 ∷ 0 ∷ to_le_bytes w32 outcome.completed ++ to_le_bytes w64 outcome.fault
-    ++ to_le_bytes w32 outcome.delta_size ++ replicate 12 0
+    code_of outcome.status ∷ outcome.result ∷ 0 ∷ 0 ∷ to_le_bytes w32 outcome.completed
+    ++ to_le_bytes w64 outcome.fault ++ to_le_bytes w32 outcome.delta_size ++ replicate 12 0
 
 abbrev pub bytes_of_batch : BatchRecord → List ℕ
-bytes_of_batch outcome = code_of outcome.status ∷ 0 ∷ 0 ∷ 0 ∷ to_le_bytes w32 outcome.completed ++ replicate 24 0
+bytes_of_batch outcome =
+    code_of outcome.status ∷ 0 ∷ 0 ∷ 0 ∷ to_le_bytes w32 outcome.completed ++ replicate 24 0

@@ -33,9 +33,11 @@ RecordHasItsFields =
     → HoldsRecord outcome (bytes_of_record outcome)
 
 abbrev pub BatchHasItsFields : Type 0
-BatchHasItsFields = (outcome : BatchRecord) → outcome.completed < 2 ^ 32 → HoldsBatch outcome (bytes_of_batch outcome)
+BatchHasItsFields =
+    (outcome : BatchRecord) → outcome.completed < 2 ^ 32 → HoldsBatch outcome (bytes_of_batch outcome)
 
--- the fields of every descriptor, each as its first byte and its length: flags and opcode, source, target, size
+-- the fields of every descriptor, each as its first byte and its length: flags and opcode, source, target,
+-- size
 abbrev pub common : List (ℕ × ℕ)
 common = (4, 4) ∷ (16, 8) ∷ (24, 8) ∷ (32, 4) ∷ []
 
@@ -50,7 +52,8 @@ own _ = []
 
 -- whether the byte at a place has a meaning
 abbrev pub has_meaning : Option Op → ℕ → Bool
-has_meaning o place = list_any (λ field. nat_le field.0 place && nat_lt place (field.0 + field.1)) (common ++ own o)
+has_meaning o place =
+    list_any (λ field. nat_le field.0 place && nat_lt place (field.0 + field.1)) (common ++ own o)
 
 -- decoding reads past the bytes without meaning: descriptors that agree on all others are the same job
 abbrev pub DecodedByMeaning : Type 0

@@ -1,4 +1,5 @@
 pub mod Checked
 pub mod Descriptor
+pub mod Encoding
 pub mod Laws
 pub mod RefusalLaws

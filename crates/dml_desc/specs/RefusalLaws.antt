@@ -1,4 +1,4 @@
--- That a job is answered by one status at most, and that it is the one of the first rule which the job breaks.
+-- That a job is answered by one status at most, and that it is the one of the first rule that the job breaks.
 use Rattle.std.specs.Prelude.{◌≡◌, ◌↔◌, ◌⊎◌, ℕ, ◌<◌, Bool, true, false, List, None, Some, IfSome, slice_get}
 use Rattle.dml_types.specs.declared.jobs.Job.{Job}
 use Rattle.dml_types.specs.declared.operations.Op.{Op}
@@ -34,10 +34,12 @@ abbrev pub IsRefusedBy : Job → ℕ → Status → Type 0
 IsRefusedBy job staging status = ((op_of job ≡ None) × (status ≡ BadOpcode)) ⊎ BreaksFirst job staging status
 
 abbrev pub RefusedByFirstBroken : Type 0
-RefusedByFirstBroken = (job : Job) (staging : ℕ) (status : Status) → (refusal job staging ≡ Some status) ↔ IsRefusedBy job staging status
+RefusedByFirstBroken =
+    (job : Job) (staging : ℕ) (status : Status) → (refusal job staging ≡ Some status) ↔ IsRefusedBy job staging status
 
 abbrev pub AcceptedWhereNoneBroken : Type 0
 AcceptedWhereNoneBroken = (job : Job) (staging : ℕ) → (refusal job staging ≡ None) ↔ BreaksNone job staging
 
 abbrev pub OneStatusAtMost : Type 0
-OneStatusAtMost = (job : Job) (staging : ℕ) (a b : Status) → IsRefusedBy job staging a → IsRefusedBy job staging b → a ≡ b
+OneStatusAtMost =
+    (job : Job) (staging : ℕ) (a b : Status) → IsRefusedBy job staging a → IsRefusedBy job staging b → a ≡ b

@@ -1,5 +1,6 @@
 ghost use Rattle.std.specs.Prelude.{◌≡◌, if◌then◌else◌, IfOk, IfErr, None, Some};
-ghost use Rattle.dml_types.specs.Refusal.{refusal, need_of};
+ghost use Rattle.dml_types.specs.Job.{unfenced};
+ghost use Rattle.dml_types.specs.Refusal.{refusal, operation_need};
 ghost use Rattle.dml_types.specs.Refusal as rule;
 ghost use Rattle.dml_desc.specs.Checked.{IsChecked, KeepsRules, Limits};
 
@@ -7,7 +8,8 @@ use crate::rules;
 use dml_types::{Job, Op, Status};
 use std::marker::Model;
 
-/// A job that breaks no rule where there is as much staging as it needs, with its operation. It is made by `check` alone.
+/// A job that breaks no rule where there is as much staging as it needs, with its operation. It is made by `check`, or
+/// by `check_in_batch`, where it may have the fence.
 #[derive(Clone, Copy, PartialEq, Eq, Debug)]
 pub struct Checked {
     job: Job,
@@ -46,8 +48,9 @@ impl Checked {
 }
 
 /// The bytes of staging that an operation takes for a job.
-fn need_for(op: Op, job: &Job) -> u64
-    ensures { result ≡ need_of op job.now }
+#[inline(always)]
+fn operation_need(op: Op, job: &Job) -> u64
+    ensures { result ≡ operation_need op job.now }
 {
     match op {
         Op::Move | Op::Dualcast => u64::from(job.size),
@@ -61,7 +64,7 @@ fn need_for(op: Op, job: &Job) -> u64
 pub fn need(job: &Job) -> u64
     ensures { result ≡ rule.need job.now }
 {
-    job.op().map_or(0, |op| need_for(op, job))
+    job.op().map_or(0, |op| operation_need(op, job))
 }
 
 /// A rule: the status that answers where it is broken.
@@ -74,6 +77,8 @@ fn refuse_if(broken: bool, status: Status) -> Result<(), Status>
 /// The job as a checked one where it breaks no rule, with `staging` bytes of staging, and else the status of the
 /// first rule that it breaks: BadOpcode, BadFlags, BadSize, BadDeltaSize, Misaligned, DualcastBits, Overlap,
 /// RangePast or StagingRefused, in this order.
+#[inline(always)]
+#[tactic(auto, using(crate::proofs::CheckedLemmas::unfenced_where_flags))]
 pub fn check(job: &Job, staging: u32) -> Result<Checked, Status>
     ensures same { IfOk result (λ checked. checked ≡ job.now) }
     ensures accepted { IfOk result (λ _. refusal job.now staging ≡ None) }
@@ -88,6 +93,20 @@ pub fn check(job: &Job, staging: u32) -> Result<Checked, Status>
     refuse_if(rules::has_dualcast_bits(op, job), Status::DualcastBits)?;
     refuse_if(rules::has_overlap(op, job), Status::Overlap)?;
     refuse_if(rules::has_range_past(op, job), Status::RangePast)?;
-    refuse_if(need_for(op, job) > room, Status::StagingRefused)?;
+    refuse_if(operation_need(op, job) > room, Status::StagingRefused)?;
     Ok(Checked { job: *job, op })
+}
+
+/// The same for a job of a batch, where the fence is accepted: it breaks no rule and changes no other.
+#[tactic(auto, using(crate::proofs::CheckedLemmas::fenced_rules))]
+pub fn check_in_batch(job: &Job, staging: u32) -> Result<Checked, Status>
+    ensures same { IfOk result (λ checked. checked ≡ job.now) }
+    ensures accepted { IfOk result (λ _. refusal (unfenced job.now) staging ≡ None) }
+    ensures refused { IfErr result (λ status. refusal (unfenced job.now) staging ≡ Some status) }
+{
+    let free = check(&job.unfenced(), staging)?;
+    Ok(Checked {
+        job: *job,
+        op: free.op,
+    })
 }

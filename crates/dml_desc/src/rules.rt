@@ -5,16 +5,13 @@ ghost use Rattle.dml_types.specs.Job as range;
 ghost use Rattle.dml_types.specs.Refusal as rule;
 
 use bitflags::Flags;
-use dml_types::{Job, JobFlags, Op, Span};
+use dml_types::{ENTRY, Job, JobFlags, Op, Span};
 
 /// The largest transfer size.
 const MOST_BYTES: u32 = 1_048_576;
 
 /// The largest transfer size of a create or an apply: as many blocks as an entry's offset can name.
 const MOST_DELTA_BYTES: u32 = 0x8_0000;
-
-/// The bytes of a delta record's entry.
-const ENTRY: u32 = 10;
 
 /// The most bytes of a delta record: an entry for each block of the largest transfer.
 const MOST_RECORD: u32 = 655_360;
@@ -32,6 +29,7 @@ fn accepted() -> JobFlags
 
 /// Whether a flag that is not accepted is set.
 #[tactic(auto, using(std::proofs::lemmas::Nat::and_comm))]
+#[inline(always)]
 pub(crate) fn has_bad_flags(job: &Job) -> bool
     ensures { result ≡ rule.has_bad_flags job.now }
 {
@@ -39,6 +37,7 @@ pub(crate) fn has_bad_flags(job: &Job) -> bool
 }
 
 /// Whether the transfer size is too large, or no whole number of blocks where it has to be.
+#[inline(always)]
 pub(crate) fn has_bad_size(op: Op, job: &Job) -> bool
     ensures { result ≡ rule.has_bad_size op job.now }
 {
@@ -54,6 +53,7 @@ pub(crate) fn has_bad_size(op: Op, job: &Job) -> bool
 }
 
 /// Whether the size of the delta record is too small or too large, or no whole number of entries.
+#[inline(always)]
 pub(crate) fn has_bad_delta_size(op: Op, job: &Job) -> bool
     ensures { result ≡ rule.has_bad_delta_size op job.now }
 {
@@ -68,6 +68,7 @@ pub(crate) fn has_bad_delta_size(op: Op, job: &Job) -> bool
 }
 
 /// Whether an address that has to be a multiple of 8 is none.
+#[inline(always)]
 pub(crate) fn is_misaligned(op: Op, job: &Job) -> bool
     ensures { result ≡ rule.is_misaligned op job.now }
 {
@@ -79,6 +80,7 @@ pub(crate) fn is_misaligned(op: Op, job: &Job) -> bool
 }
 
 /// Whether the two destinations of a dualcast differ in address bits 11:0.
+#[inline(always)]
 pub(crate) fn has_dualcast_bits(op: Op, job: &Job) -> bool
     ensures { result ≡ rule.has_dualcast_bits op job.now }
 {
@@ -86,6 +88,7 @@ pub(crate) fn has_dualcast_bits(op: Op, job: &Job) -> bool
 }
 
 /// Whether two ranges share a byte that must share none.
+#[inline(always)]
 pub(crate) fn has_overlap(op: Op, job: &Job) -> bool
     ensures { result ≡ rule.has_overlap op job.now }
 {
@@ -106,6 +109,7 @@ pub(crate) fn has_overlap(op: Op, job: &Job) -> bool
 }
 
 /// Whether a range of the job ends above 2^64.
+#[inline(always)]
 pub(crate) fn has_range_past(op: Op, job: &Job) -> bool
     ensures { result ≡ rule.has_range_past op job.now }
 {
@@ -129,6 +133,7 @@ pub(crate) fn has_range_past(op: Op, job: &Job) -> bool
 }
 
 /// The range of `len` bytes from `start` on.
+#[inline(always)]
 fn span(start: u64, len: u32) -> Span
     ensures { result ≡ range.span start len }
 {
@@ -136,6 +141,7 @@ fn span(start: u64, len: u32) -> Span
 }
 
 /// The end of a range, which may lie above 2^64.
+#[inline(always)]
 fn end(a: Span) -> u128
     ensures { result ≡ a.start + a.len }
 {
@@ -143,6 +149,7 @@ fn end(a: Span) -> u128
 }
 
 /// Whether two ranges share a byte.
+#[inline(always)]
 fn shares(a: Span, b: Span) -> bool
     ensures { result ≡ range.shares a b }
 {
@@ -150,6 +157,7 @@ fn shares(a: Span, b: Span) -> bool
 }
 
 /// Whether a range ends above 2^64.
+#[inline(always)]
 fn is_past(start: u64, len: u32) -> bool
     ensures { result ≡ range.is_past (range.span start len) }
 {

@@ -12,14 +12,12 @@ use Rattle.dml_types.specs.Memory.{Memory, IsWhole, Put, bytes_at, has_all, put_
 use Rattle.dml_types.specs.Job.{op_of}
 use Rattle.dml_types.specs.declared.statuses.Status.TheVariants.{Success}
 use Rattle.dml_types.specs.Effect.{Effect, Fault, ended}
-use Rattle.dml_types.specs.Delta.{applied, apply_answer, entry_put, offset_at}
+use Rattle.dml_types.specs.Delta.{applied, apply_answer, entry_put, entry_offset}
 use Rattle.dml_types.specs.Chunk.{apply_bad, apply_staged}
-use Rattle.dml_types.specs.Refusal.{need}
-use Rattle.dml_types.specs.Step.{effect, step}
 use Rattle.dml_types.proofs.FirstLemmas.{fails_before}
 use Rattle.dml_types.proofs.MemoryLemmas.{bytes_at_none, has_all_within, length_bytes_at}
-use Rattle.dml_types.proofs.StepLemmas.{step_accepted}
-use Rattle.dml_desc.specs.Checked.{IsChecked}
+use Rattle.dml_desc.proofs.CheckedLemmas.{checked_step_is}
+use Rattle.dml_desc.specs.Checked.{checked_effect, checked_step, IsChecked}
 use Rattle.dml_delta.proofs.RecordLemmas.{good_present, none_found}
 use Rattle.dml_delta.specs.Bad.{bad_of}
 use Rattle.dml_delta.specs.declared.applies.ApplyPiece.{ApplyPiece}
@@ -106,7 +104,7 @@ module _ (memory : Memory) (job : Job) where
     all_some : (a n : ℕ) → a + n ≤ sound → some_puts (map (entry_put memory job) (range_with_len a n)) ≡ map (entry_put memory job) (range_with_len a n)
     all_some a zero within = refl
     all_some a (suc n) within =
-        let address = job.target + 8 * offset_at memory job a in
+        let address = job.target + 8 * entry_offset memory job a in
         let bytes = bytes_at memory (job.source + 10 * a + 2) 8 in
         some_put address bytes (map (entry_put memory job) (range_with_len (a + 1) n)) (omega (arith, eight_bytes a (omega arith)))
         ∙ ap (λ (ps : List Put). put_of address bytes ∷ ps) (all_some (a + 1) n (omega arith))
@@ -114,7 +112,7 @@ module _ (memory : Memory) (job : Job) where
     all_present : (a n : ℕ) → a + n ≤ sound → are_present memory (map (entry_put memory job) (range_with_len a n)) ≡ true
     all_present a zero within = refl
     all_present a (suc n) within =
-        let address = job.target + 8 * offset_at memory job a in
+        let address = job.target + 8 * entry_offset memory job a in
         let bytes = bytes_at memory (job.source + 10 * a + 2) 8 in
         and_from (has_all memory address (length bytes)) (are_present memory (map (entry_put memory job) (range_with_len (a + 1) n)))
         (ap (has_all memory address) (eight_bytes a (omega arith)) ∙ (sound_entry memory job 0 a (entry_sound a (omega arith))).1)
@@ -136,11 +134,11 @@ module _ (memory : Memory) (job : Job) where
     }
 
 -- of a checked job
-pub record_of_apply : (memory : Memory) (job : Job) → op_of job ≡ Some ApplyDelta → IsChecked job → applied_record (job.delta_size / 10) (apply_bad memory job 0 (job.delta_size / 10)) ≡ (step memory job (need job)).1
+pub record_of_apply : (memory : Memory) (job : Job) → op_of job ≡ Some ApplyDelta → IsChecked job → applied_record (job.delta_size / 10) (apply_bad memory job 0 (job.delta_size / 10)) ≡ (checked_step memory job).1
 record_of_apply memory job operation checked =
-    answer_of_apply memory job ∙ ap (λ (p : Memory × Record). p.1) (sym (step_accepted memory job (need job) ApplyDelta checked.accepted operation))
+    answer_of_apply memory job ∙ ap (λ (p : Memory × Record). p.1) (sym (checked_step_is memory job ApplyDelta checked operation))
 
-pub puts_of_checked : (memory : Memory) (job : Job) → IsWhole memory → op_of job ≡ Some ApplyDelta → IsChecked job → block_puts job.target (apply_staged memory job 0 (job.delta_size / 10)) ≡ some_puts (effect memory job (need job)).puts
+pub puts_of_checked : (memory : Memory) (job : Job) → IsWhole memory → op_of job ≡ Some ApplyDelta → IsChecked job → block_puts job.target (apply_staged memory job 0 (job.delta_size / 10)) ≡ some_puts (checked_effect memory job).puts
 puts_of_checked memory job whole operation checked =
     (puts_of_apply memory job whole).same ∙ ap (λ (e : Effect). some_puts e.puts) (effect_of_checked memory job ApplyDelta operation checked)
 
@@ -170,13 +168,13 @@ bad_within memory job to (Some b) is =
 
 -- an empty record
 module _ (memory : Memory) (job : Job) (empty : job.delta_size / 10 ≡ 0) (operation : op_of job ≡ Some ApplyDelta) (checked : IsChecked job) where
-  pub record_of_none : ended Success 0 0 0 ≡ (step memory job (need job)).1
+  pub record_of_none : ended Success 0 0 0 ≡ (checked_step memory job).1
   record_of_none =
       let nothing = none_bad memory job 0 (job.delta_size / 10) (omega arith) (omega (arith, empty, good_within memory job 0 (job.delta_size / 10))) in
       ap (λ (n : ℕ). ended Success 0 n 0) (omega (arith, empty))
       ∙ (ap (applied_record (job.delta_size / 10)) (sym nothing) ∙ record_of_apply memory job operation checked)
 
-  pub puts_of_none : IsWhole memory → ◌≡◌ {A = List Put} [] (some_puts (effect memory job (need job)).puts)
+  pub puts_of_none : IsWhole memory → ◌≡◌ {A = List Put} [] (some_puts (checked_effect memory job).puts)
   puts_of_none whole =
       let nothing = staged_is memory job 0 (job.delta_size / 10) ∙ bytes_at_none memory (job.source + 10 * 0) (10 * good memory job 0 (job.delta_size / 10)) (omega (arith, empty, good_within memory job 0 (job.delta_size / 10))) in
       ap (block_puts job.target) (sym nothing) ∙ puts_of_checked memory job whole operation checked

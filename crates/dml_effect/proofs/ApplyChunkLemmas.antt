@@ -10,10 +10,10 @@ use Rattle.dml_types.specs.declared.statuses.Status.TheVariants.{NotRising, Offs
 use Rattle.dml_types.specs.declared.operations.Op.{Op}
 use Rattle.dml_types.specs.declared.operations.Op.TheVariants.{ApplyDelta}
 use Rattle.dml_types.specs.Job.{op_of}
-use Rattle.dml_types.specs.Refusal.{need, need_of}
+use Rattle.dml_types.specs.Refusal.{need, operation_need}
 use Rattle.dml_types.specs.Memory.{first, Memory, bytes_at, has_all}
 use Rattle.dml_types.specs.Effect.{Fault, read_fault, write_fault}
-use Rattle.dml_types.specs.Delta.{entry_fault, first_absent, good_entries, has_block, offset_at}
+use Rattle.dml_types.specs.Delta.{entry_fault, first_absent, good_entries, has_block, entry_offset}
 use Rattle.dml_types.specs.Chunk.{apply_bad, apply_first, apply_last, apply_staged}
 use Rattle.dml_types.proofs.FirstLemmas.{first_le, first_is, first_agree, first_left, first_right, passes_at}
 use Rattle.dml_delta.specs.Bad.{bad_of}
@@ -44,7 +44,7 @@ none_holds false f false g false h false k none = (refl, refl)
 -- the fault of an entry, by whether all its bytes are present and its offset does not rise
 abbrev fault_when : Memory → Job → ℕ → Bool → Bool → Option Fault
 fault_when memory job x present fallen =
-    let offset = offset_at memory job x in
+    let offset = entry_offset memory job x in
     first_cause (not present) (read_fault (first_absent memory (job.source + 10 * x) 10)) fallen not_rising
     (nat_le (job.size / 8) offset) (record { status = OffsetRange; address = 0 })
     (not (has_block memory job.target offset)) (write_fault (first_absent memory (job.target + 8 * offset) 8))
@@ -57,15 +57,15 @@ module _ (memory : Memory) (job : Job) where
   here x = has_all memory (job.source + 10 * x) 10
 
   abbrev drops : ℕ → Bool
-  drops x = nat_le (offset_at memory job x) (offset_at memory job (x - 1))
+  drops x = nat_le (entry_offset memory job x) (entry_offset memory job (x - 1))
 
   by_place : (behind x : ℕ) (behind_it : Bool) → nat_lt behind x ≡ behind_it → fault_at behind x ≡ fault_when memory job x (here x) (behind_it && drops x)
   by_place behind x behind_it is = ap (λ (b : Bool). fault_when memory job x (here x) (b && drops x)) is
 
   -- all bytes of a good entry and of its block are present
-  pub sound_entry : (behind x : ℕ) → fault_at behind x ≡ None → (here x ≡ true) × (has_block memory job.target (offset_at memory job x) ≡ true)
+  pub sound_entry : (behind x : ℕ) → fault_at behind x ≡ None → (here x ≡ true) × (has_block memory job.target (entry_offset memory job x) ≡ true)
   sound_entry behind x none =
-      let offset = offset_at memory job x in
+      let offset = entry_offset memory job x in
       let parts = none_holds (not (here x)) (read_fault (first_absent memory (job.source + 10 * x) 10)) (nat_lt behind x && drops x) not_rising
       (nat_le (job.size / 8) offset) (record { status = OffsetRange; address = 0 })
       (not (has_block memory job.target offset)) (write_fault (first_absent memory (job.target + 8 * offset) 8)) none in
@@ -143,7 +143,7 @@ module _ (memory : Memory) (job : Job) where
 
   -- what else a chunk tells
   abbrev last_by : ℕ → ℕ → Option ℕ
-  last_by from k = cond (eqb k 0) None (Some (offset_at memory job (from + k - 1)))
+  last_by from k = cond (eqb k 0) None (Some (entry_offset memory job (from + k - 1)))
 
   last_is : (from to : ℕ) → apply_last memory job from to ≡ last_by from (good from to)
   unfolding apply_last
@@ -154,7 +154,7 @@ module _ (memory : Memory) (job : Job) where
   staged_is from to = refl
 
   abbrev first_by : ℕ → Bool → Option ℕ
-  first_by from told = cond told (Some (offset_at memory job from)) None
+  first_by from told = cond told (Some (entry_offset memory job from)) None
 
   first_is_by : (from to : ℕ) → apply_first memory job from to ≡ first_by from (not (eqb from to) && here from)
   unfolding apply_first
@@ -208,35 +208,35 @@ module _ (memory : Memory) (job : Job) (from mid to : ℕ) (low : from ≤ mid) 
     rest = ap (λ (n : ℕ). first n (blocked memory job from)) long ∙ first_right (mid - from) (to - mid) (blocked memory job from) all
 
     -- the offset of the front's last entry
-    last_before : (last : ℕ) → apply_last memory job from mid ≡ Some last → (from < mid) × (offset_at memory job (mid - 1) ≡ last)
+    last_before : (last : ℕ) → apply_last memory job from mid ≡ Some last → (from < mid) × (entry_offset memory job (mid - 1) ≡ last)
     last_before last is =
-        ⊎_elim (λ empty. let gone : last_by memory job from (good memory job from mid) ≡ None = ap (λ (b : Bool). cond b None (Some (offset_at memory job (from + good memory job from mid - 1)))) (eq-eqb _ 0 empty) in absurd (cc (gone, is, last_is memory job from mid)))
+        ⊎_elim (λ empty. let gone : last_by memory job from (good memory job from mid) ≡ None = ap (λ (b : Bool). cond b None (Some (entry_offset memory job (from + good memory job from mid - 1)))) (eq-eqb _ 0 empty) in absurd (cc (gone, is, last_is memory job from mid)))
         (λ some.
-        let told : last_by memory job from (good memory job from mid) ≡ Some (offset_at memory job (from + good memory job from mid - 1)) = ap (λ (b : Bool). cond b None (Some (offset_at memory job (from + good memory job from mid - 1)))) (ne_eqb _ 0 some) in
+        let told : last_by memory job from (good memory job from mid) ≡ Some (entry_offset memory job (from + good memory job from mid - 1)) = ap (λ (b : Bool). cond b None (Some (entry_offset memory job (from + good memory job from mid - 1)))) (ne_eqb _ 0 some) in
         let place : mid - 1 ≡ from + good memory job from mid - 1 = omega (arith, all, some) in
-        (omega (arith, all, some), ap (offset_at memory job) place ∙ cc (told, is, last_is memory job from mid)))
+        (omega (arith, all, some), ap (entry_offset memory job) place ∙ cc (told, is, last_is memory job from mid)))
         (cases_eq (good memory job from mid) 0)
 
     last_none : apply_last memory job from mid ≡ None → from ≡ mid
     last_none is =
         ⊎_elim (λ empty. omega (arith, all, empty))
         (λ some.
-        let told : last_by memory job from (good memory job from mid) ≡ Some (offset_at memory job (from + good memory job from mid - 1)) = ap (λ (b : Bool). cond b None (Some (offset_at memory job (from + good memory job from mid - 1)))) (ne_eqb _ 0 some) in
+        let told : last_by memory job from (good memory job from mid) ≡ Some (entry_offset memory job (from + good memory job from mid - 1)) = ap (λ (b : Bool). cond b None (Some (entry_offset memory job (from + good memory job from mid - 1)))) (ne_eqb _ 0 some) in
         absurd (cc (told, is, last_is memory job from mid)))
         (cases_eq (good memory job from mid) 0)
 
     -- the offset of the first entry behind it
-    first_behind : (offset : ℕ) → apply_first memory job mid to ≡ Some offset → (mid < to) × (here memory job mid ≡ true) × (offset_at memory job mid ≡ offset)
+    first_behind : (offset : ℕ) → apply_first memory job mid to ≡ Some offset → (mid < to) × (here memory job mid ≡ true) × (entry_offset memory job mid ≡ offset)
     first_behind offset is = go (not (eqb mid to) && here memory job mid) refl
       where
         apart : not (eqb mid to) ≡ true → mid < to
         apart differ =
             ⊎_elim (λ same. let equal = eq-eqb mid to same in absurd (cc (ap not equal, differ))) (λ other. omega (arith, other)) (cases_eq mid to)
 
-        go : (b : Bool) → (not (eqb mid to) && here memory job mid) ≡ b → (mid < to) × (here memory job mid ≡ true) × (offset_at memory job mid ≡ offset)
+        go : (b : Bool) → (not (eqb mid to) && here memory job mid) ≡ b → (mid < to) × (here memory job mid ≡ true) × (entry_offset memory job mid ≡ offset)
         go true told =
             let parts = and_parts (not (eqb mid to)) (here memory job mid) told in
-            let value : apply_first memory job mid to ≡ Some (offset_at memory job mid) = first_is_by memory job mid to ∙ ap (first_by memory job mid) told in
+            let value : apply_first memory job mid to ≡ Some (entry_offset memory job mid) = first_is_by memory job mid to ∙ ap (first_by memory job mid) told in
             (apart parts.0, parts.1, cc (value, is))
         go false told =
             let value : apply_first memory job mid to ≡ None = first_is_by memory job mid to ∙ ap (first_by memory job mid) told in
@@ -274,7 +274,7 @@ module _ (memory : Memory) (job : Job) (from mid to : ℕ) (low : from ≤ mid) 
         gone none false is = refl
         gone none true is =
             let told : (not (eqb mid to) && here memory job mid) ≡ true = ap₂ (λ (a b : Bool). not a && b) (ne_eqb mid to (λ e. absurd (omega (arith, e, some)))) is in
-            let value : apply_first memory job mid to ≡ Some (offset_at memory job mid) = first_is_by memory job mid to ∙ ap (first_by memory job mid) told in
+            let value : apply_first memory job mid to ≡ Some (entry_offset memory job mid) = first_is_by memory job mid to ∙ ap (first_by memory job mid) told in
             absurd (cc (value, none))
 
         go : (l f : Option ℕ) → apply_last memory job from mid ≡ l → apply_first memory job mid to ≡ f → falls l f ≡ false → fault_at memory job from mid ≡ fault_at memory job mid mid
@@ -322,15 +322,15 @@ module _ (memory : Memory) (job : Job) (from mid to : ℕ) (low : from ≤ mid) 
       on_last =
           ⊎_elim (λ none.
           let same : both ≡ good memory job from mid = omega (arith, joined, all, none) in
-          let nothing : apply_last memory job mid to ≡ None = last_is memory job mid to ∙ ap (λ (b : Bool). cond b None (Some (offset_at memory job (mid + good memory job mid to - 1)))) (eq-eqb _ 0 none) in
+          let nothing : apply_last memory job mid to ≡ None = last_is memory job mid to ∙ ap (λ (b : Bool). cond b None (Some (entry_offset memory job (mid + good memory job mid to - 1)))) (eq-eqb _ 0 none) in
           (front_same same).0 ∙ sym (ap (λ (o : Option ℕ). option_or o (apply_last memory job from mid)) nothing))
           (λ some.
           let place : from + both - 1 ≡ mid + good memory job mid to - 1 = omega (arith, joined, some) in
           let more : both ≢ 0 = λ none. absurd (omega (arith, joined, some, none)) in
-          let value : apply_last memory job mid to ≡ Some (offset_at memory job (mid + good memory job mid to - 1)) = last_is memory job mid to ∙ ap (λ (b : Bool). cond b None (Some (offset_at memory job (mid + good memory job mid to - 1)))) (ne_eqb _ 0 some) in
+          let value : apply_last memory job mid to ≡ Some (entry_offset memory job (mid + good memory job mid to - 1)) = last_is memory job mid to ∙ ap (λ (b : Bool). cond b None (Some (entry_offset memory job (mid + good memory job mid to - 1)))) (ne_eqb _ 0 some) in
           last_is memory job from to
-          ∙ (ap (λ (b : Bool). cond b None (Some (offset_at memory job (from + both - 1)))) (ne_eqb _ 0 more)
-          ∙ (ap (λ (k : ℕ). Some (offset_at memory job k)) place
+          ∙ (ap (λ (b : Bool). cond b None (Some (entry_offset memory job (from + both - 1)))) (ne_eqb _ 0 more)
+          ∙ (ap (λ (k : ℕ). Some (entry_offset memory job k)) place
           ∙ sym (ap (λ (o : Option ℕ). option_or o (apply_last memory job from mid)) value))))
           (cases_eq (good memory job mid to) 0)
 
@@ -450,4 +450,4 @@ scanned_value memory job from to piece order chunk bad offset last staged =
 
 -- the staging that an apply needs
 pub need_of_apply : (job : Job) → op_of job ≡ Some ApplyDelta → need job ≡ job.delta_size
-need_of_apply job operation = ap (λ (o : Option Op). unwrap_or (option_map (λ op. need_of op job) o) 0) operation
+need_of_apply job operation = ap (λ (o : Option Op). unwrap_or (option_map (λ op. operation_need op job) o) 0) operation

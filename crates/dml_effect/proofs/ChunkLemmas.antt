@@ -9,9 +9,9 @@ use Rattle.dml_types.specs.declared.operations.Direction.{Direction}
 use Rattle.dml_types.specs.declared.operations.Direction.TheVariants.{Forward, Backward}
 use Rattle.dml_types.specs.declared.operations.Op.{Op}
 use Rattle.dml_types.specs.declared.operations.Op.TheVariants.{NoOp, Move, Fill, Compare, ComparePattern, CreateDelta, ApplyDelta, Dualcast}
-use Rattle.dml_types.specs.Memory.{first, Memory, bytes_at, offset_in}
+use Rattle.dml_types.specs.Memory.{first, Memory, bytes_at, worked_offset}
 use Rattle.dml_types.specs.Effect.{is_clear, first_fault}
-use Rattle.dml_types.specs.Bytewise.{direction_by, done_from, faults_at, passes}
+use Rattle.dml_types.specs.Bytewise.{operation_direction, lowest_done, faults_at, passes}
 use Rattle.dml_types.specs.Chunk.{scan_done, scan_found, scan_staged, scan_offset, fault_found}
 use Rattle.dml_types.proofs.FirstLemmas.{first_le, first_agree, first_left, first_right}
 use Rattle.dml_scan.proofs.ReachLemmas.{found_all, scan_done_within}
@@ -105,26 +105,26 @@ module _ (op : Op) (memory : Memory) (job : Job) where
             (cases_lt (first m (blocked other)) m)
 
 -- the offsets of a chunk, by direction
-upwards : (op : Op) (job : Job) (from to i : ℕ) → direction_by op job ≡ Forward → scan_offset op job from to i ≡ from + i
-upwards op job from to i is = ap (λ (d : Direction). from + offset_in d (to - from) i) is
+upwards : (op : Op) (job : Job) (from to i : ℕ) → operation_direction op job ≡ Forward → scan_offset op job from to i ≡ from + i
+upwards op job from to i is = ap (λ (d : Direction). from + worked_offset d (to - from) i) is
 
-downwards : (op : Op) (job : Job) (from to i : ℕ) → direction_by op job ≡ Backward → scan_offset op job from to i ≡ from + (to - from - 1 - i)
-downwards op job from to i is = ap (λ (d : Direction). from + offset_in d (to - from) i) is
+downwards : (op : Op) (job : Job) (from to i : ℕ) → operation_direction op job ≡ Backward → scan_offset op job from to i ≡ from + (to - from - 1 - i)
+downwards op job from to i is = ap (λ (d : Direction). from + worked_offset d (to - from) i) is
 
 module _ (op : Op) (memory : Memory) (job : Job) (from mid to : ℕ) (low : from ≤ mid) (high : mid ≤ to) where
   abbrev at : ℕ → ℕ → ℕ → ℕ
   at a b i = scan_offset op job a b i
 
-  up_front : direction_by op job ≡ Forward → (i : ℕ) → i < mid - from → at from to i ≡ at from mid i
+  up_front : operation_direction op job ≡ Forward → (i : ℕ) → i < mid - from → at from to i ≡ at from mid i
   up_front is i below = upwards op job from to i is ∙ sym (upwards op job from mid i is)
 
-  up_back : direction_by op job ≡ Forward → (i : ℕ) → i < to - mid → at from to (mid - from + i) ≡ at mid to i
+  up_back : operation_direction op job ≡ Forward → (i : ℕ) → i < to - mid → at from to (mid - from + i) ≡ at mid to i
   up_back is i below = omega (arith, upwards op job from to (mid - from + i) is, upwards op job mid to i is)
 
-  down_front : direction_by op job ≡ Backward → (i : ℕ) → i < to - mid → at from to i ≡ at mid to i
+  down_front : operation_direction op job ≡ Backward → (i : ℕ) → i < to - mid → at from to i ≡ at mid to i
   down_front is i below = omega (arith, downwards op job from to i is, downwards op job mid to i is)
 
-  down_back : direction_by op job ≡ Backward → (i : ℕ) → i < mid - from → at from to (to - mid + i) ≡ at from mid i
+  down_back : operation_direction op job ≡ Backward → (i : ℕ) → i < mid - from → at from to (to - mid + i) ≡ at from mid i
   down_back is i below = omega (arith, downwards op job from to (to - mid + i) is, downwards op job from mid i is)
 
   up_long : to - from ≡ mid - from + (to - mid)
@@ -134,7 +134,7 @@ module _ (op : Op) (memory : Memory) (job : Job) (from mid to : ℕ) (low : from
   down_long = omega arith
 
   -- how the chunk of both ends
-  pub neighbours_found : (direction : Direction) → direction_by op job ≡ direction → scan_found op memory job from to ≡ found_joined direction (mid - from) (scan_found op memory job from mid) (to - mid) (scan_found op memory job mid to)
+  pub neighbours_found : (direction : Direction) → operation_direction op job ≡ direction → scan_found op memory job from to ≡ found_joined direction (mid - from) (scan_found op memory job from mid) (to - mid) (scan_found op memory job mid to)
   neighbours_found Forward is =
       found_is op memory job from to
       ∙ (ap (λ (n : ℕ). found_in op memory job n (at from to)) up_long
@@ -147,22 +147,22 @@ module _ (op : Op) (memory : Memory) (job : Job) (from mid to : ℕ) (low : from
       ∙ sym (ap₂ (then_found (to - mid)) (found_is op memory job mid to) (found_is op memory job from mid))))
 
   -- how much of it is done
-  done_up_stopped : direction_by op job ≡ Forward → scan_done op memory job from mid < mid - from → scan_done op memory job from to ≡ scan_done op memory job from mid
+  done_up_stopped : operation_direction op job ≡ Forward → scan_done op memory job from mid < mid - from → scan_done op memory job from to ≡ scan_done op memory job from mid
   done_up_stopped is short =
       ap (λ (n : ℕ). first n (blocked op memory job (at from to))) up_long
       ∙ done_stopped op memory job (mid - from) (to - mid) (at from to) (at from mid) (at mid to) (up_front is) (up_back is) short
 
-  done_up : direction_by op job ≡ Forward → scan_done op memory job from mid ≡ mid - from → scan_done op memory job from to ≡ mid - from + scan_done op memory job mid to
+  done_up : operation_direction op job ≡ Forward → scan_done op memory job from mid ≡ mid - from → scan_done op memory job from to ≡ mid - from + scan_done op memory job mid to
   done_up is all =
       ap (λ (n : ℕ). first n (blocked op memory job (at from to))) up_long
       ∙ done_on op memory job (mid - from) (to - mid) (at from to) (at from mid) (at mid to) (up_front is) (up_back is) all
 
-  done_down_stopped : direction_by op job ≡ Backward → scan_done op memory job mid to < to - mid → scan_done op memory job from to ≡ scan_done op memory job mid to
+  done_down_stopped : operation_direction op job ≡ Backward → scan_done op memory job mid to < to - mid → scan_done op memory job from to ≡ scan_done op memory job mid to
   done_down_stopped is short =
       ap (λ (n : ℕ). first n (blocked op memory job (at from to))) down_long
       ∙ done_stopped op memory job (to - mid) (mid - from) (at from to) (at mid to) (at from mid) (down_front is) (down_back is) short
 
-  done_down : direction_by op job ≡ Backward → scan_done op memory job mid to ≡ to - mid → scan_done op memory job from to ≡ to - mid + scan_done op memory job from mid
+  done_down : operation_direction op job ≡ Backward → scan_done op memory job mid to ≡ to - mid → scan_done op memory job from to ≡ to - mid + scan_done op memory job from mid
   done_down is all =
       ap (λ (n : ℕ). first n (blocked op memory job (at from to))) down_long
       ∙ done_on op memory job (to - mid) (mid - from) (at from to) (at mid to) (at from mid) (down_front is) (down_back is) all
@@ -187,7 +187,7 @@ bytes_append memory p q a b beside = rw beside (sym (same_lists _ _ (search (rul
 
 -- the bytes that two neighbouring chunks stage
 abbrev bytes_of_move : Memory → Job → Direction → ℕ → ℕ → ℕ → List ℕ
-bytes_of_move memory job direction from n k = bytes_at memory (job.source + (from + done_from direction n k)) k
+bytes_of_move memory job direction from n k = bytes_at memory (job.source + (from + lowest_done direction n k)) k
 
 bytes_same : (memory : Memory) (p q a b : ℕ) → p ≡ q → a ≡ b → bytes_at memory p a ≡ bytes_at memory q b
 bytes_same memory p q a b place count = ap₂ (bytes_at memory) place count
@@ -223,58 +223,58 @@ module _ (memory : Memory) (job : Job) (from mid to : ℕ) (low : from ≤ mid) 
       nothing true = refl
       nothing false = refl
 
-  move_up : direction_by Move job ≡ Forward → scan_staged Move memory job from to ≡ staged_neighbours Move Forward
+  move_up : operation_direction Move job ≡ Forward → scan_staged Move memory job from to ≡ staged_neighbours Move Forward
   unfolding scan_staged
   move_up is =
       let front = scan_done Move memory job from mid in
       let back = scan_done Move memory job mid to in
-      let below = bytes_of_move memory job (direction_by Move job) from (mid - from) front in
-      let above = bytes_of_move memory job (direction_by Move job) mid (to - mid) back in
+      let below = bytes_of_move memory job (operation_direction Move job) from (mid - from) front in
+      let above = bytes_of_move memory job (operation_direction Move job) mid (to - mid) back in
       let whole = scan_done Move memory job from to in
-      let place : done_from (direction_by Move job) (to - from) whole ≡ 0 = ap (λ (d : Direction). done_from d (to - from) whole) is in
-      let place_below : done_from (direction_by Move job) (mid - from) front ≡ 0 = ap (λ (d : Direction). done_from d (mid - from) front) is in
-      let place_above : done_from (direction_by Move job) (to - mid) back ≡ 0 = ap (λ (d : Direction). done_from d (to - mid) back) is in
+      let place : lowest_done (operation_direction Move job) (to - from) whole ≡ 0 = ap (λ (d : Direction). lowest_done d (to - from) whole) is in
+      let place_below : lowest_done (operation_direction Move job) (mid - from) front ≡ 0 = ap (λ (d : Direction). lowest_done d (mid - from) front) is in
+      let place_above : lowest_done (operation_direction Move job) (to - mid) back ≡ 0 = ap (λ (d : Direction). lowest_done d (to - mid) back) is in
       ⊎_elim (λ short.
       bytes_same memory _ _ _ _ (omega (arith, place, place_below)) (done_up_stopped Move memory job from mid to low high is short)
       ∙ sym (ap (λ (b : Bool). cond b (below ++ above) below) (stopped_early Move memory job from mid short)))
       (λ past.
       let all : front ≡ mid - from = omega (arith, scan_done_within Move memory job from mid) in
-      let start : job.source + (from + done_from (direction_by Move job) (to - from) whole) ≡ job.source + (from + done_from (direction_by Move job) (mid - from) front) = omega (arith, place, place_below) in
-      let beside : job.source + (mid + done_from (direction_by Move job) (to - mid) back) ≡ job.source + (from + done_from (direction_by Move job) (mid - from) front) + front = omega (arith, all, place_below, place_above) in
+      let start : job.source + (from + lowest_done (operation_direction Move job) (to - from) whole) ≡ job.source + (from + lowest_done (operation_direction Move job) (mid - from) front) = omega (arith, place, place_below) in
+      let beside : job.source + (mid + lowest_done (operation_direction Move job) (to - mid) back) ≡ job.source + (from + lowest_done (operation_direction Move job) (mid - from) front) + front = omega (arith, all, place_below, place_above) in
       bytes_same memory _ _ _ _ start (done_up Move memory job from mid to low high is all ∙ ap (λ (n : ℕ). n + back) (sym all))
       ∙ (bytes_append memory _ _ front back beside
       ∙ sym (ap (λ (b : Bool). cond b (below ++ above) below) (done_whole Move memory job from mid all))))
       (cases_lt front (mid - from))
 
-  move_down : direction_by Move job ≡ Backward → scan_staged Move memory job from to ≡ staged_neighbours Move Backward
+  move_down : operation_direction Move job ≡ Backward → scan_staged Move memory job from to ≡ staged_neighbours Move Backward
   unfolding scan_staged
   move_down is =
       let front = scan_done Move memory job mid to in
       let back = scan_done Move memory job from mid in
-      let above = bytes_of_move memory job (direction_by Move job) mid (to - mid) front in
-      let below = bytes_of_move memory job (direction_by Move job) from (mid - from) back in
+      let above = bytes_of_move memory job (operation_direction Move job) mid (to - mid) front in
+      let below = bytes_of_move memory job (operation_direction Move job) from (mid - from) back in
       let whole = scan_done Move memory job from to in
-      let place : done_from (direction_by Move job) (to - from) whole ≡ to - from - whole = ap (λ (d : Direction). done_from d (to - from) whole) is in
-      let place_above : done_from (direction_by Move job) (to - mid) front ≡ to - mid - front = ap (λ (d : Direction). done_from d (to - mid) front) is in
-      let place_below : done_from (direction_by Move job) (mid - from) back ≡ mid - from - back = ap (λ (d : Direction). done_from d (mid - from) back) is in
+      let place : lowest_done (operation_direction Move job) (to - from) whole ≡ to - from - whole = ap (λ (d : Direction). lowest_done d (to - from) whole) is in
+      let place_above : lowest_done (operation_direction Move job) (to - mid) front ≡ to - mid - front = ap (λ (d : Direction). lowest_done d (to - mid) front) is in
+      let place_below : lowest_done (operation_direction Move job) (mid - from) back ≡ mid - from - back = ap (λ (d : Direction). lowest_done d (mid - from) back) is in
       ⊎_elim (λ short.
       let count = done_down_stopped Move memory job from mid to low high is short in
-      let start : job.source + (from + done_from (direction_by Move job) (to - from) whole) ≡ job.source + (mid + done_from (direction_by Move job) (to - mid) front) = omega (arith, place, place_above, count, short) in
+      let start : job.source + (from + lowest_done (operation_direction Move job) (to - from) whole) ≡ job.source + (mid + lowest_done (operation_direction Move job) (to - mid) front) = omega (arith, place, place_above, count, short) in
       bytes_same memory _ _ _ _ start count
       ∙ sym (ap (λ (b : Bool). cond b (below ++ above) above) (stopped_early Move memory job mid to short)))
       (λ past.
       let all : front ≡ to - mid = omega (arith, scan_done_within Move memory job mid to) in
       let count = done_down Move memory job from mid to low high is all in
       let short : back ≤ mid - from = scan_done_within Move memory job from mid in
-      let start : job.source + (from + done_from (direction_by Move job) (to - from) whole) ≡ job.source + (from + done_from (direction_by Move job) (mid - from) back) = omega (arith, place, place_below, count, short) in
-      let beside : job.source + (mid + done_from (direction_by Move job) (to - mid) front) ≡ job.source + (from + done_from (direction_by Move job) (mid - from) back) + back = omega (arith, all, place_below, place_above, short) in
+      let start : job.source + (from + lowest_done (operation_direction Move job) (to - from) whole) ≡ job.source + (from + lowest_done (operation_direction Move job) (mid - from) back) = omega (arith, place, place_below, count, short) in
+      let beside : job.source + (mid + lowest_done (operation_direction Move job) (to - mid) front) ≡ job.source + (from + lowest_done (operation_direction Move job) (mid - from) back) + back = omega (arith, all, place_below, place_above, short) in
       let sum : whole ≡ back + front = omega (arith, count, all) in
       bytes_same memory _ _ _ _ start sum
       ∙ (bytes_append memory _ _ back front beside
       ∙ sym (ap (λ (b : Bool). cond b (below ++ above) above) (done_whole Move memory job mid to all))))
       (cases_lt front (to - mid))
 
-  move_staged : (direction : Direction) → direction_by Move job ≡ direction → scan_staged Move memory job from to ≡ staged_neighbours Move direction
+  move_staged : (direction : Direction) → operation_direction Move job ≡ direction → scan_staged Move memory job from to ≡ staged_neighbours Move direction
   move_staged Forward is = move_up is
   move_staged Backward is = move_down is
 
@@ -290,10 +290,10 @@ staged_none CreateDelta memory job from to _ _ = refl
 staged_none ApplyDelta memory job from to _ _ = refl
 staged_none Dualcast memory job from to _ other = absurd (other refl)
 
-pub neighbours_staged : (op : Op) (memory : Memory) (job : Job) (from mid to : ℕ) → from ≤ mid → mid ≤ to → (direction : Direction) → direction_by op job ≡ direction
+pub neighbours_staged : (op : Op) (memory : Memory) (job : Job) (from mid to : ℕ) → from ≤ mid → mid ≤ to → (direction : Direction) → operation_direction op job ≡ direction
     → scan_staged op memory job from to ≡ staged_joined direction (scan_found op memory job from mid) (scan_staged op memory job from mid) (scan_found op memory job mid to) (scan_staged op memory job mid to)
 neighbours_staged op memory job from mid to low high direction way =
-    elim op as (λ (o : Op). direction_by o job ≡ direction → staged_by o direction) [
+    elim op as (λ (o : Op). operation_direction o job ≡ direction → staged_by o direction) [
       | NoOp ↦ λ w. idle NoOp w (λ a b. staged_none NoOp memory job a b (λ e. absurd (cc)) (λ e. absurd (cc)))
       | Move ↦ λ w. move_staged memory job from mid to low high direction w
       | Fill ↦ λ w. idle Fill w (λ a b. staged_none Fill memory job a b (λ e. absurd (cc)) (λ e. absurd (cc)))

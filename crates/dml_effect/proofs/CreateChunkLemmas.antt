@@ -3,7 +3,7 @@ use Rattle.std.proofs.Common.{◌≡◌, ℕ, ◌+◌, ◌-◌, ◌<◌, ◌≤�
 use Rattle.std.proofs.lemmas.Bool.{cases_lt, eq-eqb}
 use Rattle.dml_types.specs.declared.jobs.Job.{Job}
 use Rattle.dml_types.specs.Memory.{first, Memory}
-use Rattle.dml_types.specs.Delta.{block_fault, differs, entry_for, is_readable, readable_blocks}
+use Rattle.dml_types.specs.Delta.{block_fault, differs, block_entry, is_readable, readable_blocks}
 use Rattle.dml_types.specs.Chunk.{create_fault, create_staged}
 use Rattle.dml_types.proofs.FirstLemmas.{first_le, first_agree, first_left, first_right}
 use Rattle.dml_delta.specs.Entries.{gathered}
@@ -22,7 +22,7 @@ module _ (memory : Memory) (job : Job) where
   unfolding create_fault
   fault_is from to = refl
 
-  pub staged_is : (from to : ℕ) → create_staged memory job from to ≡ gathered (entry_for memory job) (differs memory job) from (readable_blocks memory job from to)
+  pub staged_is : (from to : ℕ) → create_staged memory job from to ≡ gathered (block_entry memory job) (differs memory job) from (readable_blocks memory job from to)
   unfolding create_staged
   staged_is from to = refl
 
@@ -83,7 +83,7 @@ module _ (memory : Memory) (job : Job) where
     neighbours_staged =
         let below = create_staged memory job from mid in
         let above = create_staged memory job mid to in
-        let entries = gathered (entry_for memory job) (differs memory job) in
+        let entries = gathered (block_entry memory job) (differs memory job) in
         ⊎_elim (λ short.
         staged_is from to
         ∙ (ap (entries from) (whole_front short)
@@ -94,7 +94,7 @@ module _ (memory : Memory) (job : Job) where
         let place : from + (mid - from) ≡ mid = omega arith in
         staged_is from to
         ∙ (ap (entries from) (whole_on all)
-        ∙ (gathered_split (entry_for memory job) (differs memory job) from (mid - from) back
+        ∙ (gathered_split (block_entry memory job) (differs memory job) from (mid - from) back
         ∙ (ap₂ (λ (xs ys : List ℕ). xs ++ ys) (ap (entries from) (sym all) ∙ sym (staged_is from mid)) (ap (λ (a : ℕ). entries a back) place ∙ sym (staged_is mid to))
         ∙ sym (ap (λ (f : Option (ℕ × ℕ)). entries_joined f below above) (no_fault all))))))
         (cases_lt front (mid - from))

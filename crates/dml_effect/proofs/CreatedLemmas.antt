@@ -9,20 +9,18 @@ use Rattle.dml_types.specs.declared.records.Record.{Record}
 use Rattle.dml_types.specs.Memory.{first, Memory, IsWhole, has, has_all, present_bytes, put_of}
 use Rattle.dml_types.specs.Job.{op_of}
 use Rattle.dml_types.specs.Effect.{Effect, ended, faulted, judged, read_fault}
-use Rattle.dml_types.specs.Delta.{block_fault, created, crowded, differing, differs, entry_for, entry_room, expects, is_readable, readable_blocks, written_out}
+use Rattle.dml_types.specs.Delta.{block_number, block_fault, created, crowded, differing, differs, block_entry, entry_room, expects, is_readable, readable_blocks, written_out}
 use Rattle.dml_types.specs.Chunk.{create_fault, create_staged}
-use Rattle.dml_types.specs.Refusal.{need}
-use Rattle.dml_types.specs.Step.{effect, step}
 use Rattle.dml_types.proofs.FirstLemmas.{first_le, first_left, first_right, passes_at}
 use Rattle.dml_types.proofs.MemoryLemmas.{present_front}
-use Rattle.dml_types.proofs.StepLemmas.{step_accepted}
-use Rattle.dml_desc.specs.Checked.{IsChecked, CreateLimits}
+use Rattle.dml_desc.proofs.CheckedLemmas.{checked_step_is}
+use Rattle.dml_desc.specs.Checked.{checked_effect, checked_step, IsChecked, CreateLimits}
 use Rattle.dml_desc.proofs.CheckedLemmas.{limits_of}
 use Rattle.dml_delta.specs.Entries.{gathered}
 use Rattle.dml_delta.proofs.EntryLemmas.{length_entries}
 use Rattle.dml_delta.proofs.UnitLemmas.{has_front, units_is}
 use Rattle.dml_effect.specs.Effects.{are_present, some_puts}
-use Rattle.dml_effect.specs.Joined.{number_at, record_puts}
+use Rattle.dml_effect.specs.Joined.{record_puts}
 use Rattle.dml_effect.proofs.CreateChunkLemmas.{fault_is, fault_some, fault_none, staged_is}
 use Rattle.dml_effect.proofs.EntryLemmas.{blocks_small, entries_tens, length_tens, number_is, take_past, take_tens}
 use Rattle.dml_effect.proofs.PutLemmas.{some_put, no_put}
@@ -125,12 +123,12 @@ module _ (memory : Memory) (job : Job) (whole : IsWhole memory) (limits : Create
   abbrev room : ℕ
   room = entry_room memory job
 
-  bytes_are : bytes ≡ flat_map (entry_for memory job) blocks
+  bytes_are : bytes ≡ flat_map (block_entry memory job) blocks
   unfolding create_staged
   bytes_are = staged
 
   long : length bytes ≡ 10 * length blocks
-  long = ap (λ (xs : List ℕ). length xs) bytes_are ∙ length_tens (entry_for memory job) blocks (entries_tens memory job 0 (job.size / 8) whole)
+  long = ap (λ (xs : List ℕ). length xs) bytes_are ∙ length_tens (block_entry memory job) blocks (entries_tens memory job 0 (job.size / 8) whole)
 
   pub bytes_few : length bytes ≤ 655360
   bytes_few =
@@ -144,14 +142,14 @@ module _ (memory : Memory) (job : Job) (whole : IsWhole memory) (limits : Create
     count_blocks : count ≡ length blocks
     count_blocks = counted ∙ count_is
 
-    pub crowded_is : written < count → crowded memory job written (number_at bytes written) ≡ (created memory job).answer
+    pub crowded_is : written < count → crowded memory job written (block_number bytes written) ≡ (created memory job).answer
     unfolding created
     crowded_is short =
         let same : written ≡ room = omega arith in
         let below : room < length blocks = omega (arith, count_blocks) in
         let small = blocks_small memory job 0 (job.size / 8) (omega (arith, limits.size)) in
-        let number : number_at bytes written ≡ get_or blocks room 0 =
-        ap₂ number_at bytes_are same ∙ number_is memory job blocks room (entries_tens memory job 0 (job.size / 8) whole) small below in
+        let number : block_number bytes written ≡ get_or blocks room 0 =
+        ap₂ block_number bytes_are same ∙ number_is memory job blocks room (entries_tens memory job 0 (job.size / 8) whole) small below in
         ap₂ (crowded memory job) same number
         ∙ sym (ap (λ (b : Bool). cond b (crowded memory job room (get_or blocks room 0)) (written_out memory job (length blocks))) (lt-ltb room (length blocks) below))
 
@@ -168,10 +166,10 @@ module _ (memory : Memory) (job : Job) (whole : IsWhole memory) (limits : Create
     long_written : length (take (10 * written) bytes) ≡ 10 * written
     long_written = length-take-le (10 * written) bytes written_within
 
-    taken : flat_map (entry_for memory job) (take room blocks) ≡ take (10 * written) bytes
+    taken : flat_map (block_entry memory job) (take room blocks) ≡ take (10 * written) bytes
     taken =
-        ap (flat_map (entry_for memory job)) same_blocks
-        ∙ (sym (take_tens (entry_for memory job) blocks written (entries_tens memory job 0 (job.size / 8) whole))
+        ap (flat_map (block_entry memory job)) same_blocks
+        ∙ (sym (take_tens (block_entry memory job) blocks written (entries_tens memory job 0 (job.size / 8) whole))
         ∙ ap (take (10 * written)) (sym bytes_are))
       where
         same_blocks : take room blocks ≡ take written blocks
@@ -222,10 +220,10 @@ module _ (memory : Memory) (job : Job) (whole : IsWhole memory) (limits : Create
 
 -- a checked create's step is the equation's
 module _ (memory : Memory) (job : Job) (operation : op_of job ≡ Some CreateDelta) (checked : IsChecked job) where
-  pub answer_of_create : (created memory job).answer ≡ (step memory job (need job)).1
-  answer_of_create = ap (λ (p : Memory × Record). p.1) (sym (step_accepted memory job (need job) CreateDelta checked.accepted operation))
+  pub answer_of_create : (created memory job).answer ≡ (checked_step memory job).1
+  answer_of_create = ap (λ (p : Memory × Record). p.1) (sym (checked_step_is memory job CreateDelta checked operation))
 
-  pub puts_of_create : some_puts (created memory job).puts ≡ some_puts (effect memory job (need job)).puts
+  pub puts_of_create : some_puts (created memory job).puts ≡ some_puts (checked_effect memory job).puts
   puts_of_create = ap (λ (e : Effect). some_puts e.puts) (effect_of_checked memory job CreateDelta operation checked)
 
 -- where there is no block, there is nothing to put and no fault
@@ -237,4 +235,4 @@ module _ (memory : Memory) (job : Job) (none : job.size / 8 ≡ 0) where
   nothing_faults = sym (fault_is memory job 0 (job.size / 8) ∙ fault_none memory job (job.size / 8) (0 + readable_blocks memory job 0 (job.size / 8)) (omega (arith, none, no_readable)))
 
   pub nothing_staged : [] ≡ create_staged memory job 0 (job.size / 8)
-  nothing_staged = sym (staged_is memory job 0 (job.size / 8) ∙ ap (gathered (entry_for memory job) (differs memory job) 0) no_readable)
+  nothing_staged = sym (staged_is memory job 0 (job.size / 8) ∙ ap (gathered (block_entry memory job) (differs memory job) 0) no_readable)

@@ -8,12 +8,11 @@ use Rattle.std.proofs.lemmas.Nat.{from_le_bytes-to_le_bytes_2}
 use Rattle.std.proofs.Math.Seq.{drop-append-add, take-append-add}
 use Rattle.dml_types.specs.declared.jobs.Job.{Job}
 use Rattle.dml_types.specs.Memory.{Memory, IsWhole, has_all}
-use Rattle.dml_types.specs.Delta.{block_at, differing, differs, entry_for, is_readable, readable_blocks}
+use Rattle.dml_types.specs.Delta.{block_number, block_bytes, differing, differs, block_entry, is_readable, readable_blocks}
 use Rattle.dml_types.proofs.FirstLemmas.{first_le}
 use Rattle.dml_types.proofs.MemoryLemmas.{has_all_within, length_bytes_at}
 use Rattle.dml_delta.proofs.UnitLemmas.{readable_here}
 use Rattle.std.proofs.lemmas.Bool.{and_parts}
-use Rattle.dml_effect.specs.Joined.{number_at}
 
 -- a fact of each number of a list
 abbrev pub EachIs : (ℕ → Type 0) → List ℕ → Type 0
@@ -73,27 +72,27 @@ take_past (x ∷ xs) (suc k) past = ap (λ (ys : List ℕ). x ∷ ys) (take_past
 
 -- the entries of blocks that are readable, in a memory
 module _ (memory : Memory) (job : Job) where
-  number_there : (xs : List ℕ) (k : ℕ) → AreTens (entry_for memory job) xs → EachIs (λ x. x < 2 ^ 16) xs → k < length xs → from_le_bytes w16 (take 2 (drop (10 * k) (flat_map (entry_for memory job) xs))) ≡ get_or xs k 0
+  number_there : (xs : List ℕ) (k : ℕ) → AreTens (block_entry memory job) xs → EachIs (λ x. x < 2 ^ 16) xs → k < length xs → from_le_bytes w16 (take 2 (drop (10 * k) (flat_map (block_entry memory job) xs))) ≡ get_or xs k 0
   number_there [] k tens small below = absurd (omega arith)
   number_there (x ∷ xs) zero tens small below = from_le_bytes-to_le_bytes_2 x small.0
   number_there (x ∷ xs) (suc k) tens small below =
-      let entry = entry_for memory job x in
-      let rest = flat_map (entry_for memory job) xs in
+      let entry = block_entry memory job x in
+      let rest = flat_map (block_entry memory job) xs in
       let more : 10 * suc k ≡ length entry + 10 * k = omega (arith, tens.0) in
       ap (λ (n : ℕ). from_le_bytes w16 (take 2 (drop n (entry ++ rest)))) more
       ∙ (ap (λ (ys : List ℕ). from_le_bytes w16 (take 2 ys)) (drop-append-add entry rest (10 * k))
       ∙ number_there xs k tens.1 small.1 (omega arith))
 
   -- the number in front of entry k
-  pub number_is : (xs : List ℕ) (k : ℕ) → AreTens (entry_for memory job) xs → EachIs (λ x. x < 2 ^ 16) xs → k < length xs → number_at (flat_map (entry_for memory job) xs) k ≡ get_or xs k 0
+  pub number_is : (xs : List ℕ) (k : ℕ) → AreTens (block_entry memory job) xs → EachIs (λ x. x < 2 ^ 16) xs → k < length xs → block_number (flat_map (block_entry memory job) xs) k ≡ get_or xs k 0
   number_is xs k tens small below =
       let two : 10 * k + 2 - 10 * k ≡ 2 = omega arith in
-      ap (λ (n : ℕ). from_le_bytes w16 (take n (drop (10 * k) (flat_map (entry_for memory job) xs)))) two
+      ap (λ (n : ℕ). from_le_bytes w16 (take n (drop (10 * k) (flat_map (block_entry memory job) xs)))) two
       ∙ number_there xs k tens small below
 
-  pub entries_tens : (from to : ℕ) → IsWhole memory → AreTens (entry_for memory job) (differing memory job from to)
+  pub entries_tens : (from to : ℕ) → IsWhole memory → AreTens (block_entry memory job) (differing memory job from to)
   entries_tens from to whole =
-      each_in_range (λ x. length (entry_for memory job x) ≡ 10) (differs memory job) from (readable_blocks memory job from to)
+      each_in_range (λ x. length (block_entry memory job x) ≡ 10) (differs memory job) from (readable_blocks memory job from to)
       (λ i below.
       let address = job.target + 8 * (from + i) in
       let here : has_all memory address 8 ≡ true = (and_parts _ _ (readable_here memory job from to i below)).1 in
@@ -102,7 +101,7 @@ module _ (memory : Memory) (job : Job) where
       eight : 0 < 8
       eight = omega arith
 
-      entry_long : (b : ℕ) → length (block_at memory job.target b) ≡ 8 → length (entry_for memory job b) ≡ 10
+      entry_long : (b : ℕ) → length (block_bytes memory job.target b) ≡ 8 → length (block_entry memory job b) ≡ 10
       entry_long b long = omega (arith, long)
 
   pub blocks_small : (from to : ℕ) → to ≤ 65536 → EachIs (λ x. x < 2 ^ 16) (differing memory job from to)

@@ -12,10 +12,10 @@ use Rattle.dml_types.specs.declared.operations.Op.{Op}
 use Rattle.dml_types.specs.Job.{op_of}
 use Rattle.dml_types.specs.Memory.{Memory}
 use Rattle.dml_types.specs.Chunk.{scan_done, scan_found, scan_staged}
-use Rattle.dml_types.specs.Bytewise.{direction_by}
+use Rattle.dml_types.specs.Bytewise.{operation_direction}
 use Rattle.dml_arena.specs.Piece.{Piece}
 use Rattle.dml_scan.specs.declared.scans.ScanPiece.{ScanPiece}
-use Rattle.dml_scan.specs.Found.{done_of}
+use Rattle.dml_scan.specs.Found.{done_count}
 use Rattle.dml_scan.specs.Work.{IsWorkDirection}
 use Rattle.dml_scan.proofs.ReachLemmas.{done_found, scan_done_within}
 use Rattle.dml_effect.specs.Chunks.{IsBehind, FirstIsBehind, AreChunksFrom, IsScanFrom, scan_size, YieldsScans, IsWholeScan}
@@ -127,16 +127,16 @@ IsScanJoined op memory job direction steps whole rest =
 pub record IsJoinedSoFar {S : Type 0} (steps : S → Option ScanPiece → S → Type 0) (memory : Memory) (job : Job) (direction : Direction) (whole : Option ScanPiece) (rest : S) : Type 0 where
   pub op : Op
   pub operation : op_of job ≡ Some op
-  pub way : direction ≡ direction_by op job
+  pub way : direction ≡ operation_direction op job
   pub scans : IsScanJoined op memory job direction steps whole rest
 
 -- a chunk's value does no more than its bytes
-pub value_done : (op : Op) (memory : Memory) (job : Job) (from : ℕ) (piece : ScanPiece) → IsScanFrom op memory job from piece → done_of 0 piece.found ≤ piece.to - piece.from
+pub value_done : (op : Op) (memory : Memory) (job : Job) (from : ℕ) (piece : ScanPiece) → IsScanFrom op memory job from piece → done_count 0 piece.found ≤ piece.to - piece.from
 value_done op memory job from piece value =
-    let found : done_of (piece.to - from) piece.found ≡ scan_done op memory job from piece.to = ap (done_of (piece.to - from)) value.found ∙ done_found op memory job from piece.to in
+    let found : done_count (piece.to - from) piece.found ≡ scan_done op memory job from piece.to = ap (done_count (piece.to - from)) value.found ∙ done_found op memory job from piece.to in
     omega (arith, found, scan_done_within op memory job from piece.to, fewer (piece.to - from) piece.found, value.begins)
   where
-    fewer : (n : ℕ) (found : Found) → done_of 0 found ≤ done_of n found
+    fewer : (n : ℕ) (found : Found) → done_count 0 found ≤ done_count n found
     fewer n All = omega arith
     fewer n (Differs done) = omega arith
     fewer n (Fault done place write) = omega arith

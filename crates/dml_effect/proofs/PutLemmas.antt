@@ -3,12 +3,12 @@ use Rattle.std.proofs.Common.{◌≡◌, ℕ, suc, ◌+◌, ◌-◌, ◌*◌, �
 use Rattle.std.specs.List.{range_with_len}
 use Rattle.std.proofs.lemmas.Bool.{and_parts}
 use Rattle.std.proofs.lemmas.List.{places}
+use Rattle.dml_types.specs.Delta.{block_number}
 use Rattle.dml_types.specs.Memory.{Memory, IsMemory, Put, has_all, put, put_of, puts_made}
 use Rattle.dml_types.proofs.MemoryLemmas.{put_nil}
 use Rattle.dml_image.proofs.RangeLemmas.{range_fits}
 use Rattle.dml_effect.specs.Applies.{block_put}
 use Rattle.dml_effect.specs.Effects.{are_present, some_puts}
-use Rattle.dml_effect.specs.Joined.{number_at}
 
 -- a put with bytes stays, and one without goes
 pub some_put : (address : ℕ) (bytes : List ℕ) (puts : List Put) → 0 < length bytes → some_puts (put_of address bytes ∷ puts) ≡ put_of address bytes ∷ some_puts puts
@@ -43,9 +43,9 @@ module _ (memory : Memory) (target : ℕ) (entries : List ℕ) (i : ℕ) (below 
       let more : length entries / 10 - i ≡ suc (length entries / 10 - (i + 1)) = omega (arith, below) in
       ap (λ (n : ℕ). map (block_put target entries) (range_with_len i n)) more
 
-  module _ (number : ℕ) (is : number ≡ number_at entries i) (present : are_present memory (left_from i) ≡ true) where
-    parts : (has_all memory (target + 8 * number_at entries i) (length block) ≡ true) × (are_present memory (left_from (i + 1)) ≡ true)
-    parts = and_parts (has_all memory (target + 8 * number_at entries i) (length block)) (are_present memory (left_from (i + 1))) (ap (are_present memory) (sym next_block) ∙ present)
+  module _ (number : ℕ) (is : number ≡ block_number entries i) (present : are_present memory (left_from i) ≡ true) where
+    parts : (has_all memory (target + 8 * block_number entries i) (length block) ≡ true) × (are_present memory (left_from (i + 1)) ≡ true)
+    parts = and_parts (has_all memory (target + 8 * block_number entries i) (length block)) (are_present memory (left_from (i + 1))) (ap (are_present memory) (sym next_block) ∙ present)
 
     pub block_present : has_all memory (target + 8 * number) (length block) ≡ true
     block_present = ap (λ (k : ℕ). has_all memory (target + 8 * k) (length block)) is ∙ parts.0

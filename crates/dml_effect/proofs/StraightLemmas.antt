@@ -7,19 +7,17 @@ use Rattle.dml_types.specs.declared.operations.Direction.{Direction}
 use Rattle.dml_types.specs.declared.operations.Direction.TheVariants.{Forward, Backward}
 use Rattle.dml_types.specs.declared.operations.Op.TheVariants.{Move, Dualcast}
 use Rattle.dml_types.specs.Job.{op_of, span}
-use Rattle.dml_types.specs.Memory.{Memory, IsWhole, has_all, bytes_at, offset_in, put}
-use Rattle.dml_types.specs.Bytewise.{direction_by, result_of, done_from, length_of, moved, dualcast, passes}
+use Rattle.dml_types.specs.Memory.{Memory, IsWhole, has_all, bytes_at, worked_offset, put}
+use Rattle.dml_types.specs.Bytewise.{operation_direction, result_of, lowest_done, length_of, moved, dualcast, passes}
 use Rattle.dml_types.specs.Chunk.{scan_found}
-use Rattle.dml_types.specs.Refusal.{need}
-use Rattle.dml_types.specs.Step.{step}
 use Rattle.dml_types.proofs.FirstLemmas.{first_le}
 use Rattle.dml_types.proofs.MemoryLemmas.{bytes_at_none, put_nil, length_bytes_at, has_all_within, read_beside}
-use Rattle.dml_types.proofs.StepLemmas.{step_accepted}
-use Rattle.dml_desc.specs.Checked.{IsChecked, DualcastLimits, PairLimits}
+use Rattle.dml_desc.proofs.CheckedLemmas.{checked_step_is}
+use Rattle.dml_desc.specs.Checked.{checked_step, IsChecked, DualcastLimits, PairLimits}
 use Rattle.dml_desc.proofs.CheckedLemmas.{apart_ends, limits_of}
 use Rattle.dml_effect.specs.Joined.{copied_record}
 use Rattle.dml_effect.proofs.WholeLemmas.{move_source, move_target, dualcast_source, dualcast_target, dualcast_second, copied_count, whole_move, whole_dualcast, answer_of_move, answer_of_dualcast}
-use Rattle.dml_scan.specs.Found.{done_of}
+use Rattle.dml_scan.specs.Found.{done_count}
 use Rattle.dml_scan.proofs.ReachLemmas.{done_found}
 
 put_none : (memory : Memory) (address : ℕ) (bytes : List ℕ) → bytes ≡ [] → put memory address bytes ≡ memory
@@ -30,18 +28,18 @@ pub move_count : (memory : Memory) (job : Job) (size outcome : ℕ) (found : Fou
 move_count memory job size outcome found long is =
     let whole : job.size ≡ job.size - 0 = omega arith in
     ap₂ (λ (n : ℕ) (f : Found). (copied_record n outcome f).completed) long (is ∙ ap (scan_found Move memory job 0) long)
-    ∙ (copied_count job.size outcome (scan_found Move memory job 0 job.size) ∙ (ap (λ (n : ℕ). done_of n (scan_found Move memory job 0 job.size)) whole ∙ (done_found Move memory job 0 job.size ∙ whole_move memory job)))
+    ∙ (copied_count job.size outcome (scan_found Move memory job 0 job.size) ∙ (ap (λ (n : ℕ). done_count n (scan_found Move memory job 0 job.size)) whole ∙ (done_found Move memory job 0 job.size ∙ whole_move memory job)))
 
 pub dualcast_count : (memory : Memory) (job : Job) (size outcome : ℕ) (found : Found) → size ≡ job.size → found ≡ scan_found Dualcast memory job 0 size → (copied_record size outcome found).completed ≡ length_of Dualcast memory job
 dualcast_count memory job size outcome found long is =
     let whole : job.size ≡ job.size - 0 = omega arith in
     ap₂ (λ (n : ℕ) (f : Found). (copied_record n outcome f).completed) long (is ∙ ap (scan_found Dualcast memory job 0) long)
-    ∙ (copied_count job.size outcome (scan_found Dualcast memory job 0 job.size) ∙ (ap (λ (n : ℕ). done_of n (scan_found Dualcast memory job 0 job.size)) whole ∙ (done_found Dualcast memory job 0 job.size ∙ whole_dualcast memory job)))
+    ∙ (copied_count job.size outcome (scan_found Dualcast memory job 0 job.size) ∙ (ap (λ (n : ℕ). done_count n (scan_found Dualcast memory job 0 job.size)) whole ∙ (done_found Dualcast memory job 0 job.size ∙ whole_dualcast memory job)))
 
 -- a move
-module _ (memory : Memory) (job : Job) (source target first done : ℕ) (from_source : source ≡ job.source) (to_target : target ≡ job.target) (count : done ≡ length_of Move memory job) (begins : first ≡ done_from (direction_by Move job) job.size done) where
-  begins_at : first ≡ done_from (direction_by Move job) job.size (length_of Move memory job)
-  begins_at = begins ∙ ap (done_from (direction_by Move job) job.size) count
+module _ (memory : Memory) (job : Job) (source target first done : ℕ) (from_source : source ≡ job.source) (to_target : target ≡ job.target) (count : done ≡ length_of Move memory job) (begins : first ≡ lowest_done (operation_direction Move job) job.size done) where
+  begins_at : first ≡ lowest_done (operation_direction Move job) job.size (length_of Move memory job)
+  begins_at = begins ∙ ap (lowest_done (operation_direction Move job) job.size) count
 
   pub move_reads : has_all memory (source + first) done ≡ true
   move_reads = ap₂ (has_all memory) (ap₂ (λ (a b : ℕ). a + b) from_source begins_at) count ∙ move_source memory job
@@ -50,13 +48,13 @@ module _ (memory : Memory) (job : Job) (source target first done : ℕ) (from_so
   move_writes = ap₂ (has_all memory) (ap₂ (λ (a b : ℕ). a + b) to_target begins_at) count ∙ move_target memory job
 
   module _ (checked : IsChecked job) (operation : op_of job ≡ Some Move) where
-    pub moved_image : put memory (target + first) (bytes_at memory (source + first) done) ≡ (step memory job (need job)).0
+    pub moved_image : put memory (target + first) (bytes_at memory (source + first) done) ≡ (checked_step memory job).0
     unfolding moved
     moved_image =
         ap₂ (put memory) (ap₂ (λ (a b : ℕ). a + b) to_target begins_at) (ap₂ (bytes_at memory) (ap₂ (λ (a b : ℕ). a + b) from_source begins_at) count)
-        ∙ ap (λ (p : Memory × Record). p.0) (sym (step_accepted memory job (need job) Move checked.accepted operation))
+        ∙ ap (λ (p : Memory × Record). p.0) (sym (checked_step_is memory job Move checked operation))
 
-    pub moved_nothing : done ≡ 0 → memory ≡ (step memory job (need job)).0
+    pub moved_nothing : done ≡ 0 → memory ≡ (checked_step memory job).0
     moved_nothing none =
         sym (put_none memory (target + first) (bytes_at memory (source + first) done) (bytes_at_none memory (source + first) done none)) ∙ moved_image
 
@@ -72,18 +70,18 @@ module _ (memory : Memory) (job : Job) (source target extra done : ℕ) (from_so
   dualcast_writes_second = ap₂ (has_all memory) to_extra count ∙ dualcast_second memory job
 
   module _ (checked : IsChecked job) (operation : op_of job ≡ Some Dualcast) where
-    done_twice : put (put memory target (bytes_at memory source done)) extra (bytes_at memory source done) ≡ (step memory job (need job)).0
+    done_twice : put (put memory target (bytes_at memory source done)) extra (bytes_at memory source done) ≡ (checked_step memory job).0
     unfolding dualcast
     done_twice =
         ap₂ (λ (t : ℕ) (bytes : List ℕ). put (put memory t bytes) extra bytes) to_target (ap₂ (bytes_at memory) from_source count)
         ∙ (ap (λ (e : ℕ). put (put memory job.target (bytes_at memory job.source (length_of Dualcast memory job))) e (bytes_at memory job.source (length_of Dualcast memory job))) to_extra
-        ∙ ap (λ (p : Memory × Record). p.0) (sym (step_accepted memory job (need job) Dualcast checked.accepted operation)))
+        ∙ ap (λ (p : Memory × Record). p.0) (sym (checked_step_is memory job Dualcast checked operation)))
 
     -- the first put leaves the source as it stood
     source_stays : IsWhole memory → 0 < done → bytes_at (put memory target (bytes_at memory source done)) source done ≡ bytes_at memory source done
     source_stays whole some =
         let limits : DualcastLimits job = limits_of Dualcast job checked operation in
-        let short : done ≤ job.size = omega (arith, count, first_le job.size (λ i. not (passes Dualcast memory job (offset_in (direction_by Dualcast job) job.size i)))) in
+        let short : done ≤ job.size = omega (arith, count, first_le job.size (λ i. not (passes Dualcast memory job (worked_offset (operation_direction Dualcast job) job.size i)))) in
         let read = has_all_within memory source done whole dualcast_reads some in
         let written = has_all_within memory target done whole dualcast_writes some in
         let long : length (bytes_at memory source done) ≡ done = length_bytes_at memory source done read in
@@ -91,37 +89,37 @@ module _ (memory : Memory) (job : Job) (source target extra done : ℕ) (from_so
         read_beside memory target (bytes_at memory source done) source done (omega (arith, long))
         (⊎_elim (λ before. inr (omega (arith, long, from_source, to_target))) (λ behind. inl (omega (arith, from_source, to_target))) ends)
 
-    pub dualcast_image : IsWhole memory → 0 < done → put (put memory target (bytes_at memory source done)) extra (bytes_at (put memory target (bytes_at memory source done)) source done) ≡ (step memory job (need job)).0
+    pub dualcast_image : IsWhole memory → 0 < done → put (put memory target (bytes_at memory source done)) extra (bytes_at (put memory target (bytes_at memory source done)) source done) ≡ (checked_step memory job).0
     dualcast_image whole some =
         ap (put (put memory target (bytes_at memory source done)) extra) (source_stays whole some) ∙ done_twice
 
-    pub dualcast_nothing : done ≡ 0 → memory ≡ (step memory job (need job)).0
+    pub dualcast_nothing : done ≡ 0 → memory ≡ (checked_step memory job).0
     dualcast_nothing none =
         let empty = bytes_at_none memory source done none in
         sym (ap (λ (m : Memory). put m extra (bytes_at memory source done)) (put_none memory target (bytes_at memory source done) empty) ∙ put_none memory extra (bytes_at memory source done) empty) ∙ done_twice
 
 -- a move as the code carries it out: its job as it was read, how its scan ended, its record, and its lowest done offset
-module _ (memory : Memory) (job given : Job) (direction : Direction) (found : Found) (answer : Record) (same : given ≡ job) (checked : IsChecked job) (operation : op_of job ≡ Some Move) (way : direction ≡ direction_by Move job) (is : found ≡ scan_found Move memory job 0 given.size) (told : answer ≡ copied_record given.size (result_of direction) found) where
+module _ (memory : Memory) (job given : Job) (direction : Direction) (found : Found) (answer : Record) (same : given ≡ job) (checked : IsChecked job) (operation : op_of job ≡ Some Move) (way : direction ≡ operation_direction Move job) (is : found ≡ scan_found Move memory job 0 given.size) (told : answer ≡ copied_record given.size (result_of direction) found) where
   move_done : answer.completed ≡ length_of Move memory job
   move_done = ap (λ (r : Record). r.completed) told ∙ move_count memory job given.size (result_of direction) found (ap (λ (j : Job). j.size) same) is
 
   pub straight_within : answer.completed ≤ given.size
   straight_within =
-      omega (arith, move_done, ap (λ (j : Job). j.size) same, first_le job.size (λ i. not (passes Move memory job (offset_in (direction_by Move job) job.size i))))
+      omega (arith, move_done, ap (λ (j : Job). j.size) same, first_le job.size (λ i. not (passes Move memory job (worked_offset (operation_direction Move job) job.size i))))
 
-  pub straight_answer : answer ≡ (step memory job (need job)).1
+  pub straight_answer : answer ≡ (checked_step memory job).1
   straight_answer =
       told
       ∙ (ap₂ (λ (n : ℕ) (d : Direction). copied_record n (result_of d) found) (ap (λ (j : Job). j.size) same) way
-      ∙ (ap (copied_record job.size (result_of (direction_by Move job))) (is ∙ ap (λ (j : Job). scan_found Move memory job 0 j.size) same)
-      ∙ (answer_of_move memory job ∙ ap (λ (p : Memory × Record). p.1) (sym (step_accepted memory job (need job) Move checked.accepted operation)))))
+      ∙ (ap (copied_record job.size (result_of (operation_direction Move job))) (is ∙ ap (λ (j : Job). scan_found Move memory job 0 j.size) same)
+      ∙ (answer_of_move memory job ∙ ap (λ (p : Memory × Record). p.1) (sym (checked_step_is memory job Move checked operation)))))
 
-  pub straight_nothing : answer.completed ≡ 0 → memory ≡ (step memory job (need job)).0
-  straight_nothing none = moved_nothing memory job job.source job.target (done_from (direction_by Move job) job.size answer.completed) answer.completed refl refl move_done refl checked operation none
+  pub straight_nothing : answer.completed ≡ 0 → memory ≡ (checked_step memory job).0
+  straight_nothing none = moved_nothing memory job job.source job.target (lowest_done (operation_direction Move job) job.size answer.completed) answer.completed refl refl move_done refl checked operation none
 
-  module _ (first : ℕ) (begins : first ≡ done_from direction given.size answer.completed) where
-    begins_there : first ≡ done_from (direction_by Move job) job.size answer.completed
-    begins_there = begins ∙ ap₂ (λ (d : Direction) (n : ℕ). done_from d n answer.completed) way (ap (λ (j : Job). j.size) same)
+  module _ (first : ℕ) (begins : first ≡ lowest_done direction given.size answer.completed) where
+    begins_there : first ≡ lowest_done (operation_direction Move job) job.size answer.completed
+    begins_there = begins ∙ ap₂ (λ (d : Direction) (n : ℕ). lowest_done d n answer.completed) way (ap (λ (j : Job). j.size) same)
 
     pub straight_reads : has_all memory (given.source + first) answer.completed ≡ true
     straight_reads = move_reads memory job given.source given.target first answer.completed (ap (λ (j : Job). j.source) same) (ap (λ (j : Job). j.target) same) move_done begins_there
@@ -129,7 +127,7 @@ module _ (memory : Memory) (job given : Job) (direction : Direction) (found : Fo
     pub straight_writes : has_all memory (given.target + first) answer.completed ≡ true
     straight_writes = move_writes memory job given.source given.target first answer.completed (ap (λ (j : Job). j.source) same) (ap (λ (j : Job). j.target) same) move_done begins_there
 
-    pub straight_image : put memory (given.target + first) (bytes_at memory (given.source + first) answer.completed) ≡ (step memory job (need job)).0
+    pub straight_image : put memory (given.target + first) (bytes_at memory (given.source + first) answer.completed) ≡ (checked_step memory job).0
     straight_image = moved_image memory job given.source given.target first answer.completed (ap (λ (j : Job). j.source) same) (ap (λ (j : Job). j.target) same) move_done begins_there checked operation
 
     pub straight_places : 0 < answer.completed → (given.source + first < 2 ^ 64) × (given.target + first < 2 ^ 64)
@@ -141,7 +139,7 @@ module _ (memory : Memory) (job given : Job) (direction : Direction) (found : Fo
         let low : first < given.size = below direction begins in
         (omega (arith, limits.source), omega (arith, limits.target))
       where
-        below : (d : Direction) → first ≡ done_from d given.size answer.completed → first < given.size
+        below : (d : Direction) → first ≡ lowest_done d given.size answer.completed → first < given.size
         below Forward at = omega (arith, straight_within)
         below Backward at = omega (arith, straight_within)
 
@@ -150,12 +148,12 @@ module _ (memory : Memory) (job given : Job) (found : Found) (answer : Record) (
   twice_done : answer.completed ≡ length_of Dualcast memory job
   twice_done = ap (λ (r : Record). r.completed) told ∙ dualcast_count memory job given.size 0 found (ap (λ (j : Job). j.size) same) is
 
-  pub twice_answer : answer ≡ (step memory job (need job)).1
+  pub twice_answer : answer ≡ (checked_step memory job).1
   twice_answer =
       told
       ∙ (ap (λ (n : ℕ). copied_record n 0 found) (ap (λ (j : Job). j.size) same)
       ∙ (ap (copied_record job.size 0) (is ∙ ap (λ (j : Job). scan_found Dualcast memory job 0 j.size) same)
-      ∙ (answer_of_dualcast memory job ∙ ap (λ (p : Memory × Record). p.1) (sym (step_accepted memory job (need job) Dualcast checked.accepted operation)))))
+      ∙ (answer_of_dualcast memory job ∙ ap (λ (p : Memory × Record). p.1) (sym (checked_step_is memory job Dualcast checked operation)))))
 
   pub twice_reads : has_all memory given.source answer.completed ≡ true
   twice_reads = dualcast_reads memory job given.source given.target given.extra answer.completed (ap (λ (j : Job). j.source) same) (ap (λ (j : Job). j.target) same) (ap (λ (j : Job). j.extra) same) twice_done
@@ -166,8 +164,8 @@ module _ (memory : Memory) (job given : Job) (found : Found) (answer : Record) (
   pub twice_writes_second : has_all memory given.extra answer.completed ≡ true
   twice_writes_second = dualcast_writes_second memory job given.source given.target given.extra answer.completed (ap (λ (j : Job). j.source) same) (ap (λ (j : Job). j.target) same) (ap (λ (j : Job). j.extra) same) twice_done
 
-  pub twice_image : IsWhole memory → 0 < answer.completed → put (put memory given.target (bytes_at memory given.source answer.completed)) given.extra (bytes_at (put memory given.target (bytes_at memory given.source answer.completed)) given.source answer.completed) ≡ (step memory job (need job)).0
+  pub twice_image : IsWhole memory → 0 < answer.completed → put (put memory given.target (bytes_at memory given.source answer.completed)) given.extra (bytes_at (put memory given.target (bytes_at memory given.source answer.completed)) given.source answer.completed) ≡ (checked_step memory job).0
   twice_image = dualcast_image memory job given.source given.target given.extra answer.completed (ap (λ (j : Job). j.source) same) (ap (λ (j : Job). j.target) same) (ap (λ (j : Job). j.extra) same) twice_done checked operation
 
-  pub twice_nothing : answer.completed ≡ 0 → memory ≡ (step memory job (need job)).0
+  pub twice_nothing : answer.completed ≡ 0 → memory ≡ (checked_step memory job).0
   twice_nothing = dualcast_nothing memory job given.source given.target given.extra answer.completed (ap (λ (j : Job). j.source) same) (ap (λ (j : Job). j.target) same) (ap (λ (j : Job). j.extra) same) twice_done checked operation

@@ -1,16 +1,16 @@
--- Entries of a delta record in a list of bytes as puts, and what two neighbouring chunks of an apply say of one another.
+-- Entries of a delta record in a list of bytes as puts, and what two neighbouring chunks of an apply say of one
+-- another.
 use Rattle.std.specs.Prelude.{ℕ, ◌+◌, ◌*◌, ◌/◌, Bool, false, List, map, length, Option, None, Some, nat_le, slice_range}
 use Rattle.std.specs.List.{range_with_len}
 use Rattle.dml_types.specs.declared.records.Record.{Record}
 use Rattle.dml_types.specs.Memory.{Put, put_of}
 use Rattle.dml_types.specs.Effect.{Fault}
-use Rattle.dml_types.specs.Delta.{apply_answer}
-use Rattle.dml_effect.specs.Joined.{number_at}
+use Rattle.dml_types.specs.Delta.{apply_answer, block_number}
 
 -- entry x as a put: its 8 bytes, at the block that it numbers
 abbrev pub block_put : ℕ → List ℕ → ℕ → Put
 block_put target entries x =
-    put_of (target + 8 * number_at entries x) (slice_range entries (10 * x + 2) (10 * x + 10))
+    put_of (target + 8 * block_number entries x) (slice_range entries (10 * x + 2) (10 * x + 10))
 
 -- all of them, in their order
 abbrev pub block_puts : ℕ → List ℕ → List Put

@@ -1,6 +1,5 @@
 -- How two neighbouring chunks of a job end together, and what a job does whose scan ended so.
-use Rattle.std.specs.Prelude.{ℕ, ◌+◌, ◌*◌, Bool, true, false, Option, None, Some, List, [], ◌∷◌, ◌++◌, if◌then◌else◌, ◌==◌, nat_eq, slice_range, take}
-use Rattle.std.specs.Int.{from_le_bytes, w16}
+use Rattle.std.specs.Prelude.{ℕ, ◌+◌, ◌*◌, Bool, true, false, Option, None, Some, List, [], ◌∷◌, ◌++◌, if◌then◌else◌, ◌==◌, nat_eq, take}
 use Rattle.dml_types.specs.declared.findings.Found.{Found}
 use Rattle.dml_types.specs.declared.findings.Found.TheVariants.{All, Differs, Fault as Stopped}
 use Rattle.dml_types.specs.declared.jobs.Job.{Job}
@@ -12,7 +11,7 @@ use Rattle.dml_types.specs.declared.records.Record.{Record}
 use Rattle.dml_types.specs.declared.statuses.Status.TheVariants.{Success}
 use Rattle.dml_types.specs.Memory.{Put, put_of}
 use Rattle.dml_types.specs.Effect.{Fault, read_fault, write_fault, ended, faulted, judged}
-use Rattle.dml_types.specs.Bytewise.{done_from, pattern_bytes, result_of}
+use Rattle.dml_types.specs.Bytewise.{lowest_done, pattern_bytes, result_of}
 
 -- an end, counted from n offsets before
 abbrev pub after : ℕ → Found → Found
@@ -20,7 +19,7 @@ after n All = All
 after n (Differs done) = Differs (n + done)
 after n (Stopped done place write) = Stopped (n + done) place write
 
--- of two parts in the order of work, the first of which has n offsets: the first one's stop, else the second one's
+-- of two parts in the order of work, the first of which has n offsets: the first one's stop, else the second's
 abbrev pub then_found : ℕ → Found → Found → Found
 then_found n All next = after n next
 then_found n (Differs done) next = Differs done
@@ -38,7 +37,8 @@ is_over Forward (Differs done) = true
 is_over Forward (Stopped done place write) = true
 is_over Backward found = false
 
--- two neighbouring chunks of n and m offsets: how they end together, and the bytes that they stage, in address order
+-- two neighbouring chunks of n and m offsets: how they end together, and the bytes that they stage, in address
+-- order
 abbrev pub found_joined : Direction → ℕ → Found → ℕ → Found → Found
 found_joined Forward n below m above = then_found n below above
 found_joined Backward n below m above = then_found m above below
@@ -71,13 +71,15 @@ scanned_record op job direction found = copied_record job.size (result_of direct
 
 -- the puts of a job that did so many bytes, one at least
 abbrev pub puts_when_done : Op → Job → Direction → ℕ → List ℕ → List Put
-puts_when_done Move job direction done bytes = put_of (job.target + done_from direction job.size done) bytes ∷ []
+puts_when_done Move job direction done bytes =
+    put_of (job.target + lowest_done direction job.size done) bytes ∷ []
 puts_when_done Dualcast job direction done bytes = put_of job.target bytes ∷ put_of job.extra bytes ∷ []
 puts_when_done Fill job direction done bytes = put_of job.target (pattern_bytes job.source done) ∷ []
 puts_when_done _ job direction done bytes = []
 
-abbrev pub puts_by : Op → Job → Direction → ℕ → List ℕ → List Put
-puts_by op job direction done bytes = if nat_eq done 0 then [] else puts_when_done op job direction done bytes
+abbrev pub scanned_puts : Op → Job → Direction → ℕ → List ℕ → List Put
+scanned_puts op job direction done bytes =
+    if nat_eq done 0 then [] else puts_when_done op job direction done bytes
 
 -- two neighbouring chunks of a create: the fault of both, and their entries
 abbrev pub fault_joined : Option (ℕ × ℕ) → Option (ℕ × ℕ) → Option (ℕ × ℕ)
@@ -87,10 +89,6 @@ fault_joined (Some fault) above = Some fault
 abbrev pub entries_joined : Option (ℕ × ℕ) → List ℕ → List ℕ → List ℕ
 entries_joined None low high = low ++ high
 entries_joined (Some fault) low high = low
-
--- the number in front of an entry
-abbrev pub number_at : List ℕ → ℕ → ℕ
-number_at entries x = from_le_bytes w16 (slice_range entries (10 * x) (10 * x + 2))
 
 -- the put of a create's first n entries, one at least
 abbrev pub record_puts : Job → ℕ → List ℕ → List Put

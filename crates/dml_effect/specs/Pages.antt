@@ -10,4 +10,5 @@ pub record IsPages (content : List ℕ) : Type 0 where
 
 -- the memory of these bytes, with each page present
 abbrev pub all_present : List ℕ → Memory
-all_present content = record { present = replicate (length content / page_size) true; bytes = content; home = None }
+all_present content =
+    record { present = replicate (length content / page_size) true; bytes = content; home = None }

@@ -7,8 +7,9 @@ ghost use Rattle.dml_types.specs.declared.statuses.Status.TheVariants.{NotRising
 ghost use Rattle.dml_types.specs.Job.{op_of};
 ghost use Rattle.dml_types.specs.Memory.{puts_made};
 ghost use Rattle.dml_types.specs.Refusal.{need};
-ghost use Rattle.dml_types.specs.Step.{effect, step};
+ghost use Rattle.dml_types.specs.Step.{effect};
 ghost use Rattle.dml_delta.specs.Bad.{bad_of};
+ghost use Rattle.dml_desc.specs.Checked.{checked_effect, checked_step};
 ghost use Rattle.dml_effect.specs.Applies.{applied_record, falls};
 ghost use Rattle.dml_effect.specs.Chunks.{IsApplyFrom, IsBehind, IsWholeApply, YieldsApplies};
 ghost use Rattle.dml_effect.specs.Effects.{are_present, some_puts};
@@ -33,9 +34,9 @@ pub fn join_apply<'a, I: Iterator<Item = ApplyPiece<'a>> + Drop>(
     requires can { I.can_next pieces }
     requires ends { IsFinite (I.remaining pieces) }
     requires chunks { YieldsApplies I.next_gives image.now job.now pieces }
-    ensures answer { result.answer ≡ (step image.now job.now (need job.now)).1 }
-    ensures puts { result.puts ≡ some_puts (effect image.now job.now (need job.now)).puts }
-    ensures image { puts_made image.now result.puts ≡ (step image.now job.now (need job.now)).0 }
+    ensures answer { result.answer ≡ (checked_step image.now job.now).1 }
+    ensures puts { result.puts ≡ some_puts (checked_effect image.now job.now).puts }
+    ensures image { puts_made image.now result.puts ≡ (checked_step image.now job.now).0 }
     ensures present { IsTrue (are_present image.now result.puts) }
 {
     let whole = join_pieces(image, job, pieces);
@@ -129,12 +130,12 @@ fn stop_before(
 fn effect_of<'a>(image: &Image, job: &Checked, whole: Option<ApplyPiece<'a>>) -> Effect<'a>
     requires operation { op_of job.now ≡ Some ApplyDelta }
     requires whole { IsWholeApply image.now job.now whole }
-    ensures answer { result.answer ≡ (step image.now job.now (need job.now)).1 }
-    ensures puts { result.puts ≡ some_puts (effect image.now job.now (need job.now)).puts }
-    ensures image { puts_made image.now result.puts ≡ (step image.now job.now (need job.now)).0 }
+    ensures answer { result.answer ≡ (checked_step image.now job.now).1 }
+    ensures puts { result.puts ≡ some_puts (checked_effect image.now job.now).puts }
+    ensures image { puts_made image.now result.puts ≡ (checked_step image.now job.now).0 }
     ensures present { IsTrue (are_present image.now result.puts) }
 {
-    let _pages = image.pages();
+    let _pages = image.pages(); // says what every image keeps
     let target = job.job().target;
     match whole {
         None => Effect {

@@ -5,14 +5,15 @@ ghost use Rattle.dml_types.specs.Job.{op_of};
 ghost use Rattle.dml_types.specs.Memory.{puts_made};
 ghost use Rattle.dml_types.specs.Refusal.{need};
 ghost use Rattle.dml_types.specs.Step.{step};
+ghost use Rattle.dml_desc.specs.Checked.{checked_step};
 ghost use Rattle.dml_effect.specs.Chunks.{IsWholeScan};
 ghost use Rattle.dml_effect.specs.Effects.{are_present};
 
 use crate::applying::join_apply;
 use crate::creating::join_create;
 use crate::effects::{Effect, commit};
-use crate::joining::{first_done, join_found};
-use crate::records::{copied_record, ended};
+use crate::joining::join_found;
+use crate::records::{by_fields, copied_record, ended};
 use dml_arena::{Arena, Region};
 use dml_delta::{scan_apply, scan_create};
 use dml_desc::{Checked, check};
@@ -33,7 +34,7 @@ pub fn submit_to(image: &mut Image, arena: &mut Arena, job: &Job, staging: u32) 
     ensures arena { arena.new ≡ arena.old }
 {
     match check(job, staging) {
-        Ok(checked) => carry_out(image, arena, &checked),
+        Ok(checked) => by_fields(carry_out(image, arena, &checked)),
         Err(status) => Record::refused(status),
     }
 }
@@ -43,18 +44,18 @@ pub fn submit_to(image: &mut Image, arena: &mut Arena, job: &Job, staging: u32) 
 /// A move and a dualcast go straight within the image, which has no other job. Nothing is allocated.
 pub fn carry_out(image: &mut Image, arena: &mut Arena, job: &Checked) -> Record
     requires staging { need job.now ≤ arena.old.size }
-    ensures image { image.new ≡ (step image.old job.now (need job.now)).0 }
-    ensures answer { result ≡ (step image.old job.now (need job.now)).1 }
+    ensures image { image.new ≡ (checked_step image.old job.now).0 }
+    ensures answer { result ≡ (checked_step image.old job.now).1 }
     ensures arena { arena.new ≡ arena.old }
 {
     match job.op() {
         Op::NoOp => ended(Status::Success, 0, 0),
-        Op::Move => move_straight(image, job),
-        Op::Dualcast => dualcast_straight(image, job),
+        Op::Move => by_fields(move_straight(image, job)),
+        Op::Dualcast => by_fields(dualcast_straight(image, job)),
         _ => {
             let room = arena.open();
             let effect = whole_effect(image, job, room);
-            commit(image, effect)
+            by_fields(commit(image, effect))
         }
     }
 }
@@ -63,8 +64,8 @@ pub fn carry_out(image: &mut Image, arena: &mut Arena, job: &Checked) -> Record
 #[tactic(auto, using(crate::proofs::StraightLemmas::straight_places))]
 fn move_straight(image: &mut Image, job: &Checked) -> Record
     requires operation { op_of job.now ≡ Some Move }
-    ensures image { image.new ≡ (step image.old job.now (need job.now)).0 }
-    ensures answer { result ≡ (step image.old job.now (need job.now)).1 }
+    ensures image { image.new ≡ (checked_step image.old job.now).0 }
+    ensures answer { result ≡ (checked_step image.old job.now).1 }
 {
     let direction = work_direction(job);
     let &Job {
@@ -79,7 +80,7 @@ fn move_straight(image: &mut Image, job: &Checked) -> Record
     if done == 0 {
         return answer; // the ranges may end at 2^64
     }
-    let first = u64::from(first_done(direction, size, done));
+    let first = u64::from(direction.lowest_done(size, done));
     image.move_within(source + first, target + first, done);
     answer
 }
@@ -87,8 +88,8 @@ fn move_straight(image: &mut Image, job: &Checked) -> Record
 /// Carries out a dualcast within the image, with no stage: the first destination shares no byte with the source.
 fn dualcast_straight(image: &mut Image, job: &Checked) -> Record
     requires operation { op_of job.now ≡ Some Dualcast }
-    ensures image { image.new ≡ (step image.old job.now (need job.now)).0 }
-    ensures answer { result ≡ (step image.old job.now (need job.now)).1 }
+    ensures image { image.new ≡ (checked_step image.old job.now).0 }
+    ensures answer { result ≡ (checked_step image.old job.now).1 }
 {
     let &Job {
         source,
@@ -101,7 +102,7 @@ fn dualcast_straight(image: &mut Image, job: &Checked) -> Record
     let answer = copied_record(size, Direction::Forward, found);
     let done = answer.completed;
     if done > 0 {
-        let _pages = image.pages();
+        let _pages = image.pages(); // says what every image keeps
         image.move_within(source, target, done);
         image.move_within(source, extra, done);
     }
@@ -113,8 +114,8 @@ fn whole_effect<'a>(image: &Image, job: &Checked, room: Region<'a>) -> Effect<'a
     requires operation { (op_of job.now ≢ Some NoOp) × (op_of job.now ≢ Some Move) × (op_of job.now ≢ Some Dualcast) }
     requires empty { room.bytes ≡ [] }
     requires fits { need job.now ≤ room.room }
-    ensures answer { result.answer ≡ (step image.now job.now (need job.now)).1 }
-    ensures image { puts_made image.now result.puts ≡ (step image.now job.now (need job.now)).0 }
+    ensures answer { result.answer ≡ (checked_step image.now job.now).1 }
+    ensures image { puts_made image.now result.puts ≡ (checked_step image.now job.now).0 }
     ensures present { IsTrue (are_present image.now result.puts) }
 {
     match job.op() {
@@ -128,8 +129,8 @@ fn whole_effect<'a>(image: &Image, job: &Checked, room: Region<'a>) -> Effect<'a
 fn scan_in<'a>(image: &Image, job: &Checked, room: Region<'a>) -> Effect<'a>
     requires operation { (op_of job.now ≡ Some Fill) ⊎ (op_of job.now ≡ Some Compare) ⊎ (op_of job.now ≡ Some ComparePattern) }
     requires empty { room.bytes ≡ [] }
-    ensures answer { result.answer ≡ (step image.now job.now (need job.now)).1 }
-    ensures image { puts_made image.now result.puts ≡ (step image.now job.now (need job.now)).0 }
+    ensures answer { result.answer ≡ (checked_step image.now job.now).1 }
+    ensures image { puts_made image.now result.puts ≡ (checked_step image.now job.now).0 }
     ensures present { IsTrue (are_present image.now result.puts) }
 {
     let piece = scan_whole(image, job, room);
@@ -155,8 +156,8 @@ fn create_in<'a>(image: &Image, job: &Checked, room: Region<'a>) -> Effect<'a>
     requires operation { op_of job.now ≡ Some CreateDelta }
     requires empty { room.bytes ≡ [] }
     requires fits { need job.now ≤ room.room }
-    ensures answer { result.answer ≡ (step image.now job.now (need job.now)).1 }
-    ensures image { puts_made image.now result.puts ≡ (step image.now job.now (need job.now)).0 }
+    ensures answer { result.answer ≡ (checked_step image.now job.now).1 }
+    ensures image { puts_made image.now result.puts ≡ (checked_step image.now job.now).0 }
     ensures present { IsTrue (are_present image.now result.puts) }
 {
     let blocks = job.job().size / 8;
@@ -169,8 +170,8 @@ fn apply_in<'a>(image: &Image, job: &Checked, room: Region<'a>) -> Effect<'a>
     requires operation { op_of job.now ≡ Some ApplyDelta }
     requires empty { room.bytes ≡ [] }
     requires fits { need job.now ≤ room.room }
-    ensures answer { result.answer ≡ (step image.now job.now (need job.now)).1 }
-    ensures image { puts_made image.now result.puts ≡ (step image.now job.now (need job.now)).0 }
+    ensures answer { result.answer ≡ (checked_step image.now job.now).1 }
+    ensures image { puts_made image.now result.puts ≡ (checked_step image.now job.now).0 }
     ensures present { IsTrue (are_present image.now result.puts) }
 {
     let entries = job.job().delta_size / 10;

@@ -9,19 +9,20 @@ ghost use Rattle.dml_types.specs.Delta.{created, entry_room};
 ghost use Rattle.dml_types.specs.Delta as delta;
 ghost use Rattle.dml_types.specs.Chunk.{create_fault, create_staged};
 ghost use Rattle.dml_types.specs.Refusal.{need};
-ghost use Rattle.dml_types.specs.Step.{effect, step};
+ghost use Rattle.dml_types.specs.Step.{effect};
+ghost use Rattle.dml_desc.specs.Checked.{checked_effect, checked_step};
 ghost use Rattle.dml_effect.specs.Chunks.{IsBehind, IsWholeCreate, YieldsCreates};
 ghost use Rattle.dml_effect.specs.Effects.{are_present, puts_of, some_puts};
 ghost use Rattle.dml_effect.specs.Joined.{entries_joined, fault_joined};
 ghost use Rattle.dml_effect.specs.Joined as joined;
 
-use crate::effects::{Effect, Puts, number_at};
+use crate::effects::{Effect, Puts};
 use crate::records::judged;
 use dml_arena::Region;
 use dml_delta::CreatePiece;
 use dml_desc::Checked;
 use dml_image::Image;
-use dml_types::{Direction, Job, Record, Status};
+use dml_types::{Job, Record, Status, block_number};
 
 /// Joins the pieces of all chunks of a create, upwards, to its effect. A create of no byte may have none.
 ///
@@ -36,9 +37,9 @@ pub fn join_create<'a, I: Iterator<Item = CreatePiece<'a>> + Drop>(
     requires can { I.can_next pieces }
     requires ends { IsFinite (I.remaining pieces) }
     requires chunks { YieldsCreates I.next_gives image.now job.now pieces }
-    ensures answer { result.answer ≡ (step image.now job.now (need job.now)).1 }
-    ensures puts { result.puts ≡ some_puts (effect image.now job.now (need job.now)).puts }
-    ensures image { puts_made image.now result.puts ≡ (step image.now job.now (need job.now)).0 }
+    ensures answer { result.answer ≡ (checked_step image.now job.now).1 }
+    ensures puts { result.puts ≡ some_puts (checked_effect image.now job.now).puts }
+    ensures image { puts_made image.now result.puts ≡ (checked_step image.now job.now).0 }
     ensures present { IsTrue (are_present image.now result.puts) }
 {
     let whole = join_pieces(image, job, pieces);
@@ -96,13 +97,13 @@ fn join_neighbours<'a>(below: CreatePiece<'a>, above: CreatePiece<'a>) -> Create
 fn effect_of<'a>(image: &Image, job: &Checked, whole: Option<CreatePiece<'a>>) -> Effect<'a>
     requires operation { op_of job.now ≡ Some CreateDelta }
     requires whole { IsWholeCreate image.now job.now whole }
-    ensures answer { result.answer ≡ (step image.now job.now (need job.now)).1 }
-    ensures puts { result.puts ≡ some_puts (effect image.now job.now (need job.now)).puts }
-    ensures image { puts_made image.now result.puts ≡ (step image.now job.now (need job.now)).0 }
+    ensures answer { result.answer ≡ (checked_step image.now job.now).1 }
+    ensures puts { result.puts ≡ some_puts (checked_effect image.now job.now).puts }
+    ensures image { puts_made image.now result.puts ≡ (checked_step image.now job.now).0 }
     ensures present { IsTrue (are_present image.now result.puts) }
 {
-    let _pages = image.pages();
-    let _checked = job.job();
+    let _pages = image.pages(); // says what every image keeps
+    let _checked = job.job(); // says what every checked job keeps
     match whole {
         None => Effect {
             answer: finished(image, job, None, 0),
@@ -133,11 +134,11 @@ fn created_record(
     requires room { room ≡ min (length entries.now / 10) (entry_room image.now job.now) }
     ensures { result ≡ (created image.now job.now).answer }
 {
-    let _pages = image.pages();
-    let _checked = job.job();
+    let _pages = image.pages(); // says what every image keeps
+    let _checked = job.job(); // says what every checked job keeps
     let count = entries.len() as u32 / 10;
     if room < count {
-        crowded(image, job, room, number_at(entries, room as usize))
+        crowded(image, job, room, block_number(entries, room as usize))
     } else {
         finished(image, job, fault, count)
     }
@@ -153,18 +154,7 @@ fn room_for(image: &Image, job: &Checked, entries: u32) -> u32
 {
     let job = job.job();
     let most = entries.min(job.delta_size / 10);
-    present_bytes(image, job.extra, 10 * most) / 10
-}
-
-/// The bytes of a range before its first absent one.
-fn present_bytes(image: &Image, addr: u64, len: u32) -> u32
-    requires { addr + len ≤ 2 ^ 64 }
-    ensures count { result ≡ memory.present_bytes image.now addr len }
-    ensures within { result ≤ len }
-{
-    image
-        .first_absent(addr, len, Direction::Forward)
-        .unwrap_or(len)
+    image.present_bytes(job.extra, 10 * most) / 10
 }
 
 /// The completion record of a create whose entry for a block has no room: overflow where the maximum is reached, else
@@ -192,7 +182,7 @@ fn crowded(image: &Image, job: &Checked, room: u32, block: u16) -> Record
         status: Status::WriteFault,
         result: 0,
         completed,
-        fault: place + u64::from(present_bytes(image, place, 10)),
+        fault: place + u64::from(image.present_bytes(place, 10)),
         delta_size,
     }
 }

@@ -3,15 +3,14 @@ ghost use Rattle.std.specs.Prelude.{◌≡◌, ◌+◌, ◌*◌, ◌≤◌, leng
 ghost use Rattle.dml_types.specs.Memory.{IsMemory, puts_made};
 ghost use Rattle.dml_effect.specs.Applies.{block_puts};
 ghost use Rattle.dml_effect.specs.Effects.{are_present, puts_of};
-ghost use Rattle.dml_effect.specs.Joined.{number_at};
 
 use dml_arena::Region;
 use dml_image::Image;
-use dml_types::Record;
+use dml_types::{Record, block_number};
 use std::marker::Model;
 
-/// The bytes of an entry: 2 of its block's number, and 8 of the block.
-const ENTRY: usize = 10;
+/// The bytes of an entry.
+const ENTRY: usize = dml_types::ENTRY as usize;
 
 /// What a job does: its completion record, and the bytes that it puts.
 ///
@@ -94,18 +93,10 @@ fn put_blocks(image: &mut Image, target: u64, entries: &[u8])
     requires present { IsTrue (are_present image.old (block_puts target entries.now)) }
     ensures image { image.new ≡ puts_made image.old (block_puts target entries.now) }
 {
-    let _pages = image.pages();
+    let _pages = image.pages(); // says what every image keeps
     let count = entries.len() / ENTRY;
     for i in 0..count {
-        let addr = target + 8 * u64::from(number_at(entries, i));
+        let addr = target + 8 * u64::from(block_number(entries, i));
         image.write(addr, &entries[ENTRY * i + 2..ENTRY * i + ENTRY]);
     }
-}
-
-/// The number in front of an entry: that of its block.
-pub(crate) fn number_at(entries: &[u8], i: usize) -> u16
-    requires { 10 * i + 2 ≤ length entries.now }
-    ensures { result ≡ number_at entries.now i }
-{
-    u16::from_le_bytes([entries[ENTRY * i], entries[ENTRY * i + 1]])
 }

@@ -6,11 +6,12 @@ ghost use Rattle.dml_types.specs.declared.operations.Op.TheVariants.{ApplyDelta,
 ghost use Rattle.dml_types.specs.Job.{op_of};
 ghost use Rattle.dml_types.specs.Memory.{IsMemory, puts_made};
 ghost use Rattle.dml_types.specs.Refusal.{need};
-ghost use Rattle.dml_types.specs.Step.{effect, step};
-ghost use Rattle.dml_types.specs.Bytewise.{done_from, direction_by};
-ghost use Rattle.dml_scan.specs.Found.{done_of};
+ghost use Rattle.dml_types.specs.Step.{effect};
+ghost use Rattle.dml_types.specs.Bytewise.{lowest_done, operation_direction};
+ghost use Rattle.dml_scan.specs.Found.{done_count};
 ghost use Rattle.dml_scan.specs.Work.{IsWorkDirection};
-ghost use Rattle.dml_effect.specs.Chunks.{IsScanned, IsWholeScan, IsBehind, YieldsScans};
+ghost use Rattle.dml_desc.specs.Checked.{checked_effect, checked_step};
+ghost use Rattle.dml_effect.specs.Chunks.{GoesByOffsets, IsWholeScan, IsBehind, YieldsScans};
 ghost use Rattle.dml_effect.specs.Effects.{are_present, puts_of, some_puts};
 ghost use Rattle.dml_effect.specs.Joined.{found_joined, is_over, staged_joined};
 ghost use Rattle.dml_effect.specs.Joined as joined;
@@ -32,13 +33,13 @@ pub fn join_found<'a, I: Iterator<Item = ScanPiece<'a>> + Drop>(
     job: &Checked,
     pieces: I,
 ) -> Effect<'a>
-    requires operation { IsScanned job.now }
+    requires operation { GoesByOffsets job.now }
     requires can { I.can_next pieces }
     requires ends { IsFinite (I.remaining pieces) }
     requires chunks { YieldsScans I.next_gives image.now job.now pieces }
-    ensures answer { result.answer ≡ (step image.now job.now (need job.now)).1 }
-    ensures puts { result.puts ≡ some_puts (effect image.now job.now (need job.now)).puts }
-    ensures image { puts_made image.now result.puts ≡ (step image.now job.now (need job.now)).0 }
+    ensures answer { result.answer ≡ (checked_step image.now job.now).1 }
+    ensures puts { result.puts ≡ some_puts (checked_effect image.now job.now).puts }
+    ensures image { puts_made image.now result.puts ≡ (checked_step image.now job.now).0 }
     ensures present { IsTrue (are_present image.now result.puts) }
 {
     let direction = work_direction(job);
@@ -77,8 +78,8 @@ fn join_neighbours<'a>(
 ) -> ScanPiece<'a>
     requires beside { is_over direction below.found ≡ false → IsBehind below.staged above.staged }
     requires order { (below.from ≤ below.to) × (above.from ≡ below.to) × (above.from ≤ above.to) }
-    requires below_done { done_of 0 below.found ≤ below.to - below.from }
-    requires above_done { done_of 0 above.found ≤ above.to - above.from }
+    requires below_done { done_count 0 below.found ≤ below.to - below.from }
+    requires above_done { done_count 0 above.found ≤ above.to - above.from }
     ensures chunk { (result.from ≡ below.entry.from) × (result.to ≡ above.entry.to) }
     ensures found { result.found ≡ found_joined direction (below.entry.to - below.entry.from) below.entry.found (above.entry.to - above.entry.from) above.entry.found }
     ensures staged { result.staged.bytes ≡ staged_joined direction below.entry.found below.entry.staged.bytes above.entry.found above.entry.staged.bytes }
@@ -110,7 +111,7 @@ fn join_neighbours<'a>(
 
 /// How two parts end together, in the order of work; the first has `len` offsets.
 fn then_found(len: u32, first: Found, next: Found) -> Found
-    requires { len + done_of 0 next < 2 ^ 32 }
+    requires { len + done_count 0 next < 2 ^ 32 }
     ensures { result ≡ joined.then_found len first next }
 {
     match first {
@@ -121,7 +122,7 @@ fn then_found(len: u32, first: Found, next: Found) -> Found
 
 /// How a part ended, counted from `len` offsets before it.
 fn after(len: u32, found: Found) -> Found
-    requires { len + done_of 0 found < 2 ^ 32 }
+    requires { len + done_count 0 found < 2 ^ 32 }
     ensures { result ≡ joined.after len found }
 {
     match found {
@@ -142,15 +143,15 @@ fn effect_of<'a>(
     direction: Direction,
     whole: Option<ScanPiece<'a>>,
 ) -> Effect<'a>
-    requires operation { IsScanned job.now }
+    requires operation { GoesByOffsets job.now }
     requires direction { IsWorkDirection job.now direction }
     requires whole { IsWholeScan image.now job.now whole }
-    ensures answer { result.answer ≡ (step image.now job.now (need job.now)).1 }
-    ensures puts { result.puts ≡ some_puts (effect image.now job.now (need job.now)).puts }
-    ensures image { puts_made image.now result.puts ≡ (step image.now job.now (need job.now)).0 }
+    ensures answer { result.answer ≡ (checked_step image.now job.now).1 }
+    ensures puts { result.puts ≡ some_puts (checked_effect image.now job.now).puts }
+    ensures image { puts_made image.now result.puts ≡ (checked_step image.now job.now).0 }
     ensures present { IsTrue (are_present image.now result.puts) }
 {
-    let _pages = image.pages();
+    let _pages = image.pages(); // says what every image keeps
     let op = job.op();
     let job = job.job();
     match whole {
@@ -160,24 +161,30 @@ fn effect_of<'a>(
         },
         Some(piece) => {
             let answer = scanned_record(op, job, direction, piece.found);
-            let puts = puts_by(op, job, direction, answer.completed, piece.staged);
+            let puts = scanned_puts(op, job, direction, answer.completed, piece.staged);
             Effect { answer, puts }
         }
     }
 }
 
 /// The puts of a job that did `done` bytes of its range.
-fn puts_by<'a>(op: Op, job: &Job, direction: Direction, done: u32, staged: Region<'a>) -> Puts<'a>
+fn scanned_puts<'a>(
+    op: Op,
+    job: &Job,
+    direction: Direction,
+    done: u32,
+    staged: Region<'a>,
+) -> Puts<'a>
     requires within { done ≤ job.now.size }
     requires ends { op ≡ Op.Move → job.now.target + job.now.size ≤ 2 ^ 64 }
-    ensures { puts_of result ≡ joined.puts_by op job.now direction done staged.entry.bytes }
+    ensures { puts_of result ≡ joined.scanned_puts op job.now direction done staged.entry.bytes }
 {
     if done == 0 {
         return Puts::Nothing;
     }
     match op {
         Op::Move => Puts::Staged {
-            first: job.target + u64::from(first_done(direction, job.size, done)),
+            first: job.target + u64::from(direction.lowest_done(job.size, done)),
             second: None,
             bytes: staged,
         },
@@ -192,16 +199,5 @@ fn puts_by<'a>(op: Op, job: &Job, direction: Direction, done: u32, staged: Regio
             pattern: job.source,
         },
         _ => Puts::Nothing,
-    }
-}
-
-/// The lowest of the `done` offsets that come first where `len` offsets are worked on in a direction.
-pub fn first_done(direction: Direction, len: u32, done: u32) -> u32
-    requires { done ≤ len }
-    ensures { result ≡ done_from direction len done }
-{
-    match direction {
-        Direction::Forward => 0,
-        Direction::Backward => len - done,
     }
 }

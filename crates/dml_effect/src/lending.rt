@@ -6,22 +6,21 @@ ghost use Rattle.dml_effect.specs.Pages.{IsPages, all_present};
 
 use crate::carrying::submit_to;
 use dml_arena::Arena;
-use dml_image::Lent;
+use dml_image::{Lent, MAX_PAGES, PAGE_SIZE};
 use dml_types::{Job, Record};
 
-const PAGE_SIZE: usize = 4096;
-
-const MAX_PAGES: usize = 4096;
+/// The most pages.
+const MOST: usize = MAX_PAGES as usize;
 
 /// The presence of pages that are all present.
-static PRESENT: [bool; MAX_PAGES] = [true; MAX_PAGES];
+static PRESENT: [bool; MOST] = [true; MOST];
 
 /// Whether these bytes are 1 to 4,096 whole pages.
 pub fn are_pages(content: &[u8]) -> bool
     ensures { IsTrue result ↔ IsPages content.now }
 {
     let len = content.len();
-    len % PAGE_SIZE == 0 && len >= PAGE_SIZE && len <= MAX_PAGES * PAGE_SIZE
+    len % PAGE_SIZE == 0 && len >= PAGE_SIZE && len <= MOST * PAGE_SIZE
 }
 
 /// Checks a job and carries it out over the caller's bytes, which are 1 to 4,096 whole pages from address 0 on, all

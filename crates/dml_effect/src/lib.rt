@@ -18,6 +18,8 @@ mod joining;
 mod lending;
 mod records;
 #[cfg(test)]
+mod resume_tests;
+#[cfg(test)]
 mod tests;
 #[cfg(test)]
 mod uses;

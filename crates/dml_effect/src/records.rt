@@ -7,6 +7,28 @@ ghost use Rattle.dml_effect.specs.Joined as joined;
 use bitflags::Flags;
 use dml_types::{Direction, Found, Job, JobFlags, Op, Record, Status};
 
+/// The same record. It is made of its fields again, since a record that is one of several is else copied in parts that
+/// overlap, and the read of the last part waits for the writes.
+#[inline(always)]
+pub fn by_fields(outcome: Record) -> Record
+    ensures { result ≡ outcome }
+{
+    let Record {
+        status,
+        result,
+        completed,
+        fault,
+        delta_size,
+    } = outcome;
+    Record {
+        status,
+        result,
+        completed,
+        fault,
+        delta_size,
+    }
+}
+
 /// The completion record of a job, by how its scan ended.
 pub fn scanned_record(op: Op, job: &Job, direction: Direction, found: Found) -> Record
     ensures { result ≡ joined.scanned_record op job.now direction found }

@@ -5,8 +5,9 @@ ghost use Rattle.dml_types.specs.Chunk.{scan_found, scan_staged};
 ghost use Rattle.dml_types.specs.Job.{op_of};
 ghost use Rattle.dml_types.specs.Memory.{puts_made};
 ghost use Rattle.dml_types.specs.Refusal.{need};
-ghost use Rattle.dml_types.specs.Step.{effect, step};
+ghost use Rattle.dml_types.specs.Step.{effect};
 ghost use Rattle.dml_arena.specs.Piece.{SamePlace};
+ghost use Rattle.dml_desc.specs.Checked.{checked_effect, checked_step};
 ghost use Rattle.dml_effect.specs.Effects.{are_present, some_puts};
 
 use crate::applying::join_apply;
@@ -28,9 +29,9 @@ pub fn moved_in_two<'a>(image: &Image, job: &Checked, edge: u32, room: Region<'a
     requires edge { edge ≤ job.now.size }
     requires empty { room.bytes ≡ [] }
     requires fits { job.now.size ≤ room.room }
-    ensures answer { result.answer ≡ (step image.now job.now (need job.now)).1 }
-    ensures puts { result.puts ≡ some_puts (effect image.now job.now (need job.now)).puts }
-    ensures image { puts_made image.now result.puts ≡ (step image.now job.now (need job.now)).0 }
+    ensures answer { result.answer ≡ (checked_step image.now job.now).1 }
+    ensures puts { result.puts ≡ some_puts (checked_effect image.now job.now).puts }
+    ensures image { puts_made image.now result.puts ≡ (checked_step image.now job.now).0 }
     ensures present { IsTrue (are_present image.now result.puts) }
 {
     let size = job.job().size;
@@ -52,8 +53,8 @@ pub fn created_in_chunks<'a>(
     requires some { 0 < chunk }
     requires empty { room.bytes ≡ [] }
     requires fits { need job.now ≤ room.room }
-    ensures answer { IfOk result (λ done. done.answer ≡ (step image.now job.now (need job.now)).1) }
-    ensures puts { IfOk result (λ done. done.puts ≡ some_puts (effect image.now job.now (need job.now)).puts) }
+    ensures answer { IfOk result (λ done. done.answer ≡ (checked_step image.now job.now).1) }
+    ensures puts { IfOk result (λ done. done.puts ≡ some_puts (checked_effect image.now job.now).puts) }
     ensures present { IfOk result (λ done. IsTrue (are_present image.now done.puts)) }
 {
     let blocks = job.job().size / 8;
@@ -81,8 +82,8 @@ pub fn compared_in_chunks<'a>(
     requires operation { (op_of job.now ≡ Some Compare) ⊎ (op_of job.now ≡ Some ComparePattern) }
     requires some { 0 < chunk }
     requires empty { room.bytes ≡ [] }
-    ensures answer { IfOk result (λ done. done.answer ≡ (step image.now job.now (need job.now)).1) }
-    ensures puts { IfOk result (λ done. done.puts ≡ some_puts (effect image.now job.now (need job.now)).puts) }
+    ensures answer { IfOk result (λ done. done.answer ≡ (checked_step image.now job.now).1) }
+    ensures puts { IfOk result (λ done. done.puts ≡ some_puts (checked_effect image.now job.now).puts) }
     ensures present { IfOk result (λ done. IsTrue (are_present image.now done.puts)) }
 {
     let op = job.op();
@@ -137,9 +138,9 @@ pub fn applied_in_three<'a>(
     requires edges { (low ≤ high) × (high ≤ job.now.delta_size / 10) }
     requires empty { room.bytes ≡ [] }
     requires fits { job.now.delta_size ≤ room.room }
-    ensures answer { result.answer ≡ (step image.now job.now (need job.now)).1 }
-    ensures puts { result.puts ≡ some_puts (effect image.now job.now (need job.now)).puts }
-    ensures image { puts_made image.now result.puts ≡ (step image.now job.now (need job.now)).0 }
+    ensures answer { result.answer ≡ (checked_step image.now job.now).1 }
+    ensures puts { result.puts ≡ some_puts (checked_effect image.now job.now).puts }
+    ensures image { puts_made image.now result.puts ≡ (checked_step image.now job.now).0 }
     ensures present { IsTrue (are_present image.now result.puts) }
 {
     let count = job.job().delta_size / 10;
@@ -155,9 +156,9 @@ pub fn applied_in_three<'a>(
 pub fn applied_in_none<'a>(image: &Image, job: &Checked) -> Effect<'a>
     requires operation { op_of job.now ≡ Some ApplyDelta }
     requires nothing { job.now.delta_size ≡ 0 }
-    ensures answer { result.answer ≡ (step image.now job.now (need job.now)).1 }
-    ensures puts { result.puts ≡ some_puts (effect image.now job.now (need job.now)).puts }
-    ensures image { puts_made image.now result.puts ≡ (step image.now job.now (need job.now)).0 }
+    ensures answer { result.answer ≡ (checked_step image.now job.now).1 }
+    ensures puts { result.puts ≡ some_puts (checked_effect image.now job.now).puts }
+    ensures image { puts_made image.now result.puts ≡ (checked_step image.now job.now).0 }
     ensures present { IsTrue (are_present image.now result.puts) }
 {
     join_apply(image, job, iter::empty())

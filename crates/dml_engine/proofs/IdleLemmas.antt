@@ -10,13 +10,13 @@ use Rattle.dml_types.specs.declared.operations.Op.{Op}
 use Rattle.dml_types.specs.declared.operations.Op.TheVariants.{NoOp, Move, Fill, Compare, ComparePattern, CreateDelta, ApplyDelta, Dualcast}
 use Rattle.dml_types.specs.declared.statuses.Status.TheVariants.{Success}
 use Rattle.dml_types.specs.Effect.{ended}
-use Rattle.dml_types.specs.Job.{no_op_job}
+use Rattle.dml_types.specs.Job.{no_op_job, unfenced}
 use Rattle.dml_types.specs.Memory.{Memory}
 use Rattle.dml_types.specs.Refusal.{refusal}
 use Rattle.dml_types.specs.Step.{step}
 use Rattle.dml_types.proofs.StepLemmas.{step_refused, step_accepted}
 use Rattle.dml_desc.specs.Checked.{operation_of}
-use Rattle.dml_desc.proofs.CheckedLemmas.{has_operation, checked_where_accepted}
+use Rattle.dml_desc.proofs.CheckedLemmas.{has_operation, checked_where_accepted, unfenced_where_accepted}
 use Rattle.dml_order.specs.Order.{run_all}
 use Rattle.dml_levels.specs.Laws.{Progress, begun, carried, unless_refused}
 use Rattle.dml_levels.specs.Waves.{job_at}
@@ -110,3 +110,17 @@ busy_run jobs staging (i ∷ wave) now opened places =
           busy_run jobs staging wave now opened rest
           ∙ ap (λ state. run_all (carried jobs staging) state wave) (idle_stays jobs staging now i opened below idle)
     ] refl
+
+-- a job as far as it does anything has no fence
+free_unless_refused : (job : Job) (staging : ℕ) → unfenced (unless_refused staging job) ≡ unless_refused staging job
+free_unless_refused job staging =
+    elim (refusal job staging) as (λ r. refusal job staging ≡ r → unfenced (cond (is_some r) no_op_job job) ≡ cond (is_some r) no_op_job job) [
+      | Some status ↦ λ is. refl
+      | None ↦ λ is. unfenced_where_accepted job staging is
+    ] refl
+
+pub free_checked : (jobs : List Job) (staging : ℕ) → map unfenced (map (unless_refused staging) jobs) ≡ map (unless_refused staging) jobs
+free_checked [] staging = refl
+free_checked (job ∷ jobs) staging =
+    ap (λ (first : Job). first ∷ map unfenced (map (unless_refused staging) jobs)) (free_unless_refused job staging)
+    ∙ ap (λ (rest : List Job). unless_refused staging job ∷ rest) (free_checked jobs staging)

@@ -4,11 +4,12 @@ use Rattle.std.proofs.lemmas.Bool.{cases_eq}
 use Rattle.std.proofs.lemmas.List.{drop_all, drop_more, get_or-set_same, get_or-set_other, length-map}
 use Rattle.dml_types.specs.declared.jobs.Job.{Job}
 use Rattle.dml_types.specs.declared.records.Record.{Record}
-use Rattle.dml_types.specs.Conflict.{clash_of, levels, levels_of}
+use Rattle.dml_types.specs.Conflict.{fenced_clash, fenced_levels, levels_of}
 use Rattle.dml_types.specs.Memory.{Memory, IsWhole}
 use Rattle.dml_order.specs.Order.{run_all}
 use Rattle.dml_order.specs.Waves.{joined, waves_of}
 use Rattle.dml_order.proofs.OrderLemmas.{run_all_append}
+use Rattle.dml_levels.specs.Fences.{FencesOnlyAdd}
 use Rattle.dml_levels.specs.Laws.{ClashesWithoutRefusedHold, HoldsConflicts, Progress, WavesInOrder, begun, carried, in_list_order, unless_refused}
 use Rattle.dml_levels.specs.Waves.{fits_wave, waves}
 
@@ -27,15 +28,15 @@ waves_done after list at now end past before =
     sym (ap (λ (w : List (List ℕ)). run_all after now (joined w)) (drop_all at list past)) ∙ before
 
 -- the waves of the jobs as far as they do anything give what the list gives
-pub waves_give : WavesInOrder → ClashesWithoutRefusedHold → (memory : Memory) (jobs checked : List Job) (staging room chunk : ℕ) (blank : List Record) (list : List (List ℕ)) → IsWhole memory → length blank ≡ length jobs → checked ≡ map (unless_refused staging) jobs → list ≡ waves checked (levels checked) room chunk → run_all (carried jobs staging) (begun memory blank) (joined list) ≡ in_list_order memory jobs staging
-waves_give in_order hold memory jobs checked staging room chunk blank list whole size same cut =
+pub waves_give : WavesInOrder → ClashesWithoutRefusedHold → FencesOnlyAdd → (memory : Memory) (jobs checked : List Job) (staging room chunk : ℕ) (blank : List Record) (list : List (List ℕ)) → IsWhole memory → length blank ≡ length jobs → checked ≡ map (unless_refused staging) jobs → list ≡ waves checked (fenced_levels checked) room chunk → run_all (carried jobs staging) (begun memory blank) (joined list) ≡ in_list_order memory jobs staging
+waves_give in_order hold only_add memory jobs checked staging room chunk blank list whole size same cut =
     let fits = fits_wave checked room chunk in
-    let clash = clash_of checked in
+    let clash = fenced_clash checked in
     let count : length checked ≡ length jobs = ap length same ∙ length-map jobs (unless_refused staging) in
     ap (λ (w : List (List ℕ)). run_all (carried jobs staging) (begun memory blank) (joined w))
     (cut ∙ ap (λ n. waves_of fits (levels_of clash n)) count)
     ∙ in_order memory jobs staging blank clash fits whole size
-    (subst (λ (list : List Job). HoldsConflicts (clash_of list) jobs staging) (sym same) (hold jobs staging))
+    (subst (λ (list : List Job). HoldsConflicts (fenced_clash list) jobs staging) (sym same) (only_add jobs (map (unless_refused staging) jobs) staging (hold jobs staging)))
 
 -- one record more is written
 pub record_more : (records : List Record) (want : ℕ → Record) (i : ℕ) (r d : Record) → i < length records → ((k : ℕ) → k < i → get_or records k d ≡ want k) → r ≡ want i → (k : ℕ) → k < i + 1 → get_or (set records i r) k d ≡ want k

@@ -6,7 +6,7 @@ use Rattle.std.proofs.lemmas.List.Elements.{All-nil, All-cons}
 use Rattle.std.proofs.lemmas.List.Folds.{list_any-append}
 use Rattle.std.specs.Prelude.{nat_eq, slice_index}
 use Rattle.dml_types.specs.declared.jobs.Job.{Job}
-use Rattle.dml_types.specs.Conflict.{clash_of, conflict, levels}
+use Rattle.dml_types.specs.Conflict.{fenced_clash, fenced_levels, conflict}
 use Rattle.dml_order.specs.Order.{IsOrder, is_in}
 use Rattle.dml_order.specs.Waves.{IsOfOneLevel, Rises, joined}
 use Rattle.dml_order.proofs.LevelLemmas.{levels_rise}
@@ -41,14 +41,14 @@ AreApartPlaces jobs order whole =
     (before behind : List ℕ) (i k : ℕ) → order ≡ before ++ k ∷ behind → is_in i before ≡ true
     → is_in i whole ≡ true → is_in k whole ≡ true → conflict (job_at jobs i) (job_at jobs k) ≡ false
 
-apart_places : (jobs : List Job) (order whole : List ℕ) → IsOrder (clash_of jobs) (length jobs) order → Rises (levels jobs) order → IsOfOneLevel (levels jobs) whole → AreApartPlaces jobs order whole
+apart_places : (jobs : List Job) (order whole : List ℕ) → IsOrder (fenced_clash jobs) (length jobs) order → Rises (fenced_levels jobs) order → IsOfOneLevel (fenced_levels jobs) whole → AreApartPlaces jobs order whole
 apart_places jobs order whole once rises level before behind i k split earlier first second =
-    let same : slice_index (levels jobs) i ≡ slice_index (levels jobs) k = level i k first second in
+    let same : slice_index (fenced_levels jobs) i ≡ slice_index (fenced_levels jobs) k = level i k first second in
     let below : k < length jobs = once.below k (ap (is_in k) split ∙ in_right k before (k ∷ behind) (in_head k behind)) in
     let low : i < k =
-    ⊎_elim (λ less. absurd (omega (arith, less, same))) (λ (both : (slice_index (levels jobs) i ≡ slice_index (levels jobs) k) × (i < k)). both.1) (rises before behind k i split earlier) in
+    ⊎_elim (λ less. absurd (omega (arith, less, same))) (λ (both : (slice_index (fenced_levels jobs) i ≡ slice_index (fenced_levels jobs) k) × (i < k)). both.1) (rises before behind k i split earlier) in
     false_from_ne_true (conflict (job_at jobs i) (job_at jobs k))
-    (λ clash. absurd (omega (arith, levels_rise (clash_of jobs) (length jobs) i k low below clash, same)))
+    (λ clash. absurd (omega (arith, levels_rise (fenced_clash jobs) (length jobs) i k low below (or_left (conflict (job_at jobs i) (job_at jobs k)) _ clash), same)))
 
 apart_from : (jobs : List Job) (order whole before : List ℕ) (i : ℕ) (wave behind : List ℕ) → AreApartPlaces jobs order whole → order ≡ before ++ (wave ++ behind) → is_in i before ≡ true → is_in i whole ≡ true → ((k : ℕ) → is_in k wave ≡ true → is_in k whole ≡ true) → All (λ k. conflict (job_at jobs i) (job_at jobs k) ≡ false) wave
 apart_from jobs order whole before i [] behind apart split earlier first inside = All-nil (λ k. conflict (job_at jobs i) (job_at jobs k) ≡ false)
@@ -74,7 +74,7 @@ around waves at d below =
     ∙ (joined_append (take at waves) (drop at waves)
     ∙ ap (λ (rest : List (List ℕ)). joined (take at waves) ++ joined rest) (drop_more waves at d below))
 
-pub all_ready : (jobs : List Job) (staging chunk : ℕ) (waves : List (List ℕ)) → IsOrder (clash_of jobs) (length jobs) (joined waves) → Rises (levels jobs) (joined waves) → All (IsOfOneLevel (levels jobs)) waves → All (IsSmall jobs staging chunk) waves → All (IsReady jobs staging chunk) waves
+pub all_ready : (jobs : List Job) (staging chunk : ℕ) (waves : List (List ℕ)) → IsOrder (fenced_clash jobs) (length jobs) (joined waves) → Rises (fenced_levels jobs) (joined waves) → All (IsOfOneLevel (fenced_levels jobs)) waves → All (IsSmall jobs staging chunk) waves → All (IsReady jobs staging chunk) waves
 all_ready jobs staging chunk waves once rises level small at d below =
     let wave = get_or waves at d in
     let before = joined (take at waves) in

@@ -1,2 +1,4 @@
+pub mod Batches
 pub mod Lists
+pub mod Loads
 pub mod State

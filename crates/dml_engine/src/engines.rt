@@ -1,5 +1,6 @@
-ghost use Rattle.std.specs.Prelude.{◌≡◌, ◌≢◌, ◌↔◌, ◌≤◌, IfErr, IfOk, IsOk, IsTrue, OnErr, OnOk, length};
+ghost use Rattle.std.specs.Prelude.{◌≡◌, ◌≢◌, ◌↔◌, ◌≤◌, IfErr, IfOk, IsOk, IsTrue, OnErr, OnOk, false, length, map, true};
 ghost use Rattle.dml_types.specs.Memory.{has_all, put};
+ghost use Rattle.dml_types.specs.Job.{unfenced};
 ghost use Rattle.dml_types.specs.Limits.{IsValid};
 ghost use Rattle.dml_types.specs.Step.{step};
 ghost use Rattle.dml_image.specs.Brought.{brought, has_page};
@@ -9,7 +10,6 @@ ghost use Rattle.dml_wave.specs.Waves.{busy};
 ghost use Rattle.dml_engine.specs.Lists.{IsReady};
 
 use crate::errors::EngineError;
-use crate::loads::Load;
 use dml_arena::Arena;
 use dml_desc::Checked;
 use dml_effect::submit_to;
@@ -42,7 +42,7 @@ impl<G> Model for Engine<G> {
     ghost use Rattle.std.specs.Prelude.{◌≡◌};
     ghost use Rattle.dml_types.specs.Limits.{IsValid};
 
-    ghost view = { λ e. record { image = e.image; settings = e.settings } };
+    ghost view = { λ e. record { image = e.image; settings = e.settings; watched = e.watched } };
 
     ghost invariant = { λ e. (e.arena.size ≡ e.settings.staging) × IsValid e.settings };
 }
@@ -61,6 +61,7 @@ impl Engine<Free> {
         ensures image { IfOk result (λ engine. engine.image ≡ image.entry) }
         ensures settings { IfOk result (λ engine. engine.settings ≡ settings) }
         ensures valid { OnOk result (IsValid settings) }
+        ensures watched { IfOk result (λ engine. engine.watched ≡ false) }
         ensures handed_back { IfErr result (λ refused. refused.0 ≡ image.entry) }
         ensures bad_settings { IfErr result (λ refused. (refused.1 ≡ EngineError.BadSettings) ↔ (IsValid settings → ⊥)) }
     {
@@ -85,6 +86,7 @@ impl<G: Drop> Engine<G> {
     pub fn with_gate<H>(self, gate: H) -> Engine<H>
         ensures image { result.image ≡ self.entry.image }
         ensures settings { result.settings ≡ self.entry.settings }
+        ensures watched { result.watched ≡ true }
     {
         let Engine {
             image,
@@ -129,6 +131,7 @@ impl<G> Engine<G> {
         ensures never_bad_pages { result ≢ Err ImageError.BadPages }
         ensures again { IsTrue (has_page self.old.image page) → IsOk result }
         ensures settings { self.new.settings ≡ self.old.settings }
+        ensures watched { self.new.watched ≡ self.old.watched }
     {
         self.image.bring(page, bytes)
     }
@@ -138,6 +141,7 @@ impl<G> Engine<G> {
         requires { IsTrue (has_all self.old.image addr (length bytes.now)) }
         ensures image { self.new.image ≡ put self.old.image addr bytes.now }
         ensures settings { self.new.settings ≡ self.old.settings }
+        ensures watched { self.new.watched ≡ self.old.watched }
     {
         self.image.write(addr, bytes);
     }
@@ -150,26 +154,21 @@ impl<G> Engine<G> {
         self.settings
     }
 
+    /// Whether the gate was given by `with_gate`.
+    pub(crate) fn is_watched(&self) -> bool
+        ensures { result ≡ self.now.watched }
+    {
+        self.watched
+    }
+
     /// Carries out a job with this one worker.
     pub(crate) fn carry_out_alone(&mut self, job: &Job) -> Record
         ensures image { self.new.image ≡ (step self.old.image job.now self.old.settings.staging).0 }
         ensures answer { result ≡ (step self.old.image job.now self.old.settings.staging).1 }
         ensures settings { self.new.settings ≡ self.old.settings }
+        ensures watched { self.new.watched ≡ self.old.watched }
     {
         submit_to(&mut self.image, &mut self.arena, job, self.settings.staging)
-    }
-
-    /// How many workers are to carry out so much work: none but this one where that is 1.
-    pub(crate) fn workers_for(&self, load: Load) -> u32
-        ensures least { 1 ≤ result }
-        ensures most { result ≤ self.now.settings.workers }
-    {
-        let most = self.settings.workers;
-        if self.watched && load.is_many() {
-            most
-        } else {
-            load.workers(most)
-        }
     }
 }
 
@@ -188,9 +187,10 @@ impl<G: Gate + Sync> Engine<G> {
         requires records { length records.old ≡ length jobs.now }
         requires ready { IsReady jobs.now self.old.settings.staging self.old.settings.chunk wave.now }
         ensures done { OnOk result (begun self.new.image records.new
-            ≡ run_all (carried jobs.now self.old.settings.staging) (begun self.old.image records.old) (busy jobs.now wave.now)) }
+            ≡ run_all (carried (map unfenced jobs.now) self.old.settings.staging) (begun self.old.image records.old) (busy jobs.now wave.now)) }
         ensures unchanged { OnErr result ((self.new.image ≡ self.old.image) × (records.new ≡ records.old)) }
         ensures settings { self.new.settings ≡ self.old.settings }
+        ensures watched { self.new.watched ≡ self.old.watched }
     {
         let settings = Settings {
             workers,

@@ -2,12 +2,15 @@
 //! out lists of them.
 #![tactic(auto)]
 
+mod batches;
 mod engines;
 mod errors;
 mod lists;
 mod loads;
+mod opening;
 mod submitting;
 
+pub use dml_resume::law_resume;
 pub use engines::Engine;
 pub use errors::{EngineError, SubmitError};
 

@@ -1,56 +1,162 @@
-//! How much work jobs are.
-ghost use Rattle.std.specs.Prelude.{◌≤◌};
+//! How much work jobs are, and how many workers they pay for.
+ghost use Rattle.std.specs.Prelude.{◌≡◌, ◌↔◌, ◌<◌, ◌≤◌, IsTrue, length, map};
+ghost use Rattle.std.specs.List.{All};
+ghost use Rattle.dml_types.specs.Job.{op_of};
+ghost use Rattle.dml_types.specs.Limits.{IsValid};
+ghost use Rattle.dml_levels.specs.Laws.{unless_refused};
+ghost use Rattle.dml_levels.specs.Tasks.{IsChunk};
+ghost use Rattle.dml_levels.specs.Waves.{job_at};
+ghost use Rattle.dml_engine.specs.Loads.{load_of, no_load, shareable, shareable_by, with_job, workers_for};
+ghost use Rattle.dml_engine.specs.Loads as word;
 
-use dml_types::{Job, Op};
+use crate::opening::open;
+use dml_desc::Checked;
+use dml_levels::task_count;
+use dml_types::{Job, Op, Settings};
 
-/// The bytes that a worker has to compare for its start to pay, as measured.
-const BYTES_PER_WORKER: u64 = 2 << 20;
+/// Half of the bytes that workers have to share for one more of them to pay, as measured.
+const HALF_OF_A_WORKER: u64 = 1 << 19;
 
-/// The work of jobs, about: the bytes that they compare, and how many chunks they are. Moves and fills are as fast by one
-/// worker, who needs no stage. No answer depends on it.
+/// The least bytes that are shared by two workers.
+const LEAST_SHARED: u64 = 3 * HALF_OF_A_WORKER;
+
+/// The bytes that are as dear as a task, as measured.
+const TASK_BYTES: u64 = 2048;
+
+/// How many shared bytes make up for a byte that workers stage and one worker does not, as measured.
+const STAGED_COST: u64 = 3;
+
+/// The work of jobs, about. No answer depends on it.
 #[derive(Clone, Copy, Debug)]
 pub struct Load {
-    compared: u64,
-    chunks: u64,
+    /// The bytes that workers share, less what the tasks cost.
+    pub shared: u64,
+    /// The bytes that workers would stage.
+    pub staged: u64,
+    pub tasks: u64,
 }
 
 impl Load {
     /// That of no job.
-    pub const NONE: Load = Load {
-        compared: 0,
-        chunks: 0,
-    };
-
-    /// That of one job more, in chunks of so many bytes.
-    pub fn with(self, job: &Job, chunk: u32) -> Load
-        requires { 1 ≤ chunk }
+    pub fn none() -> Load
+        ensures { result ≡ no_load }
     {
-        let (worked_on, compared) = match job.op() {
-            None | Some(Op::NoOp) => (0, 0),
-            Some(Op::Compare | Op::ComparePattern | Op::CreateDelta) => (job.size, job.size),
-            Some(Op::ApplyDelta) => (job.delta_size / 10 * 8, 0),
-            Some(Op::Move | Op::Fill | Op::Dualcast) => (job.size, 0),
-        };
-        let chunks = u64::from(worked_on.div_ceil(chunk));
         Load {
-            compared: self.compared.saturating_add(u64::from(compared)),
-            chunks: self.chunks.saturating_add(chunks),
+            shared: 0,
+            staged: 0,
+            tasks: 0,
         }
     }
 
-    /// Whether it is of two chunks or more.
-    pub fn is_many(self) -> bool {
-        self.chunks > 1
+    /// That of a list of jobs, as far as they do anything.
+    pub fn of_list(jobs: &[Job], settings: Settings) -> Load
+        requires { IsValid settings }
+        ensures { result ≡ load_of settings.chunk (map (unless_refused settings.staging) jobs.now) }
+    {
+        let mut load = Load::none();
+        for job in jobs {
+            let (checked, _) = open(job, settings.staging);
+            load = load.with(&checked, settings.chunk);
+        }
+        load
     }
 
-    /// How many workers it pays for, of `most`: one for each two mebibytes that are compared, at least one, and no more
-    /// than there are chunks.
-    pub fn workers(self, most: u32) -> u32
+    /// That of the jobs at a wave's places.
+    pub fn of_wave(jobs: &[Checked], wave: &[u32], chunk: u32) -> Load
+        requires places { All (λ i. i < length jobs.now) wave.now }
+        requires chunk { IsChunk chunk }
+        ensures { result ≡ load_of chunk (map (job_at jobs.now) wave.now) }
+    {
+        let mut load = Load::none();
+        for place in wave {
+            load = load.with(&jobs[*place as usize], chunk);
+        }
+        load
+    }
+
+    /// That of one job more, in chunks of so many bytes.
+    pub fn with(self, job: &Checked, chunk: u32) -> Load
+        requires { IsChunk chunk }
+        ensures { result ≡ with_job chunk self job.now }
+    {
+        let tasks = u64::from(task_count(job, chunk));
+        let (size, delta_size) = (u64::from(job.job().size), u64::from(job.job().delta_size));
+        let (shared, staged) = match job.op() {
+            Op::NoOp => (0, 0),
+            Op::Compare | Op::ComparePattern | Op::CreateDelta => {
+                (size.saturating_sub(TASK_BYTES * tasks), 0)
+            }
+            Op::Move | Op::Fill => (0, size),
+            Op::ApplyDelta => (0, delta_size),
+            Op::Dualcast => (0, 2 * size),
+        };
+        Load {
+            shared: self.shared.saturating_add(shared),
+            staged: self.staged.saturating_add(staged),
+            tasks: self.tasks.saturating_add(tasks),
+        }
+    }
+
+    /// How many workers a list of this work is given, of at most `most`; `watched` where a gate is to see all work.
+    pub fn list_workers(self, watched: bool, most: u32) -> u32
         requires { 1 ≤ most }
+        ensures rule { result ≡ word.list_workers watched most self }
+    {
+        match watched {
+            true if self.tasks > 1 => most,
+            true => 1,
+            false => workers_for(self.shared, most),
+        }
+    }
+
+    /// How many workers a wave of this work is given, of a list that is given several.
+    pub fn wave_workers(self, watched: bool, most: u32) -> u32
+        requires { 1 ≤ most }
+        ensures rule { result ≡ word.wave_workers watched most self }
         ensures least { 1 ≤ result }
         ensures most { result ≤ most }
     {
-        let paid = (self.compared / BYTES_PER_WORKER).min(self.chunks);
-        (paid.min(u64::from(most)) as u32).max(1)
+        if watched {
+            most
+        } else {
+            let dear = self.staged.saturating_mul(STAGED_COST);
+            workers_for(self.shared.saturating_sub(dear), most)
+        }
+    }
+}
+
+/// How many workers pay for sharing so many bytes, of at most `most`.
+fn workers_for(bytes: u64, most: u32) -> u32
+    requires { 1 ≤ most }
+    ensures rule { result ≡ workers_for most bytes }
+    ensures least { 1 ≤ result }
+    ensures most { result ≤ most }
+{
+    let paid = (bytes / HALF_OF_A_WORKER).div_ceil(2);
+    (paid.min(u64::from(most)) as u32).max(1)
+}
+
+/// Whether the jobs name enough bytes for a second worker, before any of them is checked.
+pub fn may_pay(jobs: &[Job]) -> bool
+    ensures { IsTrue result ↔ (1572864 ≤ shareable jobs.now) }
+{
+    let mut left = LEAST_SHARED;
+    for job in jobs {
+        let bytes = shareable_bytes(job);
+        if bytes >= left {
+            return true;
+        }
+        left -= bytes;
+    }
+    false
+}
+
+/// The bytes that a job's workers share at most.
+fn shareable_bytes(job: &Job) -> u64
+    ensures { result ≡ shareable_by (op_of job.now) job.now }
+{
+    match job.op() {
+        Some(Op::Compare | Op::ComparePattern | Op::CreateDelta) => u64::from(job.size),
+        _ => 0,
     }
 }

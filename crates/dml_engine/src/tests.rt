@@ -1,8 +1,12 @@
 //! Engines and what their calls answer. The expected records and bytes are those of the jobs' definitions.
 
+mod fences;
 mod gates;
 mod lists;
+mod loads;
+mod operations;
 mod refusals;
+mod rows;
 
 use crate::{Engine, EngineError};
 use dml_image::Image;

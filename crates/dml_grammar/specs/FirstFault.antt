@@ -86,4 +86,5 @@ ReadsFaultless =
 -- and refused exactly by its first fault
 abbrev pub NamesFirstFault : Type 0
 NamesFirstFault =
-    (bytes : List ℕ) (fault : ScriptFault) → (parse bytes ≡ Err fault) ↔ IsFirstFault 1 0 [] (lines bytes) fault
+    (bytes : List ℕ) (fault : ScriptFault)
+    → (parse bytes ≡ Err fault) ↔ IsFirstFault 1 0 [] (lines bytes) fault

@@ -25,7 +25,8 @@ left_from number opened before (text ∷ texts) = elim (verdict text before) [
   | Skipped ↦ left_from (number + 1) opened before texts
   | Faulty kind ↦ nothing_but (Some (fault_at number kind))
   | Fine found ↦
-      with_line found (left_from (number + 1) (opening_number number found opened) (before ++ found ∷ []) texts)
+      with_line found
+      (left_from (number + 1) (opening_number number found opened) (before ++ found ∷ []) texts)
 ]
 
 -- what a whole text gives

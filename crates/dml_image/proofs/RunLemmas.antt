@@ -1,7 +1,7 @@
 -- Runs of present bytes, page by page.
 use Rattle.std.proofs.Common.{◌≡◌, ℕ, ◌+◌, ◌-◌, ◌/◌, ◌%◌, ◌<◌, ◌≤◌, min, Bool, true, false, not, ◌&&◌, get_or, ap, sym, ◌∙◌, arith, ⊎_elim}
 use Rattle.std.proofs.lemmas.Bool.{cases_lt, not-false, not-true, and_from, and_left, and_right}
-use Rattle.dml_types.specs.Memory.{first, Memory, has, present_toward, offset_in}
+use Rattle.dml_types.specs.Memory.{first, Memory, has, present_toward, worked_offset}
 use Rattle.dml_types.specs.declared.operations.Direction.{Direction}
 use Rattle.dml_types.proofs.FirstLemmas.{first_le, first_is, fails_before, passes_at}
 
@@ -16,11 +16,11 @@ has_below memory address other here below within =
     let same : other / 4096 ≡ address / 4096 = omega arith in
     ap (λ page. get_or memory.present page false) same ∙ here
 
-pub present_toward_is : (direction : Direction) (memory : Memory) (address n k : ℕ) → k ≤ n → ((i : ℕ) → i < k → has memory (address + offset_in direction n i) ≡ true) → (k < n → has memory (address + offset_in direction n k) ≡ false) → k ≡ present_toward direction memory address n
+pub present_toward_is : (direction : Direction) (memory : Memory) (address n k : ℕ) → k ≤ n → ((i : ℕ) → i < k → has memory (address + worked_offset direction n i) ≡ true) → (k < n → has memory (address + worked_offset direction n k) ≡ false) → k ≡ present_toward direction memory address n
 present_toward_is direction memory address n k within before here =
-    sym (first_is n (λ i. not (has memory (address + offset_in direction n i))) k within (λ i low. ap not (before i low)) (λ below. ap not (here below)))
+    sym (first_is n (λ i. not (has memory (address + worked_offset direction n i))) k within (λ i low. ap not (before i low)) (λ below. ap not (here below)))
 
-pub present_toward_stops : (direction : Direction) (memory : Memory) (address n k : ℕ) → k < n → ((i : ℕ) → i < k → has memory (address + offset_in direction n i) ≡ true) → has memory (address + offset_in direction n k) ≡ false → k ≡ present_toward direction memory address n
+pub present_toward_stops : (direction : Direction) (memory : Memory) (address n k : ℕ) → k < n → ((i : ℕ) → i < k → has memory (address + worked_offset direction n i) ≡ true) → has memory (address + worked_offset direction n k) ≡ false → k ≡ present_toward direction memory address n
 present_toward_stops direction memory address n k within before here =
     present_toward_is direction memory address n k (omega arith) before (λ _. here)
 

@@ -1,15 +1,21 @@
 -- A new image, and an image after a page was brought.
-use Rattle.std.specs.Prelude.{ℕ, ◌*◌, Bool, true, false, List, None, replicate, slice_index_or, slice_set}
+use Rattle.std.specs.Prelude.{ℕ, ◌-◌, ◌*◌, Bool, true, false, List, ◌++◌, length, None, replicate, slice_index_or, slice_set}
 use Rattle.dml_types.specs.Memory.{Memory, page_size, put}
 
 -- no page is present
 abbrev pub all_absent : ℕ → Memory
-all_absent pages = record { present = replicate pages false; bytes = replicate (page_size * pages) 0; home = None }
+all_absent pages =
+    record { present = replicate pages false; bytes = replicate (page_size * pages) 0; home = None }
 
 -- whether the page is present
 abbrev pub has_page : Memory → ℕ → Bool
 has_page memory page = slice_index_or memory.present page false
 
+-- the bytes of a page that begins with these: zeros behind them
+abbrev pub padded : List ℕ → List ℕ
+padded bytes = bytes ++ replicate (page_size - length bytes) 0
+
 -- the page is present with these bytes
 abbrev pub brought : Memory → ℕ → List ℕ → Memory
-brought memory page bytes = put (record memory { present = slice_set memory.present page true }) (page_size * page) bytes
+brought memory page bytes =
+    put (record memory { present = slice_set memory.present page true }) (page_size * page) bytes

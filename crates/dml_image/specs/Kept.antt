@@ -6,7 +6,8 @@ use Rattle.dml_image.specs.declared.images.Pages.{Pages}
 use Rattle.dml_image.specs.declared.lent.Lent.{Lent}
 
 abbrev pub lent_memory : Lent → Memory
-lent_memory lent = record { present = lent.present.now; bytes = lent.content.now; home = Some lent.content.ghost_name }
+lent_memory lent =
+    record { present = lent.present.now; bytes = lent.content.now; home = Some lent.content.ghost_name }
 
 abbrev pub kept_by : Pages → Memory
 kept_by (pages.Own table) = table

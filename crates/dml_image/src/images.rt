@@ -1,10 +1,10 @@
-ghost use Rattle.std.specs.Prelude.{◌≡◌, ◌≢◌, ◌+◌, ◌-◌, ◌%◌, ◌^◌, ◌<◌, ◌≤◌, min, ◌↔◌, ◌⊎◌, length, IfOk, OnErr, OnOk, IsOk, IsTrue, MatchOption, if◌then◌else◌};
-ghost use Rattle.dml_types.specs.Memory.{IsMemory, has, has_all, byte_at, bytes_at, present_toward, put};
+ghost use Rattle.std.specs.Prelude.{◌≡◌, ◌≢◌, ◌+◌, ◌-◌, ◌%◌, ◌^◌, ◌<◌, ◌≤◌, min, ◌↔◌, ◌⊎◌, false, length, IfOk, OnErr, OnOk, IsErr, IsOk, IsSome, IsTrue, MatchOption, if◌then◌else◌};
+ghost use Rattle.dml_types.specs.Memory.{IsMemory, has, has_all, byte_at, bytes_at, present_bytes, present_toward, put};
 ghost use Rattle.dml_types.specs.Bytewise.{pattern_bytes};
 ghost use Rattle.dml_image.specs.Brought.{all_absent, brought, has_page};
 ghost use Rattle.dml_image.specs.Kept.{kept_by, lent_memory};
 
-use crate::PAGE_SIZE;
+use crate::MAX_PAGES;
 use crate::errors::ImageError;
 use crate::lent::Lent;
 use crate::runs::{present_downwards, present_upwards};
@@ -13,8 +13,6 @@ use dml_types::Direction;
 use std::alloc::{AllocError, Global};
 use std::fmt;
 use std::marker::Model;
-
-const MAX_PAGES: u32 = 4096;
 
 /// A memory of 1 to 4,096 pages of 4,096 bytes, from address 0 on: pages of its own, or memory that a caller lends.
 ///
@@ -38,6 +36,7 @@ impl Pages<'_> {
         ensures ok { OnOk result (kept_by self.new ≡ brought (kept_by self.old) page bytes.now) }
         ensures err { OnErr result (kept_by self.new ≡ kept_by self.old) }
         ensures again { IsTrue (has_page (kept_by self.old) page) → IsOk result }
+        ensures no_room { IsSome (kept_by self.old).home → has_page (kept_by self.old) page ≡ false → IsErr result }
     {
         match self {
             Pages::Own(table) => table.bring(page, bytes),
@@ -150,6 +149,7 @@ impl Image<'_> {
         ensures no_such_page { (result ≡ Err ImageError.NoSuchPage) ↔ (length self.old.present ≤ page) }
         ensures never_bad_pages { result ≢ Err ImageError.BadPages }
         ensures again { IsTrue (has_page self.old page) → IsOk result }
+        ensures no_room { IsSome self.old.home → page < length self.old.present → has_page self.old page ≡ false → result ≡ Err ImageError.NoMemory }
         ensures memory { IsMemory self.new }
     {
         if page >= self.pages() {
@@ -236,7 +236,31 @@ impl Image<'_> {
         ensures bytes { self.new ≡ put self.old target (bytes_at self.old source len) }
         ensures memory { IsMemory self.new }
     {
-        self.pages.move_within(source, target, len as usize);
+        self.pages.move_within(source, target, len);
+    }
+
+    /// How many of `len` bytes from this address on come before the first absent one.
+    pub fn present_bytes(&self, addr: u64, len: u32) -> u32
+        requires { addr + len ≤ 2 ^ 64 }
+        ensures count { result ≡ present_bytes self.now addr len }
+        ensures within { result ≤ len }
+        ensures memory { IsMemory self.now }
+    {
+        self.present_toward(addr, len, Direction::Forward)
+    }
+
+    /// How many of `len` bytes from this address on come before the first absent one, in the order of `direction`.
+    pub fn present_toward(&self, addr: u64, len: u32, direction: Direction) -> u32
+        requires { addr + len ≤ 2 ^ 64 }
+        ensures count { result ≡ present_toward direction self.now addr len }
+        ensures within { result ≤ len }
+        ensures memory { IsMemory self.now }
+    {
+        let _ = &self.pages; // what is looked at is an image
+        match direction {
+            Direction::Forward => present_upwards(self, addr, len),
+            Direction::Backward => present_downwards(self, addr, len),
+        }
     }
 
     /// How many of `len` bytes from this address on come before the first absent one, in the order of
@@ -246,11 +270,7 @@ impl Image<'_> {
         ensures count { MatchOption result (present_toward direction self.now addr len ≡ len) (λ k. (k < len) × (present_toward direction self.now addr len ≡ k)) }
         ensures memory { IsMemory self.now }
     {
-        let _ = &self.pages;
-        let done = match direction {
-            Direction::Forward => present_upwards(self, addr, len),
-            Direction::Backward => present_downwards(self, addr, len),
-        };
+        let done = self.present_toward(addr, len, direction);
         if done < len { Some(done) } else { None }
     }
 }

@@ -1,4 +1,4 @@
-ghost use Rattle.std.specs.Prelude.{◌≡◌, ◌≢◌, ◌+◌, ◌-◌, ◌%◌, ◌<◌, ◌≤◌, Some, min, length, IsOk, IsSome, IsTrue, OnErr, OnOk};
+ghost use Rattle.std.specs.Prelude.{◌≡◌, ◌≢◌, ◌+◌, ◌-◌, ◌%◌, ◌<◌, ◌≤◌, false, Some, min, length, IsErr, IsOk, IsSome, IsTrue, OnErr, OnOk};
 ghost use Rattle.dml_types.specs.Memory.{IsMemory, has, has_all, bytes_at, put};
 ghost use Rattle.dml_types.specs.Bytewise.{pattern_bytes};
 ghost use Rattle.dml_image.specs.Copied.{IsOneCopy};
@@ -67,6 +67,7 @@ impl<'a> Lent<'a> {
         ensures ok { OnOk result (lent_memory self.new ≡ brought (lent_memory self.old) page bytes.now) }
         ensures err { OnErr result (lent_memory self.new ≡ lent_memory self.old) }
         ensures again { IsTrue (has_page (lent_memory self.old) page) → IsOk result }
+        ensures no_room { has_page (lent_memory self.old) page ≡ false → IsErr result }
     {
         if !self.present[page] {
             return Err(AllocError);

@@ -18,4 +18,8 @@ pub use errors::ImageError;
 pub use images::Image;
 pub use lent::Lent;
 
-const PAGE_SIZE: usize = 4096;
+/// The bytes of a page.
+pub const PAGE_SIZE: usize = 4096;
+
+/// The most pages of an image.
+pub const MAX_PAGES: u32 = 4096;

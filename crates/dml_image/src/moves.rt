@@ -7,19 +7,19 @@ ghost use Rattle.dml_image.specs.Kept.{kept_by};
 use crate::images::Pages;
 use crate::ranges::{begin_of_page, rest_of_page};
 use crate::slices::SHORT;
+use dml_types::Direction;
 
 impl Pages<'_> {
     /// Copies the bytes of one range to another; where the two overlap, the bytes as they stood.
-    pub fn move_within(&mut self, source: u64, target: u64, len: usize)
+    pub fn move_within(&mut self, source: u64, target: u64, len: u32)
         requires memory { IsMemory (kept_by self.old) }
         requires source { IsTrue (has_all (kept_by self.old) source len) }
         requires target { IsTrue (has_all (kept_by self.old) target len) }
         ensures { kept_by self.new ≡ put (kept_by self.old) target (bytes_at (kept_by self.old) source len) }
     {
-        if source < target && target - source < len as u64 {
-            self.move_down(source, target, len);
-        } else {
-            self.move_up(source, target, len);
+        match Direction::of_move(source, target, len) {
+            Direction::Backward => self.move_down(source, target, len as usize),
+            Direction::Forward => self.move_up(source, target, len as usize),
         }
     }
 

@@ -1,4 +1,4 @@
-ghost use Rattle.std.specs.Prelude.{◌≡◌, ◌+◌, ◌-◌, ◌%◌, ◌<◌, ◌≤◌, min, length, IfOk, OnErr, OnOk, IsOk, IsTrue};
+ghost use Rattle.std.specs.Prelude.{◌≡◌, ◌+◌, ◌-◌, ◌%◌, ◌<◌, ◌≤◌, None, min, length, IfOk, OnErr, OnOk, IsOk, IsTrue};
 ghost use Rattle.dml_types.specs.Memory.{has, bytes_at, put};
 ghost use Rattle.dml_types.specs.Bytewise.{pattern_bytes};
 ghost use Rattle.dml_image.specs.Brought.{all_absent, brought, has_page};
@@ -56,6 +56,7 @@ impl Table {
         ensures ok { OnOk result (self.new ≡ brought self.old page bytes.now) }
         ensures err { OnErr result (self.new ≡ self.old) }
         ensures again { IsTrue (has_page self.old page) → IsOk result }
+        ensures own { self.old.home ≡ None }
     {
         if let Some(present) = &mut self.pages[page] {
             present.write(0, bytes);

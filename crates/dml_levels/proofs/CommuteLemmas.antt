@@ -12,7 +12,7 @@ use Rattle.dml_types.specs.Memory.{Memory, IsWhole, Put, puts_made}
 use Rattle.dml_types.specs.Refusal.{refusal, refusal_under}
 use Rattle.dml_types.specs.Effect.{Effect}
 use Rattle.dml_types.specs.Conflict.{ranges_of, conflict}
-use Rattle.dml_types.specs.Step.{effect, effect_by, step}
+use Rattle.dml_types.specs.Step.{effect, operation_effect, step}
 use Rattle.dml_types.proofs.StepLemmas.{effect_refused, effect_accepted}
 use Rattle.dml_levels.specs.Laws.{unless_refused, MayChange}
 use Rattle.dml_levels.proofs.FrameLemmas.{touched, apart_touched, apart_swapped, with_bytes, bytes_after, puts_made_is, Agree, PutsIn, puts_long, puts_comm, puts_agree}
@@ -58,7 +58,7 @@ accepted_framed job staging op free is =
           ∙ sym (effect_accepted memory job staging op free is));
       puts_in = λ memory whole.
           subst (λ (done : Effect). PutsIn (written_by staging job) (length memory.bytes) done.puts) (sym (effect_accepted memory job staging op free is))
-          (subst (λ (spans : List Span). PutsIn spans (length memory.bytes) (effect_by op memory job).puts) (sym (ranges writes)) ((framed op).puts_in memory job whole));
+          (subst (λ (spans : List Span). PutsIn spans (length memory.bytes) (operation_effect op memory job).puts) (sym (ranges writes)) ((framed op).puts_in memory job whole));
     }
 
 framed_job : (job : Job) (staging : ℕ) → IsFramedJob job staging

@@ -11,7 +11,7 @@ use Rattle.dml_types.specs.declared.statuses.Status.TheVariants.{NotRising, Offs
 use Rattle.dml_types.specs.Job.{reads, writes, span}
 use Rattle.dml_types.specs.Memory.{Memory, IsWhole, Put, put_of, has_all, bytes_at}
 use Rattle.dml_types.specs.Effect.{Effect, effect_of, Fault, read_fault, write_fault}
-use Rattle.dml_types.specs.Delta.{first_absent, has_block, block_at, is_readable, differs, readable_blocks, differing, entry_room, entry_for, crowded, written_out, created, offset_at, entry_fault, good_entries, entry_put, apply_answer, applied}
+use Rattle.dml_types.specs.Delta.{first_absent, has_block, block_bytes, is_readable, differs, readable_blocks, differing, entry_room, block_entry, crowded, written_out, created, entry_offset, entry_fault, good_entries, entry_put, apply_answer, applied}
 use Rattle.dml_types.proofs.FirstLemmas.{first_le, fails_before, first_agree}
 use Rattle.dml_types.proofs.MemoryLemmas.{has_all_within}
 use Rattle.dml_order.proofs.OrderLemmas.{filter_range_same}
@@ -42,7 +42,7 @@ flat_map_agree f g n (x ∷ xs) same all =
     ap (λ front. front ++ flat_map f xs) (same x all.0) ∙ ap (λ back. g x ++ back) (flat_map_agree f g n xs same all.1)
 
 -- the blocks of both sources
-block_read : (memory : Memory) (bytes : List ℕ) (job : Job) (b : ℕ) → Agree (reads CreateDelta job) bytes memory.bytes → b < job.size / 8 → (block_at (with_bytes memory bytes) job.source b ≡ block_at memory job.source b) × (block_at (with_bytes memory bytes) job.target b ≡ block_at memory job.target b)
+block_read : (memory : Memory) (bytes : List ℕ) (job : Job) (b : ℕ) → Agree (reads CreateDelta job) bytes memory.bytes → b < job.size / 8 → (block_bytes (with_bytes memory bytes) job.source b ≡ block_bytes memory job.source b) × (block_bytes (with_bytes memory bytes) job.target b ≡ block_bytes memory job.target b)
 block_read memory bytes job b agree below = (
   first_read memory bytes job.source job.size (span job.target job.size ∷ []) (8 * b) 8 agree (omega arith),
   second_read memory bytes (span job.source job.size) job.target job.size [] (8 * b) 8 agree (omega arith),
@@ -64,27 +64,27 @@ create_agree memory bytes job agree =
     filter_range_same (differs (with_bytes memory bytes) job) (differs memory job) 0 readable
     (λ b low high.
     let both = block_read memory bytes job b agree (omega (arith, within)) in
-    ap (λ (one : List ℕ). not (bytes_eq one (block_at (with_bytes memory bytes) job.target b))) both.0
-    ∙ ap (λ (other : List ℕ). not (bytes_eq (block_at memory job.source b) other)) both.1) in
-    let same_entries : flat_map (entry_for (with_bytes memory bytes) job) (take room blocks) ≡ flat_map (entry_for memory job) (take room blocks) =
-    flat_map_agree (entry_for (with_bytes memory bytes) job) (entry_for memory job) (job.size / 8) (take room blocks)
+    ap (λ (one : List ℕ). not (bytes_eq one (block_bytes (with_bytes memory bytes) job.target b))) both.0
+    ∙ ap (λ (other : List ℕ). not (bytes_eq (block_bytes memory job.source b) other)) both.1) in
+    let same_entries : flat_map (block_entry (with_bytes memory bytes) job) (take room blocks) ≡ flat_map (block_entry memory job) (take room blocks) =
+    flat_map_agree (block_entry (with_bytes memory bytes) job) (block_entry memory job) (job.size / 8) (take room blocks)
     (λ b below. ap (λ (block : List ℕ). to_le_bytes w16 b ++ block) (block_read memory bytes job b agree below).1)
     (below_take (job.size / 8) room blocks (below_range (job.size / 8) 0 readable (differs memory job) within)) in
-    ap (λ (these : List ℕ). created_from memory job these (flat_map (entry_for (with_bytes memory bytes) job) (take room these))) same_blocks
+    ap (λ (these : List ℕ). created_from memory job these (flat_map (block_entry (with_bytes memory bytes) job) (take room these))) same_blocks
     ∙ ap (created_from memory job blocks) same_entries
 
 -- entries have ten bytes
-length_entry : (memory : Memory) (job : Job) (b : ℕ) → length (entry_for memory job b) ≤ 10
+length_entry : (memory : Memory) (job : Job) (b : ℕ) → length (block_entry memory job b) ≤ 10
 length_entry memory job b =
-    omega (arith, length-append (to_le_bytes w16 b) (block_at memory job.target b), length_bytes_at_le memory (job.target + 8 * b) 8, two b)
+    omega (arith, length-append (to_le_bytes w16 b) (block_bytes memory job.target b), length_bytes_at_le memory (job.target + 8 * b) 8, two b)
   where
     two : (b : ℕ) → length (to_le_bytes w16 b) ≡ 2
     two b = refl
 
-length_entries : (memory : Memory) (job : Job) (blocks : List ℕ) → length (flat_map (entry_for memory job) blocks) ≤ 10 * length blocks
+length_entries : (memory : Memory) (job : Job) (blocks : List ℕ) → length (flat_map (block_entry memory job) blocks) ≤ 10 * length blocks
 length_entries memory job [] = omega arith
 length_entries memory job (b ∷ blocks) =
-    omega (arith, length-append (entry_for memory job b) (flat_map (entry_for memory job) blocks), length_entry memory job b, length_entries memory job blocks)
+    omega (arith, length-append (block_entry memory job b) (flat_map (block_entry memory job) blocks), length_entry memory job b, length_entries memory job blocks)
 
 take_short : (k : ℕ) (xs : List ℕ) → length (take k xs) ≤ k
 take_short zero xs = omega arith
@@ -103,7 +103,7 @@ unfolding created
 create_puts memory job whole =
     let room = entry_room memory job in
     let taken = take room (differing memory job 0 (job.size / 8)) in
-    let entries = flat_map (entry_for memory job) taken in
+    let entries = flat_map (block_entry memory job) taken in
     let short : length entries ≤ 10 * room = omega (arith, length_entries memory job taken, take_short room (differing memory job 0 (job.size / 8))) in
     let few : room ≤ job.delta_size / 10 = first_le (job.delta_size / 10) (λ x. not (has_all memory (job.extra + 10 * x) 10)) in
     let put = put_in_first job.extra job.delta_size [] 0 (10 * room) (length memory.bytes) entries short (omega (arith, few))
@@ -119,7 +119,7 @@ entry_read memory bytes job x from n agree below within =
     bytes_at_agree memory bytes (job.source + 10 * x + from) n agree.size
     (λ i low. agree.same (job.source + 10 * x + from + i) (touched_at (span job.source job.delta_size) [] (job.source + 10 * x + from + i) (omega arith) (omega arith)))
 
-offset_read : (memory : Memory) (bytes : List ℕ) (job : Job) (x : ℕ) → Agree (reads ApplyDelta job) bytes memory.bytes → x < job.delta_size / 10 → offset_at (with_bytes memory bytes) job x ≡ offset_at memory job x
+offset_read : (memory : Memory) (bytes : List ℕ) (job : Job) (x : ℕ) → Agree (reads ApplyDelta job) bytes memory.bytes → x < job.delta_size / 10 → entry_offset (with_bytes memory bytes) job x ≡ entry_offset memory job x
 offset_read memory bytes job x agree below =
     ap (from_le_bytes w16)
     (bytes_at_agree memory bytes (job.source + 10 * x) 2 agree.size
@@ -137,8 +137,8 @@ fault_by memory job x offset before =
 
 fault_agree : (memory : Memory) (bytes : List ℕ) (job : Job) (x : ℕ) → Agree (reads ApplyDelta job) bytes memory.bytes → x < job.delta_size / 10 → entry_fault 0 (with_bytes memory bytes) job x ≡ entry_fault 0 memory job x
 fault_agree memory bytes job x agree below =
-    ap (λ offset. fault_by memory job x offset (offset_at (with_bytes memory bytes) job (x - 1))) (offset_read memory bytes job x agree below)
-    ∙ ap (λ before. fault_by memory job x (offset_at memory job x) before) (offset_read memory bytes job (x - 1) agree (omega arith))
+    ap (λ offset. fault_by memory job x offset (entry_offset (with_bytes memory bytes) job (x - 1))) (offset_read memory bytes job x agree below)
+    ∙ ap (λ before. fault_by memory job x (entry_offset memory job x) before) (offset_read memory bytes job (x - 1) agree (omega arith))
 
 map_agree : (f g : ℕ → Put) (from n : ℕ) → ((x : ℕ) → from ≤ x → x < from + n → f x ≡ g x) → map f (range_with_len from n) ≡ map g (range_with_len from n)
 map_agree f g from zero same = refl
@@ -149,7 +149,7 @@ map_agree f g from (suc n) same =
 put_agree : (memory : Memory) (bytes : List ℕ) (job : Job) (x : ℕ) → Agree (reads ApplyDelta job) bytes memory.bytes → x < job.delta_size / 10 → entry_put (with_bytes memory bytes) job x ≡ entry_put memory job x
 put_agree memory bytes job x agree below =
     ap (λ offset. put_of (job.target + 8 * offset) (bytes_at (with_bytes memory bytes) (job.source + 10 * x + 2) 8)) (offset_read memory bytes job x agree below)
-    ∙ ap (put_of (job.target + 8 * offset_at memory job x)) (entry_read memory bytes job x 2 8 agree below (omega arith))
+    ∙ ap (put_of (job.target + 8 * entry_offset memory job x)) (entry_read memory bytes job x 2 8 agree below (omega arith))
 
 applied_from : Job → ℕ → List Put → Option Fault → Effect
 applied_from job x puts fault = effect_of puts (apply_answer x fault)
@@ -188,17 +188,17 @@ no_cause false false true d e f g h none = absurd (false≢true (sym none))
 no_cause false false false true e f g h none = absurd (false≢true (sym none))
 no_cause false false false false e f g h none = (refl, refl)
 
-good_entry : (memory : Memory) (job : Job) (x : ℕ) → is_some (entry_fault 0 memory job x) ≡ false → (offset_at memory job x < job.size / 8) × (has_block memory job.target (offset_at memory job x) ≡ true)
+good_entry : (memory : Memory) (job : Job) (x : ℕ) → is_some (entry_fault 0 memory job x) ≡ false → (entry_offset memory job x < job.size / 8) × (has_block memory job.target (entry_offset memory job x) ≡ true)
 good_entry memory job x none =
-    let offset = offset_at memory job x in
-    let clear = no_cause (not (has_all memory (job.source + 10 * x) 10)) (nat_lt 0 x && nat_le offset (offset_at memory job (x - 1))) (nat_le (job.size / 8) offset) (not (has_block memory job.target offset)) _ _ _ _ none in
+    let offset = entry_offset memory job x in
+    let clear = no_cause (not (has_all memory (job.source + 10 * x) 10)) (nat_lt 0 x && nat_le offset (entry_offset memory job (x - 1))) (nat_le (job.size / 8) offset) (not (has_block memory job.target offset)) _ _ _ _ none in
     (leb-false (job.size / 8) offset clear.0, not-false (has_block memory job.target offset) clear.1)
 
 entries_in : (memory : Memory) (job : Job) (from n : ℕ) → IsWhole memory → ((x : ℕ) → from ≤ x → x < from + n → is_some (entry_fault 0 memory job x) ≡ false) → PutsIn (writes ApplyDelta job) (length memory.bytes) (map (entry_put memory job) (range_with_len from n))
 entries_in memory job from zero whole good = tt
 entries_in memory job from (suc n) whole good =
     let own = good_entry memory job from (good from (omega arith) (omega arith)) in
-    let offset = offset_at memory job from in
+    let offset = entry_offset memory job from in
     let present = has_all_within memory (job.target + 8 * offset) 8 whole own.1 (omega arith) in (
       put_in_first job.target job.size [] (8 * offset) 8 (length memory.bytes) (bytes_at memory (job.source + 10 * from + 2) 8)
           (length_bytes_at_le memory (job.source + 10 * from + 2) 8) (omega (arith, own.0)) (λ some. present),

@@ -11,10 +11,10 @@ use Rattle.dml_types.specs.declared.operations.Op.TheVariants.{NoOp, Move, Fill,
 use Rattle.dml_types.specs.declared.operations.Direction.{Direction}
 use Rattle.dml_types.specs.declared.operations.Direction.TheVariants.{Forward, Backward}
 use Rattle.dml_types.specs.Job.{reads, writes, span}
-use Rattle.dml_types.specs.Memory.{Memory, IsWhole, put_of, present_bytes, bytes_at, has, offset_in}
+use Rattle.dml_types.specs.Memory.{Memory, IsWhole, put_of, present_bytes, bytes_at, has, worked_offset}
 use Rattle.dml_types.specs.Effect.{effect_of, is_clear, stopped_at}
-use Rattle.dml_types.specs.Bytewise.{direction_by, done_from, result_of, faults_at, passes, length_of, pattern_byte, pattern_bytes, moved, dualcast, filled, compared, compare_answer}
-use Rattle.dml_types.specs.Step.{effect_by}
+use Rattle.dml_types.specs.Bytewise.{operation_direction, lowest_done, result_of, faults_at, passes, length_of, pattern_byte, pattern_bytes, moved, dualcast, filled, compared, compare_answer}
+use Rattle.dml_types.specs.Step.{operation_effect}
 use Rattle.dml_types.proofs.FirstLemmas.{first_le, fails_before, first_agree}
 use Rattle.dml_types.proofs.MemoryLemmas.{has_within, has_all_within, present_front}
 use Rattle.dml_types.proofs.MoveLemmas.{move_within}
@@ -22,8 +22,8 @@ use Rattle.dml_levels.proofs.FrameLemmas.{touched_head, touched_tail, touched_at
 
 -- an operation with its ranges
 pub record IsFramed (op : Op) : Type 0 where
-  pub agree : (memory : Memory) (bytes : List ℕ) (job : Job) → Agree (reads op job) bytes memory.bytes → effect_by op (with_bytes memory bytes) job ≡ effect_by op memory job
-  pub puts_in : (memory : Memory) (job : Job) → IsWhole memory → PutsIn (writes op job) (length memory.bytes) (effect_by op memory job).puts
+  pub agree : (memory : Memory) (bytes : List ℕ) (job : Job) → Agree (reads op job) bytes memory.bytes → operation_effect op (with_bytes memory bytes) job ≡ operation_effect op memory job
+  pub puts_in : (memory : Memory) (job : Job) → IsWhole memory → PutsIn (writes op job) (length memory.bytes) (operation_effect op memory job).puts
 
 -- a part of the range that is read first, or second
 pub first_read : (memory : Memory) (bytes : List ℕ) (start len : ℕ) (rest : List Span) (from n : ℕ) → Agree (span start len ∷ rest) bytes memory.bytes → from + n ≤ len → bytes_at (with_bytes memory bytes) (start + from) n ≡ bytes_at memory (start + from) n
@@ -53,7 +53,7 @@ at_start : (start : ℕ) → start + 0 ≡ start
 at_start start = omega arith
 
 -- the part of a range that is done lies in it
-done_within : (direction : Direction) (n k : ℕ) → k ≤ n → done_from direction n k + k ≤ n
+done_within : (direction : Direction) (n k : ℕ) → k ≤ n → lowest_done direction n k + k ≤ n
 done_within Forward n k within = omega arith
 done_within Backward n k within = omega arith
 
@@ -120,18 +120,18 @@ pattern_framed = record { agree = pattern_agree; puts_in = no_puts }
 move_agree : (memory : Memory) (bytes : List ℕ) (job : Job) → Agree (reads Move job) bytes memory.bytes → moved (with_bytes memory bytes) job ≡ moved memory job
 unfolding moved
 move_agree memory bytes job agree =
-    let direction = direction_by Move job in
+    let direction = operation_direction Move job in
     let k = length_of Move memory job in
-    let from = done_from direction job.size k in
+    let from = lowest_done direction job.size k in
     let same = first_read memory bytes job.source job.size [] from k agree (done_within direction job.size k (first_le _ _)) in
-    ap (λ (copied : List ℕ). effect_of (put_of (job.target + from) copied ∷ []) (stopped_at memory job (result_of direction) k (faults_at Move job (offset_in direction job.size k)))) same
+    ap (λ (copied : List ℕ). effect_of (put_of (job.target + from) copied ∷ []) (stopped_at memory job (result_of direction) k (faults_at Move job (worked_offset direction job.size k)))) same
 
 move_puts : (memory : Memory) (job : Job) → IsWhole memory → PutsIn (writes Move job) (length memory.bytes) (moved memory job).puts
 unfolding moved
 move_puts memory job whole =
-    let direction = direction_by Move job in
+    let direction = operation_direction Move job in
     let k = length_of Move memory job in
-    let from = done_from direction job.size k in (
+    let from = lowest_done direction job.size k in (
       put_in_first job.target job.size [] from k (length memory.bytes) (bytes_at memory (job.source + from) k) (length_bytes_at_le memory (job.source + from) k)
           (done_within direction job.size k (first_le _ _)) (λ some. (move_within memory job whole some).1),
       tt,

@@ -11,11 +11,11 @@ use Rattle.dml_types.specs.Step.{step, memory_after, records_of}
 use Rattle.dml_order.specs.Order.{run_all, IsOrder, all_below, Commutes}
 use Rattle.dml_order.specs.Waves.{joined, waves_for}
 use Rattle.dml_order.proofs.OrderLemmas.{picks_all}
-use Rattle.dml_order.proofs.KeepsLemmas.{order_picks, order_whole, picks_front}
+use Rattle.dml_order.proofs.KeepsLemmas.{order_picks, order_whole, picks_front, picks_taken}
 use Rattle.dml_order.proofs.OrderLaws.{picks_then_rest}
 use Rattle.dml_order.proofs.WaveLemmas.{waves_order, joined_append}
 use Rattle.dml_levels.specs.Waves.{job_at}
-use Rattle.dml_levels.specs.Laws.{unless_refused, Progress, carried, begun, in_list_order, HoldsConflicts, OwnClashesHold, ClashesWithoutRefusedHold, AnyOrder, FrontThenLeft, WavesInOrder, WavesThenLeft}
+use Rattle.dml_levels.specs.Laws.{unless_refused, Progress, carried, begun, in_list_order, HoldsConflicts, OwnClashesHold, ClashesWithoutRefusedHold, AnyOrder, FrontByItself, FrontThenLeft, WavesInOrder, WavesThenLeft}
 use Rattle.dml_levels.proofs.CommuteLemmas.{jobs_commute, step_whole, still_apart}
 
 abbrev progress : Memory → List Record → Progress
@@ -78,6 +78,10 @@ pub front_then_left : FrontThenLeft
 front_then_left memory jobs staging blank clash front behind whole size holds is =
     picks_then_rest (carried_commutes jobs staging clash holds) front (picks_front clash front behind (all_below (length jobs)) (order_picks clash (length jobs) (front ++ behind) is)) (begun memory blank) whole
     ∙ in_order memory jobs staging blank size
+
+pub front_by_itself : FrontByItself
+front_by_itself memory jobs staging blank clash front behind whole holds is =
+    picks_taken (carried_commutes jobs staging clash holds) front (picks_front clash front behind (all_below (length jobs)) (order_picks clash (length jobs) (front ++ behind) is)) (begun memory blank) whole
 
 pub waves_in_order : WavesInOrder
 waves_in_order memory jobs staging blank clash fits whole size holds =

@@ -43,7 +43,7 @@ highest_kept clash levels i k n level known next low = record {
   reached = known.reached;
 }
 
-among_under : (clash : ℕ → ℕ → Bool) (levels : List ℕ) (i n level : ℕ) → ((j : ℕ) → j < n → clash j i ≡ true → slice_index levels j < level) → level_among clash levels i n ≤ level
+pub among_under : (clash : ℕ → ℕ → Bool) (levels : List ℕ) (i n level : ℕ) → ((j : ℕ) → j < n → clash j i ≡ true → slice_index levels j < level) → level_among clash levels i n ≤ level
 among_under clash levels i zero level lower = omega arith
 among_under clash levels i (suc n) level lower =
     let step : level_among clash levels i (suc n) ≡ cond (clash n i) (max (level_among clash levels i n) (slice_index levels n + 1)) (level_among clash levels i n) =

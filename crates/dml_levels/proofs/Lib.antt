@@ -1,3 +1,9 @@
+pub mod CellLemmas
+pub mod MeetLemmas
+pub mod PlaceLemmas
+pub mod RiseLemmas
+pub mod CoverLemmas
+pub mod HeightLemmas
 pub mod TouchedLemmas
 pub mod LevelLemmas
 pub mod TaskLemmas
@@ -10,3 +16,5 @@ pub mod LawLemmas
 pub mod FillingLemmas
 pub mod TestLemmas
 pub mod WaveFacts
+pub mod FenceLaws
+pub mod FenceLemmas

@@ -8,7 +8,7 @@ use Rattle.dml_types.specs.Memory.{Memory, IsWhole}
 use Rattle.dml_types.specs.Refusal.{refusal}
 use Rattle.dml_types.specs.Conflict.{conflict, clash_of}
 use Rattle.dml_types.specs.Step.{effect, step, memory_after, records_of}
-use Rattle.dml_order.specs.Order.{run_all, IsOrder, left_in_order}
+use Rattle.dml_order.specs.Order.{run_all, IsOrder, left_in_order, taken_in_order}
 use Rattle.dml_order.specs.Waves.{joined, waves_for}
 use Rattle.dml_levels.specs.Waves.{job_at}
 
@@ -85,7 +85,16 @@ FrontThenLeft =
     → run_all (carried jobs staging) (begun memory blank) (front ++ left_in_order (length jobs) front)
     ≡ in_list_order memory jobs staging
 
--- so do the waves in order, whatever fits into a wave
+-- and the front by itself gives what its jobs give in list order
+abbrev pub FrontByItself : Type 0
+FrontByItself =
+    (memory : Memory) (jobs : List Job) (staging : ℕ) (blank : List Record) (clash : ℕ → ℕ → Bool)
+    (front behind : List ℕ)
+    → IsWhole memory → HoldsConflicts clash jobs staging → IsOrder clash (length jobs) (front ++ behind)
+    → run_all (carried jobs staging) (begun memory blank) front
+    ≡ run_all (carried jobs staging) (begun memory blank) (taken_in_order (length jobs) front)
+
+-- the waves in order give what the list gives, whatever fits into a wave
 abbrev pub WavesInOrder : Type 0
 WavesInOrder =
     (memory : Memory) (jobs : List Job) (staging : ℕ) (blank : List Record) (clash : ℕ → ℕ → Bool)

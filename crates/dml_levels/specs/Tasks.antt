@@ -1,16 +1,11 @@
 -- The chunks of a job: of so many bytes each, in an apply of one entry for each 8 bytes.
-use Rattle.std.specs.Prelude.{◌≡◌, ◌≤◌, ℕ, ◌/◌, ◌%◌, unwrap_or, option_map}
+use Rattle.std.specs.Prelude.{ℕ, ◌/◌, unwrap_or, option_map}
 use Rattle.std.specs.Int.{div_ceil}
 use Rattle.dml_types.specs.declared.jobs.Job.{Job}
 use Rattle.dml_types.specs.declared.operations.Op.{Op}
 use Rattle.dml_types.specs.declared.operations.Op.TheVariants.{NoOp, ApplyDelta}
 use Rattle.dml_types.specs.Job.{op_of}
-
--- a chunk size within its limits
-pub record IsChunk (chunk : ℕ) : Type 0 where
-  pub least : 8 ≤ chunk
-  pub most : chunk ≤ 1048576
-  pub whole_words : chunk % 8 ≡ 0
+pub use Rattle.dml_types.specs.Limits.{IsChunk}
 
 -- a size over that of a chunk, rounded up: the last chunk may be a short one
 abbrev pub task_count_by : Op → Job → ℕ → ℕ

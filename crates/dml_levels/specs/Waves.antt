@@ -1,5 +1,5 @@
 -- What fits into a wave.
-use Rattle.std.specs.Prelude.{◌≡◌, ℕ, ◌≤◌, Bool, ◌&&◌, List, nat_le, slice_index_or}
+use Rattle.std.specs.Prelude.{◌≡◌, ℕ, ◌≤◌, Bool, ◌&&◌, List, [], nat_le, slice_index_or}
 use Rattle.std.specs.List.{sum_by}
 use Rattle.dml_types.specs.declared.jobs.Job.{Job}
 use Rattle.dml_types.specs.Job.{no_op_job}
@@ -40,3 +40,9 @@ pub record IsFilling (jobs : List Job) (staging chunk : ℕ) (filling : Filling)
   pub tasks : filling.tasks ≡ tasks_of jobs chunk filling.list.items
   pub within_staging : filling.needs ≤ staging
   pub within_tasks : filling.tasks ≤ most_tasks
+
+-- no job yet
+pub record IsUnfilled (filling : Filling) : Type 0 where
+  pub list : filling.list.items ≡ []
+  pub needs : filling.needs ≡ 0
+  pub tasks : filling.tasks ≡ 0

@@ -1,14 +1,13 @@
-ghost use Rattle.std.specs.Prelude.{◌≡◌, ◌⊎◌, ℕ, ◌<◌, All, ◌≤◌, Bool, List, [], ◌∷◌, ◌++◌, OnOk, length};
+ghost use Rattle.std.specs.Prelude.{◌≡◌, ◌⊎◌, ℕ, ◌<◌, All, ◌≤◌, Bool, List, [], ◌∷◌, ◌++◌, IfOk, OnOk, length};
 ghost use Rattle.dml_types.specs.Refusal.{need};
 ghost use Rattle.dml_order.specs.Waves.{cut_behind};
 ghost use Rattle.dml_levels.specs.Tasks.{IsChunk};
-ghost use Rattle.dml_levels.specs.Waves.{IsFilling, IsSmall, fits_wave, job_at};
+ghost use Rattle.dml_levels.specs.Waves.{IsFilling, IsSmall, IsUnfilled, fits_wave, job_at};
 
 use crate::tasks::task_count;
 use dml_desc::{Checked, need};
 use std::alloc::{AllocError, Global};
 use std::marker::Model;
-use std::mem;
 
 /// The most chunks of a wave.
 const MOST_TASKS: u64 = 131_072;
@@ -27,7 +26,7 @@ impl Model for Wave {
     ghost view = { λ wave. wave.list.items };
 }
 
-/// A wave that is being filled, with the staging that its jobs need, and their chunks.
+/// A wave that is being filled, with the staging that its jobs need, and their chunks. Its list serves all waves.
 #[derive(Drop)]
 pub struct Filling {
     pub list: Vec<u32>,
@@ -36,16 +35,15 @@ pub struct Filling {
 }
 
 impl Filling {
-    /// No job yet.
-    pub fn new(alloc: Global) -> Filling
-        ensures list { result.list.items ≡ [] }
-        ensures sums { (result.needs ≡ 0) × (result.tasks ≡ 0) }
+    /// No job yet, with room for so many.
+    pub fn new(alloc: Global, jobs: usize) -> Result<Filling, AllocError>
+        ensures { IfOk result IsUnfilled }
     {
-        Filling {
-            list: Vec::new(alloc),
+        Ok(Filling {
+            list: Vec::with_capacity(alloc, jobs)?,
             needs: 0,
             tasks: 0,
-        }
+        })
     }
 
     /// Takes the job at a place. Where it does not fit, the wave goes to the others, and the job begins the next.
@@ -77,8 +75,7 @@ impl Filling {
             self.needs = needs;
             self.tasks = tasks;
         } else {
-            let list = mem::replace(&mut self.list, Vec::new(alloc));
-            waves.push(Wave { list })?;
+            self.hand_over(alloc, waves)?;
             self.needs = own_needs;
             self.tasks = own_tasks;
         }
@@ -86,15 +83,28 @@ impl Filling {
         Ok(())
     }
 
-    /// Hands over the last wave, unless it has no job.
-    pub fn finish(self, waves: &mut Vec<Wave>) -> Result<(), AllocError>
-        ensures cut { OnOk result ((fits : List ℕ → Bool) → waves.new.items ≡ waves.old.items ++ cut_behind fits self.list.items []) }
-        ensures pushed { OnOk result ((waves.new.items ≡ waves.old.items) ⊎ (waves.new.items ≡ waves.old.items ++ self.list.items ∷ [])) }
+    /// Hands over the last wave, unless it has no job, and is empty again.
+    pub fn finish(&mut self, alloc: Global, waves: &mut Vec<Wave>) -> Result<(), AllocError>
+        ensures cut { OnOk result ((fits : List ℕ → Bool) → waves.new.items ≡ waves.old.items ++ cut_behind fits self.old.list.items []) }
+        ensures pushed { OnOk result ((waves.new.items ≡ waves.old.items) ⊎ (waves.new.items ≡ waves.old.items ++ self.old.list.items ∷ [])) }
+        ensures empty { OnOk result (IsUnfilled self.new) }
     {
-        let Filling { list, .. } = self;
-        if !list.is_empty() {
-            waves.push(Wave { list })?;
+        if !self.list.is_empty() {
+            self.hand_over(alloc, waves)?;
         }
+        self.needs = 0;
+        self.tasks = 0;
+        Ok(())
+    }
+
+    /// Hands over the wave, in a list with no room to spare.
+    fn hand_over(&mut self, alloc: Global, waves: &mut Vec<Wave>) -> Result<(), AllocError>
+        ensures handed { OnOk result (waves.new.items ≡ waves.old.items ++ self.old.list.items ∷ []) }
+        ensures empty { OnOk result (self.new.list.items ≡ []) }
+    {
+        let list = Vec::from_slice(alloc, self.list.as_slice())?;
+        waves.push(Wave { list })?;
+        self.list.clear();
         Ok(())
     }
 }

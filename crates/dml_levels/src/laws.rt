@@ -1,4 +1,5 @@
-ghost use Rattle.dml_levels.specs.Laws.{AnyOrder, ClashesWithoutRefusedHold, EffectStands, FrontThenLeft, JobsCommute, OwnClashesHold, WavesInOrder, WavesThenLeft};
+ghost use Rattle.dml_levels.specs.Laws.{AnyOrder, ClashesWithoutRefusedHold, EffectStands, FrontByItself, FrontThenLeft, JobsCommute, OwnClashesHold, WavesInOrder, WavesThenLeft};
+ghost use Rattle.dml_levels.specs.Fences.{FencesOnlyAdd, FencesPart, FrontIsFold, WavesBeforeFence};
 
 /// The law of conflicts: two jobs that do not conflict give the same image and the same two records in either order,
 /// and the effect of each, found before the other is carried out, stands afterwards. What a refused job names does not
@@ -12,10 +13,12 @@ pub fn law_of_conflicts()
 
 /// The law of order, for any clashes of places that hold the conflicts of a list: each order in which no job goes
 /// before an earlier one that clashes with it gives the image and the records of the list, as does the front of such
-/// an order followed by the jobs that are left, in list order.
+/// an order followed by the jobs that are left, in list order; and the front by itself gives what its jobs give in
+/// list order.
 pub fn law_of_order()
     ensures any_order { AnyOrder }
     ensures front_then_left { FrontThenLeft }
+    ensures front { FrontByItself }
 {}
 
 /// The law of waves: in their order they give the image and the records of the list, as do the first of them,
@@ -23,4 +26,14 @@ pub fn law_of_order()
 pub fn law_of_waves()
     ensures in_order { WavesInOrder }
     ensures then_left { WavesThenLeft }
+{}
+
+/// The law of fences: they only add clashes, every job before a fenced one stands in a lower level than it and all later ones, and the waves
+/// before the first with one of these hold every job before the fence. They give the image and the records of those jobs,
+/// carried out by themselves, and leave all other records.
+pub fn law_of_fences()
+    ensures only_add { FencesOnlyAdd }
+    ensures part { FencesPart }
+    ensures before { WavesBeforeFence }
+    ensures fold { FrontIsFold }
 {}

@@ -1,51 +1,90 @@
 ghost use Rattle.std.specs.Prelude.{◌≡◌, ◌^◌, ◌<◌, ◌≤◌, IfOk, length, map};
 ghost use Rattle.dml_types.specs.Conflict.{clash_of, level_over, levels_of};
 ghost use Rattle.dml_types.specs.Conflict as word;
+ghost use Rattle.std.specs.List.Sorted.{IsPermutation};
+ghost use Rattle.dml_levels.specs.Cells.{all_starts, footprint_of};
 ghost use Rattle.dml_levels.specs.Hulls.{reach_of};
 ghost use Rattle.dml_levels.specs.Touched.{touched_by};
 
-use crate::errors::LevelError;
-use crate::hulls::Reach;
+use crate::cells::find_starts;
+use crate::covers::{Footprint, covered, find_footprints};
+use crate::heights::Heights;
+use crate::hulls::{Reach, are_apart};
 use crate::touched::Touches;
 use dml_desc::Checked;
 use std::alloc::{AllocError, Global};
 
-/// The level of each job: 0 where it conflicts with no earlier one, and else one more than the greatest level of an
-/// earlier job that it conflicts with.
-///
-/// # Errors
-/// `NoMemory` where there is no room for the list.
-pub fn levels(alloc: Global, jobs: &[Checked]) -> Result<Vec<u32>, LevelError>
-    requires { length jobs.now ≤ 2 ^ 32 }
-    ensures { IfOk result (λ list. list.items ≡ word.levels jobs.now) }
-{
-    find_levels(alloc, jobs).map_err(|_| LevelError::NoMemory)
-}
+/// Up to so many jobs, levels are found by pairs.
+const FEW_JOBS: usize = 16;
 
-/// The levels, or want of memory.
-fn find_levels(alloc: Global, jobs: &[Checked]) -> Result<Vec<u32>, AllocError>
+/// Above so many jobs too.
+const MOST_JOBS: usize = 65_536;
+
+/// And where the jobs' ranges cover more cells, each counted as often as it is covered.
+const MOST_COVERED: u64 = 262_144;
+
+/// The level of each job by ranges alone: 0 where it conflicts with no earlier one, and else one more than the greatest
+/// level of an earlier job that it conflicts with. By pairs of jobs, or by the cells of their ranges where that is
+/// quicker.
+pub(crate) fn find_levels(alloc: Global, jobs: &[Checked]) -> Result<Vec<u32>, AllocError>
     requires { length jobs.now ≤ 2 ^ 32 }
     ensures { IfOk result (λ list. list.items ≡ word.levels jobs.now) }
 {
     let reaches = find_reaches(alloc, jobs)?;
+    if jobs.len() > FEW_JOBS && jobs.len() <= MOST_JOBS && !are_apart(reaches.as_slice()) {
+        let starts = find_starts(alloc, jobs)?;
+        let footprints = find_footprints(alloc, starts.as_slice(), jobs)?;
+        if covered(footprints.as_slice()) <= MOST_COVERED {
+            return levels_by_cells(alloc, jobs, starts.as_slice(), footprints.as_slice());
+        }
+    }
+    levels_by_pairs(alloc, jobs, reaches.as_slice())
+}
+
+/// The levels by pairs of jobs.
+fn levels_by_pairs(
+    alloc: Global,
+    jobs: &[Checked],
+    reaches: &[Reach],
+) -> Result<Vec<u32>, AllocError>
+    requires few { length jobs.now ≤ 2 ^ 32 }
+    requires reaches { reaches.now ≡ map reach_of jobs.now }
+    ensures { IfOk result (λ list. list.items ≡ word.levels jobs.now) }
+{
     let touched = find_touched(alloc, jobs)?;
     let mut levels = Vec::with_capacity(alloc, jobs.len())?;
     let mut seen = Reach::none();
     for i in 0..jobs.len() {
         let reach = reaches[i];
         let level = if seen.meets(reach) {
-            level_at(
-                jobs,
-                reaches.as_slice(),
-                touched.as_slice(),
-                levels.as_slice(),
-                i,
-            )
+            level_at(jobs, reaches, touched.as_slice(), levels.as_slice(), i)
         } else {
             0
         };
         levels.push(level)?;
         seen = seen.both(reach);
+    }
+    Ok(levels)
+}
+
+/// The levels by the cells of the jobs' ranges.
+fn levels_by_cells(
+    alloc: Global,
+    jobs: &[Checked],
+    starts: &[u64],
+    footprints: &[Footprint],
+) -> Result<Vec<u32>, AllocError>
+    requires few { length jobs.now < 2 ^ 32 }
+    requires starts { IsPermutation (all_starts jobs.now) starts.now }
+    requires footprints { footprints.now ≡ map (footprint_of starts.now) jobs.now }
+    ensures { IfOk result (λ list. list.items ≡ word.levels jobs.now) }
+{
+    let mut levels = Vec::with_capacity(alloc, jobs.len())?;
+    let mut heights = Heights::new(alloc, starts.len() + 1)?;
+    for footprint in footprints {
+        let level = heights.level_of(footprint);
+        heights.raise(footprint, level.saturating_add(1));
+        levels.push(level)?;
     }
     Ok(levels)
 }

@@ -2,9 +2,13 @@
 //! may be carried out together.
 #![tactic(auto)]
 
+mod cells;
 mod clashing;
+mod covers;
 mod errors;
+mod fencing;
 mod filling;
+mod heights;
 mod hulls;
 mod laws;
 mod leveling;
@@ -17,9 +21,9 @@ mod waving;
 pub use clashing::conflict;
 pub use dml_types::Span;
 pub use errors::LevelError;
+pub use fencing::levels;
 pub use filling::Wave;
-pub use laws::{law_of_conflicts, law_of_order, law_of_waves};
-pub use leveling::levels;
+pub use laws::{law_of_conflicts, law_of_fences, law_of_order, law_of_waves};
 pub use ranges::Spans;
 pub use tasks::task_count;
 pub use touched::Touches;

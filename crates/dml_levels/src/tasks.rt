@@ -3,10 +3,7 @@ ghost use Rattle.dml_levels.specs.Tasks.{IsChunk};
 ghost use Rattle.dml_levels.specs.Tasks as word;
 
 use dml_desc::Checked;
-use dml_types::Op;
-
-/// The bytes of a delta record's entry.
-const ENTRY: u32 = 10;
+use dml_types::{ENTRY, Op};
 
 /// The bytes that one entry of an apply counts for in a chunk.
 const BLOCK: u32 = 8;

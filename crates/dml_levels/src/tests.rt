@@ -2,7 +2,7 @@ ghost use Rattle.std.specs.Prelude.{◌≤◌, All, IfSome};
 ghost use Rattle.dml_types.specs.Refusal.{need};
 
 use crate::{LevelError, conflict, levels, task_count, touches, waves};
-use dml_desc::{Checked, check};
+use dml_desc::{Checked, check, check_in_batch};
 use dml_types::{Job, Span, Status};
 use std::alloc::Global;
 use std::process::Abort;
@@ -58,6 +58,23 @@ fn levels_of_four_jobs(rt: HostRuntime) -> Result<(), Fail> {
     Ok(())
 }
 
+/// Fills of five ranges in turn, more jobs than are looked at by pairs: each waits for the one before it in its range.
+fn fills_in_turn(alloc: Global) -> Option<Vec<Job>> {
+    let mut jobs = Vec::with_capacity(alloc, 20).ok()?;
+    for place in 0..20 {
+        jobs.push(Job::fill(place, place % 5 * 64, 64)).ok()?;
+    }
+    Some(jobs)
+}
+
+#[test]
+fn levels_of_fills_in_turn(rt: HostRuntime) -> Result<(), Fail> {
+    let jobs = fills_in_turn(rt.alloc()).ok_or("no memory")?;
+    let want = [0, 0, 0, 0, 0, 1, 1, 1, 1, 1, 2, 2, 2, 2, 2, 3, 3, 3, 3, 3];
+    expect_levels(&rt, rt.alloc(), jobs.as_slice(), &want).ok_or("no memory")?;
+    Ok(())
+}
+
 #[test]
 fn chunk_task_counts(rt: HostRuntime) -> Result<(), Fail> {
     let rows = [
@@ -105,6 +122,51 @@ fn conflicts(rt: HostRuntime) -> Result<(), Fail> {
         assert_eq!(rt; conflict(&first, &second), want, "{a:?} and {b:?}");
         assert_eq!(rt; conflict(&second, &first), want, "{b:?} and {a:?}");
     }
+    Ok(())
+}
+
+/// Checks the levels of fills of 8 bytes at these addresses, each fenced or not.
+fn expect_fenced_levels(
+    rt: &impl Abort,
+    alloc: Global,
+    fills: &[(u64, bool)],
+    want: &[u32],
+) -> Result<(), Fail> {
+    let mut jobs = Vec::new(alloc);
+    for (address, fenced) in fills {
+        let job = Job::fill(1, *address, 8).with_flags(u32::from(*fenced));
+        jobs.push(check_in_batch(&job, STAGING).map_err(|_| "refused")?)?;
+    }
+    assert!(rt; jobs.len() <= 1024);
+    let found = levels(alloc, jobs.as_slice())?;
+    assert_eq!(rt; found.as_slice(), want);
+    Ok(())
+}
+
+/// Behind a fence stand the levels that its jobs have by themselves, above all before it; one at place 0 raises nothing.
+#[test]
+fn levels_behind_fences(rt: HostRuntime) -> Result<(), Fail> {
+    let alloc = rt.alloc();
+    let (free, fenced) = (false, true);
+    expect_fenced_levels(&rt, alloc, &[(0, fenced), (8, free)], &[0, 0])?;
+    expect_fenced_levels(
+        &rt,
+        alloc,
+        &[(0, free), (8, fenced), (16, free)],
+        &[0, 1, 1],
+    )?;
+    expect_fenced_levels(
+        &rt,
+        alloc,
+        &[(0, free), (0, free), (8, fenced), (8, free)],
+        &[0, 1, 2, 3],
+    )?;
+    expect_fenced_levels(
+        &rt,
+        alloc,
+        &[(0, free), (8, fenced), (16, fenced), (24, free)],
+        &[0, 1, 2, 2],
+    )?;
     Ok(())
 }
 

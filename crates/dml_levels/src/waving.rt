@@ -4,7 +4,7 @@ ghost use Rattle.dml_types.specs.Conflict as table;
 ghost use Rattle.dml_order.specs.Order.{IsOrder};
 ghost use Rattle.dml_order.specs.Waves.{AreFull, IsOfOneLevel, Rises, depth, joined, waves_at};
 ghost use Rattle.dml_levels.specs.Tasks.{IsChunk};
-ghost use Rattle.dml_levels.specs.Waves.{IsSmall, fits_wave};
+ghost use Rattle.dml_levels.specs.Waves.{IsSmall, IsUnfilled, fits_wave};
 ghost use Rattle.dml_levels.specs.Waves as word;
 
 use crate::errors::LevelError;
@@ -26,12 +26,12 @@ pub fn waves(
 ) -> Result<Vec<Wave>, LevelError>
     requires few { length jobs.now ≤ 2 ^ 32 }
     requires needs { All (λ job. need job ≤ staging) jobs.now }
-    requires levels { levels.now ≡ table.levels jobs.now }
+    requires levels { levels.now ≡ table.fenced_levels jobs.now }
     requires chunk { IsChunk chunk }
     ensures cut { IfOk result (λ list. list.items ≡ word.waves jobs.now levels.now staging chunk) }
 
     // In the subject's own words.
-    ensures each_once { IfOk result (λ list. IsOrder (table.clash_of jobs.now) (length jobs.now) (joined list.items)) }
+    ensures each_once { IfOk result (λ list. IsOrder (table.fenced_clash jobs.now) (length jobs.now) (joined list.items)) }
     ensures level_by_level { IfOk result (λ list. Rises levels.now (joined list.items)) }
     ensures one_level { IfOk result (λ list. All (IsOfOneLevel levels.now) list.items) }
     ensures fit { IfOk result (λ list. All (IsSmall jobs.now staging chunk) list.items) }
@@ -58,15 +58,25 @@ fn find_waves(
     ensures cut { IfOk result (λ list. list.items ≡ word.waves jobs.now levels.now staging chunk) }
     ensures fit { IfOk result (λ list. All (IsSmall jobs.now staging chunk) list.items) }
 {
-    let mut waves = Vec::new(alloc);
+    let mut waves = Vec::with_capacity(alloc, jobs.len())?;
+    let mut filling = Filling::new(alloc, jobs.len())?;
     for level in 0..depth(levels) {
-        cut_level(alloc, jobs, levels, level, staging, chunk, &mut waves)?;
+        cut_level(
+            alloc,
+            jobs,
+            levels,
+            level,
+            staging,
+            chunk,
+            &mut filling,
+            &mut waves,
+        )?;
     }
     Ok(waves)
 }
 
 /// How many levels there are.
-fn depth(levels: &[u32]) -> u64
+pub(crate) fn depth(levels: &[u32]) -> u64
     ensures { result ≡ depth levels.now }
 {
     let mut depth = 0;
@@ -84,21 +94,23 @@ fn cut_level(
     level: u64,
     staging: u32,
     chunk: u32,
+    filling: &mut Filling,
     waves: &mut Vec<Wave>,
 ) -> Result<(), AllocError>
     requires few { length jobs.now ≤ 2 ^ 32 }
     requires needs { All (λ job. need job ≤ staging) jobs.now }
     requires levels { length levels.now ≡ length jobs.now }
     requires chunk { IsChunk chunk }
+    requires empty { IsUnfilled filling.old }
     requires fit { All (IsSmall jobs.now staging chunk) waves.old.items }
     ensures cut { OnOk result (waves.new.items ≡ waves.old.items ++ waves_at (fits_wave jobs.now staging chunk) levels.now level) }
     ensures fit { OnOk result (All (IsSmall jobs.now staging chunk) waves.new.items) }
+    ensures empty { OnOk result (IsUnfilled filling.new) }
 {
-    let mut filling = Filling::new(alloc);
     for place in 0..levels.len() {
         if u64::from(levels[place]) == level {
             filling.take(alloc, jobs, place as u32, staging, chunk, waves)?;
         }
     }
-    filling.finish(waves)
+    filling.finish(alloc, waves)
 }

@@ -9,14 +9,17 @@ use Rattle.dml_plain.specs.Row.{hex, image, answer, Answers, Shows, after}
 unfoldable pub apply_not_rising : Type 0
 apply_not_rising =
     let memory =
-    put (put (put (image (true ∷ [])) 0 (hex 10 0x00001111111111111111)) 10 (hex 10 0x02002222222222222222)) 20
+    put
+    (put (put (image (true ∷ [])) 0 (hex 10 0x00001111111111111111)) 10 (hex 10 0x02002222222222222222)) 20
     (hex 10 0x02003333333333333333) in
     let jobs = apply_job 0 30 256 32 ∷ [] in
     Answers memory jobs (answer NotRising 0 20 0 0 ∷ [])
-    × Shows (after memory jobs) 256 (hex 32 0x1111111111111111000000000000000022222222222222220000000000000000)
+    × Shows (after memory jobs) 256
+    (hex 32 0x1111111111111111000000000000000022222222222222220000000000000000)
 
--- Offset 4 lies behind a destination of 4 blocks; at the largest transfer size no offset does. Two entries stand
--- at the front of 129 pages, of which the first and the last are present; what stands behind them is never read.
+-- Offset 4 lies behind a destination of 4 blocks; at the largest transfer size no offset does. Two entries
+-- stand at the front of 129 pages, of which the first and the last are present; what stands behind them is
+-- never read.
 unfoldable pub apply_offset_range : Type 0
 apply_offset_range =
     (behind : List ℕ) →
@@ -35,6 +38,8 @@ apply_offset_range =
 unfoldable pub not_rising_before_fault : Type 0
 not_rising_before_fault =
     let memory =
-    put (put (image (true ∷ false ∷ true ∷ [])) 0 (hex 10 0x0200aaaaaaaaaaaaaaaa)) 10 (hex 10 0x0000bbbbbbbbbbbbbbbb) in
+    put (put (image (true ∷ false ∷ true ∷ [])) 0 (hex 10 0x0200aaaaaaaaaaaaaaaa)) 10
+    (hex 10 0x0000bbbbbbbbbbbbbbbb) in
     let jobs = apply_job 0 20 8176 32 ∷ [] in
-    Answers memory jobs (answer NotRising 0 10 0 0 ∷ []) × Shows (after memory jobs) 8192 (hex 8 0xaaaaaaaaaaaaaaaa)
+    Answers memory jobs (answer NotRising 0 10 0 0 ∷ [])
+    × Shows (after memory jobs) 8192 (hex 8 0xaaaaaaaaaaaaaaaa)

@@ -31,5 +31,6 @@ unfoldable pub pattern_expected : Type 0
 pattern_expected =
     let memory = put (image (true ∷ [])) 0 (hex 11 0x0102030405060708010203) in
     Answers memory
-    (checked (compare_pattern_job 0 0x0807060504030201 11) 0 ∷ checked (compare_pattern_job 0 0x0807060504030201 12) 2 ∷ [])
+    (checked (compare_pattern_job 0 0x0807060504030201 11) 0
+    ∷ checked (compare_pattern_job 0 0x0807060504030201 12) 2 ∷ [])
     (answer Success 0 11 0 0 ∷ answer FalsePredicate 1 11 0 0 ∷ [])

@@ -31,11 +31,14 @@ overflow_before_write_fault =
     (create_job 0 64 32 4076 20 ∷ create_job 0 64 32 4076 30 ∷ create_job 0 64 32 4080 20 ∷ [])
     (answer Success 2 24 0 20 ∷ answer WriteFault 0 24 4096 20 ∷ answer WriteFault 0 8 4096 10 ∷ [])
 
--- the entries before an absent source are written; an overflow that comes first decides, and no more is written
+-- the entries before an absent source are written; an overflow that comes first decides, and no more is
+-- written
 unfoldable pub delta_stops_at_absent_source : Type 0
 delta_stops_at_absent_source =
-    let memory = put (put (put (image (true ∷ false ∷ [])) 4056 (hex 1 0x01)) 4072 (hex 1 0x02)) 4088 (hex 1 0x03) in
+    let memory =
+    put (put (put (image (true ∷ false ∷ [])) 4056 (hex 1 0x01)) 4072 (hex 1 0x02)) 4088 (hex 1 0x03) in
     let jobs = create_job 0 4056 64 128 80 ∷ create_job 0 4056 64 256 20 ∷ [] in
     Answers memory jobs (answer ReadFault 0 40 4096 30 ∷ answer Success 2 32 0 20 ∷ [])
-    × Shows (after memory (create_job 0 4056 64 128 80 ∷ [])) 128 (hex 30 0x000001000000000000000200020000000000000004000300000000000000)
+    × Shows (after memory (create_job 0 4056 64 128 80 ∷ [])) 128
+    (hex 30 0x000001000000000000000200020000000000000004000300000000000000)
     × Shows (after memory jobs) 276 (hex 3 0x000000)

@@ -16,7 +16,8 @@ fill_into_absent_page =
 unfoldable pub fill_refusals : Type 0
 fill_refusals =
     Answers (image (true ∷ []))
-    (fill_job 0 0 1048577 ∷ flagged no_op_job 0x10 ∷ fill_job 0 0xfffffffffffffff8 9 ∷ fill_job 0 0xfffffffffffffff8 8 ∷ [])
+    (fill_job 0 0 1048577 ∷ flagged no_op_job 0x10 ∷ fill_job 0 0xfffffffffffffff8 9
+    ∷ fill_job 0 0xfffffffffffffff8 8 ∷ [])
     (answer BadSize 0 0 0 0 ∷ answer BadFlags 0 0 0 0 ∷ answer RangePast 0 0 0 0
     ∷ answer WriteFault 0 0 18446744073709551608 0 ∷ [])
 
@@ -35,6 +36,7 @@ every_page_absent =
     move_job 0 8 16 ∷ fill_job 1 0 8 ∷ compare_job 0 8 8 ∷ create_job 0 64 8 128 10 ∷ apply_job 0 10 256 8
     ∷ dualcast_job 0 4096 8192 8 ∷ no_op_job ∷ [] in
     Answers memory jobs
-    (answer ReadFault 1 0 15 0 ∷ answer WriteFault 0 0 0 0 ∷ answer ReadFault 0 0 0 0 ∷ answer ReadFault 0 0 0 0
+    (answer ReadFault 1 0 15 0 ∷ answer WriteFault 0 0 0 0 ∷ answer ReadFault 0 0 0 0
+    ∷ answer ReadFault 0 0 0 0
     ∷ answer ReadFault 0 0 0 0 ∷ answer ReadFault 0 0 0 0 ∷ answer Success 0 0 0 0 ∷ [])
     × ShowsCut (after memory jobs) 0 [] 2

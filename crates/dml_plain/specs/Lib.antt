@@ -2,6 +2,7 @@ pub mod CompareRows
 pub mod CreateRows
 pub mod ApplyRows
 pub mod FillRows
+pub mod FenceRows
 pub mod ListRows
 pub mod MoveRows
 pub mod RefusalRows

@@ -18,7 +18,8 @@ batch_with_bad_opcode =
 unfoldable pub bare_image : Type 0
 bare_image = let memory = image (false ∷ []) in Answers memory [] [] × (after memory [] ≡ memory)
 
--- staging of 64 bytes: each job alone is judged. The two that are not refused are of one level; that they make two waves
+-- staging of 64 bytes: each job alone is judged. The two that are not refused are of one level; that they make
+-- two waves
 -- is for the waves' definition
 unfoldable pub staging_refusal_and_two_waves : Type 0
 staging_refusal_and_two_waves =
@@ -52,10 +53,7 @@ levels_of_four_jobs =
 unfoldable pub flags_before_size : Type 0
 flags_before_size =
     let memory = image (false ∷ []) in
-    Answers memory (flagged (move_job 0 0 1048577) 0x10 ∷ move_job 0 0 1048577 ∷ move_job 0 0 0 ∷ flagged no_op_job 1 ∷ [])
+    Answers memory
+    (flagged (move_job 0 0 1048577) 0x10 ∷ move_job 0 0 1048577 ∷ move_job 0 0 0 ∷ flagged no_op_job 1 ∷ [])
     (answer BadFlags 0 0 0 0 ∷ answer BadSize 0 0 0 0 ∷ answer Success 0 0 0 0 ∷ answer BadFlags 0 0 0 0 ∷ [])
     × AnswersBatch memory [] [] Success 0
-
--- a fence is refused, in a batch too
-unfoldable pub fence_in_batch : Type 0
-fence_in_batch = AnswersBatch (image (false ∷ [])) (flagged no_op_job 1 ∷ []) (answer BadFlags 0 0 0 0 ∷ []) BatchFailed 1

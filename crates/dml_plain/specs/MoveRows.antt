@@ -3,20 +3,22 @@ use Rattle.std.specs.Prelude.{true, false, [], ◌∷◌}
 use Rattle.dml_types.specs.declared.statuses.Status.TheVariants.{Success, ReadFault, WriteFault, Overlap, DualcastBits, RangePast}
 use Rattle.dml_types.specs.Memory.{put}
 use Rattle.dml_types.specs.Job.{move_job, dualcast_job}
-use Rattle.dml_image.specs.Brought.{brought}
-use Rattle.dml_plain.specs.Row.{hex, image, page_of, answer, Answers, Shows, after}
+use Rattle.dml_image.specs.Brought.{brought, padded}
+use Rattle.dml_plain.specs.Row.{hex, image, answer, Answers, Shows, after}
 
 -- the destination begins inside the source: the move begins with its last byte, and that one is absent
 unfoldable pub backward_move_into_absent_page : Type 0
 backward_move_into_absent_page =
     let memory = put (image (true ∷ false ∷ [])) 0 (hex 5 0x0102030405) in
     let jobs = move_job 0 4 4096 ∷ [] in
-    Answers memory jobs (answer WriteFault 1 0 4099 0 ∷ []) × Shows (after memory jobs) 0 (hex 8 0x0102030405000000)
+    Answers memory jobs (answer WriteFault 1 0 4099 0 ∷ [])
+    × Shows (after memory jobs) 0 (hex 8 0x0102030405000000)
 
 -- the source begins inside the destination: the move goes forward
 unfoldable pub forward_move_over_itself : Type 0
 forward_move_over_itself =
-    let memory = put (put (image (true ∷ [])) 0 (hex 12 0xa0a1a2a3a4a5a6a7a8a9aaab)) 100 (hex 6 0xd0d1d2d3d4d5) in
+    let memory =
+    put (put (image (true ∷ [])) 0 (hex 12 0xa0a1a2a3a4a5a6a7a8a9aaab)) 100 (hex 6 0xd0d1d2d3d4d5) in
     let jobs = move_job 4 0 100 ∷ [] in
     Answers memory jobs (answer Success 0 100 0 0 ∷ [])
     × Shows (after memory jobs) 0 (hex 10 0xa4a5a6a7a8a9aaab0000)
@@ -56,4 +58,4 @@ dualcast_write_fault =
 unfoldable pub write_over_page_edge : Type 0
 write_over_page_edge =
     let memory = put (image (true ∷ true ∷ [])) 4094 (hex 4 0x01020304) in
-    Shows (brought memory 0 (page_of [])) 4094 (hex 4 0x00000304)
+    Shows (brought memory 0 (padded [])) 4094 (hex 4 0x00000304)

@@ -31,4 +31,5 @@ unfoldable pub create_overlap_refused : Type 0
 create_overlap_refused = IsRefused (create_job 0 64 16 70 20) Overlap
 
 unfoldable pub opcode_before_flags : Type 0
-opcode_before_flags = IsRefused (flagged (plain 0x10) 0x10) BadOpcode × IsAccepted (record no_op_job { size = 4294967295 })
+opcode_before_flags =
+    IsRefused (flagged (plain 0x10) 0x10) BadOpcode × IsAccepted (record no_op_job { size = 4294967295 })

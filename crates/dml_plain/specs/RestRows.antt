@@ -4,8 +4,8 @@ use Rattle.dml_types.specs.declared.statuses.Status.TheVariants.{Success, ReadFa
 use Rattle.dml_types.specs.Memory.{put}
 use Rattle.dml_types.specs.Job.{move_job, fill_job, compare_job, create_job}
 use Rattle.dml_types.specs.Step.{rest}
-use Rattle.dml_image.specs.Brought.{brought}
-use Rattle.dml_plain.specs.Row.{hex, image, page_of, answer, Answers, Shows, after}
+use Rattle.dml_image.specs.Brought.{brought, padded}
+use Rattle.dml_plain.specs.Row.{hex, image, answer, Answers, Shows, after}
 
 -- the pattern of the rest is turned
 unfoldable pub resume_a_fill : Type 0
@@ -14,7 +14,7 @@ resume_a_fill =
     let job = fill_job 0x0807060504030201 4091 9 in
     let stopped = answer WriteFault 0 5 4096 0 in
     let left = fill_job 0x0504030201080706 4096 4 in
-    let resumed = brought (after memory (job ∷ [])) 1 (page_of []) in
+    let resumed = brought (after memory (job ∷ [])) 1 (padded []) in
     Answers memory (job ∷ []) (stopped ∷ [])
     × (rest job stopped ≡ Some left)
     × Answers resumed (left ∷ []) (answer Success 0 4 0 0 ∷ [])
@@ -27,7 +27,7 @@ resume_a_compare =
     let job = compare_job 0 4092 8 in
     let stopped = answer ReadFault 0 4 4096 0 in
     let left = compare_job 4 4096 4 in
-    let page_one = page_of (hex 2 0x0007) in
+    let page_one = padded (hex 2 0x0007) in
     Answers memory (job ∷ []) (stopped ∷ [])
     × (rest job stopped ≡ Some left)
     × Answers (brought (after memory (job ∷ [])) 1 page_one) (left ∷ []) (answer Success 1 1 0 0 ∷ [])
@@ -40,7 +40,7 @@ resume_a_backward_move =
     let job = move_job 0 8 12272 in
     let stopped = answer ReadFault 1 4080 8191 0 in
     let left = move_job 0 8 8192 in
-    let resumed = brought (after memory (job ∷ [])) 1 (page_of []) in
+    let resumed = brought (after memory (job ∷ [])) 1 (padded []) in
     Answers memory (job ∷ []) (stopped ∷ [])
     × (rest job stopped ≡ Some left)
     × Answers resumed (left ∷ []) (answer Success 1 8192 0 0 ∷ [])

@@ -17,10 +17,6 @@ hex n digits = map (λ i. digits / 256 ^ (n - 1 - i) % 256) (range_with_len 0 n)
 abbrev pub image : List Bool → Memory
 image present = record { present = present; bytes = replicate (page_size * length present) 0; home = None }
 
--- the bytes of a page: these first, and then zeros
-abbrev pub page_of : List ℕ → List ℕ
-page_of bytes = bytes ++ replicate (page_size - length bytes) 0
-
 -- a job with flags; and one whose result is checked
 abbrev pub flagged : Job → ℕ → Job
 flagged job flags = record job { flags = flags }
@@ -55,11 +51,13 @@ AnswersBatch memory jobs records status completed =
 -- what n bytes show from an address on: a byte, or nothing where it is absent
 abbrev pub seen : Memory → ℕ → ℕ → List (Option ℕ)
 seen memory address n =
-    map (λ i. if has memory (address + i) then Some (byte_at memory (address + i)) else None) (range_with_len 0 n)
+    map (λ i. if has memory (address + i) then Some (byte_at memory (address + i)) else None)
+    (range_with_len 0 n)
 
 -- these bytes stand from an address on, followed by so many absent ones
 abbrev pub ShowsCut : Memory → ℕ → List ℕ → ℕ → Type 0
-ShowsCut memory address bytes absent = seen memory address (length bytes + absent) ≡ map Some bytes ++ replicate absent None
+ShowsCut memory address bytes absent =
+    seen memory address (length bytes + absent) ≡ map Some bytes ++ replicate absent None
 
 abbrev pub Shows : Memory → ℕ → List ℕ → Type 0
 Shows memory address bytes = ShowsCut memory address bytes 0

@@ -5,6 +5,6 @@
 mod rows;
 
 pub use rows::{
-    rows_of_applies, rows_of_compares, rows_of_creates, rows_of_fills, rows_of_lists,
-    rows_of_moves, rows_of_refusals, rows_of_rests,
+    rows_of_applies, rows_of_compares, rows_of_creates, rows_of_fences, rows_of_fills,
+    rows_of_lists, rows_of_moves, rows_of_refusals, rows_of_rests,
 };

@@ -2,6 +2,7 @@ ghost use Rattle.dml_plain.specs.ApplyRows as applies;
 ghost use Rattle.dml_plain.specs.CompareRows as compares;
 ghost use Rattle.dml_plain.specs.CreateRows as creates;
 ghost use Rattle.dml_plain.specs.FillRows as fills;
+ghost use Rattle.dml_plain.specs.FenceRows as fences;
 ghost use Rattle.dml_plain.specs.ListRows as lists;
 ghost use Rattle.dml_plain.specs.MoveRows as moves;
 ghost use Rattle.dml_plain.specs.RefusalRows as refusals;
@@ -67,7 +68,17 @@ pub fn rows_of_lists()
     ensures conflict_chain { lists.conflict_chain }
     ensures levels_of_four_jobs { lists.levels_of_four_jobs }
     ensures flags_before_size { lists.flags_before_size }
-    ensures fence_in_batch { lists.fence_in_batch }
+{}
+
+/// The worked rows of fences in batches.
+pub fn rows_of_fences()
+    ensures fence_in_batch { fences.fence_in_batch }
+    ensures fence_orders { fences.fence_orders }
+    ensures fence_abandons { fences.fence_abandons }
+    ensures fence_after_false_predicate { fences.fence_after_false_predicate }
+    ensures refused_fenced_job { fences.refused_fenced_job }
+    ensures refused_fenced_job_after_fault { fences.refused_fenced_job_after_fault }
+    ensures levels_behind_a_fence { fences.levels_behind_a_fence }
 {}
 
 /// The worked rows of the job that is left after a page fault.

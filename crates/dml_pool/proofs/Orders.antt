@@ -9,7 +9,7 @@ use Rattle.std.proofs.lemmas.Grind.{get_or-set_at}
 use Rattle.dml_types.specs.Memory.{Memory}
 use Rattle.dml_pool.specs.declared.tasks.Task.{Task}
 use Rattle.dml_pool.specs.declared.tasks.Outcome.{Outcome}
-use Rattle.dml_pool.specs.Tasks.{IsValueOf}
+use Rattle.dml_pool.specs.Tasks.{IsTaskValue}
 use Rattle.dml_pool.specs.Numbers.{times, once_below}
 use Rattle.dml_pool.specs.Rule.{tasks_done, IsDone}
 use Rattle.dml_pool.specs.Slots.{IsSlot, AreSlots}
@@ -104,7 +104,7 @@ if_ok_weaker P Q (Err e) weaker p = tt
 
 -- outcomes in order, each of the task with its number, are those of the tasks one after another
 zipped_from : (memory : Memory) (before tasks : List Task) (outcomes : List Outcome) → tasks_done outcomes ≡ range_with_len (length before) (length tasks)
-    → All (IsDone memory (before ++ tasks)) outcomes → AllZip (λ task outcome. IsValueOf memory task outcome.piece) tasks outcomes
+    → All (IsDone memory (before ++ tasks)) outcomes → AllZip (λ task outcome. IsTaskValue memory task outcome.piece) tasks outcomes
 zipped_from memory before [] [] order done = tt
 zipped_from memory before [] (o ∷ outcomes) order done = absurd (let long = ap length order in omega (arith, long))
 zipped_from memory before (task ∷ tasks) [] order done = absurd (let long = ap length order in omega (arith, long))
@@ -117,13 +117,13 @@ zipped_from memory before (task ∷ tasks) (o ∷ outcomes) order done =
     ∙ (ap (λ l. slice_get l (length before)) (sym parted) ∙ get_longer (before ++ task ∷ []) tasks (length before) task (get_last before task)) in
     let rest : tasks_done outcomes ≡ range_with_len (length (before ++ task ∷ [])) (length tasks) =
     ap (drop 1) order ∙ ap (λ n. range_with_len n (length tasks)) (sym (length-append before (task ∷ []))) in (
-      subst (λ (t : Option Task). IsSomeAnd t (λ u. IsValueOf memory u o.piece)) found (All-head (IsDone memory all) o outcomes done),
+      subst (λ (t : Option Task). IsSomeAnd t (λ u. IsTaskValue memory u o.piece)) found (All-head (IsDone memory all) o outcomes done),
       zipped_from memory (before ++ task ∷ []) tasks outcomes rest
           (subst (λ l. All (IsDone memory l) outcomes) (sym parted) (All-tail (IsDone memory all) o outcomes done)),
     )
 
 pub zipped : (memory : Memory) (tasks : List Task) (done all : List Outcome) → tasks_done all ≡ range_with_len 0 (length tasks)
-    → All (Contains done) all → All (IsDone memory tasks) done → AllZip (λ task outcome. IsValueOf memory task outcome.piece) tasks all
+    → All (Contains done) all → All (IsDone memory tasks) done → AllZip (λ task outcome. IsTaskValue memory task outcome.piece) tasks all
 zipped memory tasks done all order known each =
     zipped_from memory [] tasks all order
     (All-weaker (Contains done) (IsDone memory tasks) (λ o has. All-contains (IsDone memory tasks) done o each has) all known)

@@ -8,7 +8,7 @@ use Rattle.dml_types.specs.Memory.{Memory}
 use Rattle.dml_pool.specs.declared.tasks.Task.{Task}
 use Rattle.dml_pool.specs.declared.tasks.Outcome.{Outcome}
 use Rattle.dml_pool.specs.declared.rule.Numbered.{Numbered}
-use Rattle.dml_pool.specs.Tasks.{IsValueOf}
+use Rattle.dml_pool.specs.Tasks.{IsTaskValue}
 use Rattle.dml_pool.specs.declared.rule.Hand.{Hand}
 use Rattle.dml_pool.specs.Rule.{hand, tasks_done, IsOf, IsDone, Accounts, HasTakenAll, Kept}
 use Rattle.crossbeam_deque.specs.Tasks.{FindsFew}
@@ -51,11 +51,11 @@ task_at P tasks item rest all of =
 -- a task taken and carried out
 pub accounts_more : (memory : Memory) (v w : Hand) (item : Numbered) (rest : List Numbered) (done : List Outcome) (outcome : Outcome)
     → w ≡ hand v.tasks v.parts (v.taken ++ item.number ∷ []) → All (IsOf v.tasks) (item ∷ rest) → outcome.task ≡ item.number
-    → IsValueOf memory item.task outcome.piece → Accounts memory v done → Accounts memory w (done ++ outcome ∷ [])
+    → IsTaskValue memory item.task outcome.piece → Accounts memory v done → Accounts memory w (done ++ outcome ∷ [])
 accounts_more memory v w item rest done outcome is of same value so_far =
     let known : w.tasks ≡ v.tasks = ap (λ (u : Hand). u.tasks) is in
     let at : slice_get v.tasks outcome.task ≡ Some item.task = ap (slice_get v.tasks) same ∙ All-head (IsOf v.tasks) item rest of in
-    let this : IsDone memory v.tasks outcome = subst (λ found. IsSomeAnd found (λ task. IsValueOf memory task outcome.piece)) (sym at) value in record {
+    let this : IsDone memory v.tasks outcome = subst (λ found. IsSomeAnd found (λ task. IsTaskValue memory task outcome.piece)) (sym at) value in record {
       taken =
           ap (λ (u : Hand). u.taken) is
           ∙ (ap (λ l. l ++ item.number ∷ []) so_far.taken

@@ -1,4 +1,5 @@
--- The rule of a wave's deque: which tasks it holds, and what its passes know. An item is a task with its number.
+-- The rule of a wave's deque: which tasks it holds, and what its passes know. An item is a task with its
+-- number.
 -- And what a worker did, by what its pass knows at the end.
 use Rattle.std.specs.Prelude.{◌≡◌, ℕ, ◌+◌, ◌<◌, List, [], ◌∷◌, map, length, Some, IsSomeAnd}
 use Rattle.std.specs.List.{All, slice_get}
@@ -7,7 +8,7 @@ use lib.ListN.{get_elem?}
 use Rattle.dml_types.specs.Memory.{Memory}
 use Rattle.dml_pool.specs.declared.tasks.Task.{Task}
 use Rattle.dml_pool.specs.declared.tasks.Outcome.{Outcome}
-use Rattle.dml_pool.specs.Tasks.{IsValueOf}
+use Rattle.dml_pool.specs.Tasks.{IsTaskValue}
 use Rattle.dml_pool.specs.declared.rule.Hand.{Hand}
 use Rattle.dml_pool.specs.declared.rule.Numbered.{Numbered}
 use Rattle.dml_pool.specs.Numbers.{times, once_below}
@@ -42,7 +43,8 @@ Kept items views =
     × (total (λ v. v.parts) views ≡ all_parts)
     × ((port : ℕ) (v : Hand) → get_elem? views port ≡ some v → Knows tasks v)
     × All (IsOf tasks) items
-    × ((x : ℕ) → times x (numbers_of items) + total (λ v. times x v.taken) views ≡ once_below x (length tasks))
+    × ((x : ℕ) → times x (numbers_of items) + total (λ v. times x v.taken) views
+    ≡ once_below x (length tasks))
 
 -- a pass that has all parts took each of the tasks once
 abbrev pub HasTakenAll : Hand → Type 0
@@ -53,7 +55,8 @@ tasks_done outcomes = map (λ outcome. outcome.task) outcomes
 
 -- an outcome has the value of the task with its number
 abbrev pub IsDone : Memory → List Task → Outcome → Type 0
-IsDone memory tasks outcome = IsSomeAnd (slice_get tasks outcome.task) (λ task. IsValueOf memory task outcome.piece)
+IsDone memory tasks outcome =
+    IsSomeAnd (slice_get tasks outcome.task) (λ task. IsTaskValue memory task outcome.piece)
 
 -- for each task that a pass took there is an outcome, in the order of taking
 pub record Accounts (memory : Memory) (v : Hand) (outcomes : List Outcome) : Type 0 where

@@ -10,4 +10,5 @@ IsSlot outcomes k None = times k (tasks_done outcomes) ≡ 0
 IsSlot outcomes k (Some outcome) = (outcome.task ≡ k) × Contains outcomes outcome
 
 abbrev pub AreSlots : List Outcome → List (Option Outcome) → Type 0
-AreSlots outcomes slots = (k : ℕ) (d : Option Outcome) → k < length slots → IsSlot outcomes k (slice_index_or slots k d)
+AreSlots outcomes slots =
+    (k : ℕ) (d : Option Outcome) → k < length slots → IsSlot outcomes k (slice_index_or slots k d)

@@ -4,6 +4,7 @@ use Rattle.dml_types.specs.declared.jobs.Job.{Job}
 use Rattle.dml_types.specs.declared.operations.Op.{Op}
 use Rattle.dml_types.specs.declared.operations.Op.TheVariants.{NoOp, Move, CreateDelta, ApplyDelta, Dualcast}
 use Rattle.dml_types.specs.Memory.{Memory}
+pub use Rattle.dml_types.specs.Chunk.{units}
 use Rattle.dml_types.specs.Chunk.{scan_found, scan_staged, create_staged, create_fault, apply_staged, apply_bad, apply_first, apply_last}
 use Rattle.dml_desc.specs.Checked.{operation_of}
 use Rattle.dml_arena.specs.Piece.{SamePlace}
@@ -14,13 +15,6 @@ use Rattle.dml_delta.specs.Bad.{bad_of}
 use Rattle.dml_pool.specs.declared.tasks.Task.{Task}
 use Rattle.dml_pool.specs.declared.tasks.Piece.{Piece}
 use Rattle.dml_pool.specs.declared.tasks.Piece.TheVariants.{Scan, Create, Apply}
-
--- how many offsets, blocks or entries a job is cut into chunks by
-abbrev pub units : Op → Job → ℕ
-units NoOp job = 0
-units CreateDelta job = job.size / 8
-units ApplyDelta job = job.delta_size / 10
-units _ job = job.size
 
 -- how many bytes a chunk of n of these may stage
 abbrev pub room_for : Op → ℕ → ℕ
@@ -59,15 +53,15 @@ pub record IsApplied (memory : Memory) (task : Task) (piece : ApplyPiece) : Type
   pub staged : piece.staged.bytes ≡ apply_staged memory task.job task.from task.to
   pub place : SamePlace task.room piece.staged
 
-abbrev pub IsValueBy : Op → Memory → Task → Piece → Type 0
-IsValueBy NoOp memory task piece = ⊥
-IsValueBy CreateDelta memory task (Create piece) = IsCreated memory task piece
-IsValueBy CreateDelta memory task piece = ⊥
-IsValueBy ApplyDelta memory task (Apply piece) = IsApplied memory task piece
-IsValueBy ApplyDelta memory task piece = ⊥
-IsValueBy op memory task (Scan piece) = IsScanned op memory task piece
-IsValueBy op memory task piece = ⊥
+abbrev pub IsOperationValue : Op → Memory → Task → Piece → Type 0
+IsOperationValue NoOp memory task piece = ⊥
+IsOperationValue CreateDelta memory task (Create piece) = IsCreated memory task piece
+IsOperationValue CreateDelta memory task piece = ⊥
+IsOperationValue ApplyDelta memory task (Apply piece) = IsApplied memory task piece
+IsOperationValue ApplyDelta memory task piece = ⊥
+IsOperationValue op memory task (Scan piece) = IsScanned op memory task piece
+IsOperationValue op memory task piece = ⊥
 
 -- the same by the job's operation
-abbrev pub IsValueOf : Memory → Task → Piece → Type 0
-IsValueOf memory task piece = IsValueBy (operation_of task.job) memory task piece
+abbrev pub IsTaskValue : Memory → Task → Piece → Type 0
+IsTaskValue memory task piece = IsOperationValue (operation_of task.job) memory task piece

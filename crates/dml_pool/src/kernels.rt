@@ -1,6 +1,6 @@
 //! A task and its kernel.
 ghost use Rattle.std.specs.Prelude.{◌≡◌};
-ghost use Rattle.dml_pool.specs.Tasks.{IsRunnable, IsValueOf};
+ghost use Rattle.dml_pool.specs.Tasks.{IsRunnable, IsTaskValue};
 
 use crate::rule::Numbered;
 use crate::{Outcome, Piece, Task};
@@ -13,7 +13,7 @@ use dml_types::Op;
 pub fn outcome_of<'a>(image: &Image, item: Numbered<'a>) -> Outcome<'a>
     requires { IsRunnable item.task }
     ensures task { result.task ≡ item.entry.number }
-    ensures value { IsValueOf image.now item.entry.task result.piece }
+    ensures value { IsTaskValue image.now item.entry.task result.piece }
 {
     let Numbered { number, task } = item;
     Outcome {
@@ -25,7 +25,7 @@ pub fn outcome_of<'a>(image: &Image, item: Numbered<'a>) -> Outcome<'a>
 /// The value of a task's chunk, staged into the task's region.
 fn carried_out<'a>(image: &Image, task: Task<'a>) -> Piece<'a>
     requires { IsRunnable task }
-    ensures { IsValueOf image.now task.entry result }
+    ensures { IsTaskValue image.now task.entry result }
 {
     let Task {
         job,

@@ -4,7 +4,7 @@ ghost use Rattle.std.specs.List.{All, AllZip, range_with_len};
 ghost use Rattle.crossbeam_deque.specs.Handles.{worker_view, worker_deque, stealer_deque, stealer_flavor};
 ghost use Rattle.dml_pool.specs.Numbers.{times, once_below};
 ghost use Rattle.dml_pool.specs.Rule.{all_parts, hand, tasks_done, IsDone};
-ghost use Rattle.dml_pool.specs.Tasks.{IsRunnable, IsValueOf};
+ghost use Rattle.dml_pool.specs.Tasks.{IsRunnable, IsTaskValue};
 
 use crate::crew::{Bench, crew};
 use crate::filling::filled;
@@ -54,7 +54,7 @@ pub fn run_wave<'a, R: Threads + Wait + Sync, G: Gate + Sync>(
     requires most_tasks { length tasks.items ≤ 131072 }
     requires runnable { All IsRunnable tasks.items }
     ensures order { IfOk result (λ outcomes. tasks_done outcomes.items ≡ range_with_len 0 (length tasks.entry.items)) }
-    ensures values { IfOk result (λ outcomes. AllZip (λ task outcome. IsValueOf image.now task outcome.piece) tasks.entry.items outcomes.items) }
+    ensures values { IfOk result (λ outcomes. AllZip (λ task outcome. IsTaskValue image.now task outcome.piece) tasks.entry.items outcomes.items) }
 {
     let count = tasks.len();
     let workers = workers.min(count as u32).max(1);

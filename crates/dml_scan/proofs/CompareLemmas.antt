@@ -8,9 +8,9 @@ use Rattle.dml_types.specs.declared.jobs.Job.{Job}
 use Rattle.dml_types.specs.declared.operations.Direction.TheVariants.{Forward}
 use Rattle.dml_types.specs.declared.operations.Op.{Op}
 use Rattle.dml_types.specs.declared.operations.Op.TheVariants.{Compare, ComparePattern}
-use Rattle.dml_types.specs.Memory.{first, Memory, has, byte_at, bytes_at, offset_in}
+use Rattle.dml_types.specs.Memory.{first, Memory, has, byte_at, bytes_at, worked_offset}
 use Rattle.dml_types.specs.Effect.{first_fault, is_clear, read_fault}
-use Rattle.dml_types.specs.Bytewise.{direction_by, faults_at, passes, pattern_byte}
+use Rattle.dml_types.specs.Bytewise.{operation_direction, faults_at, passes, pattern_byte}
 use Rattle.dml_types.specs.Chunk.{scan_done, scan_found, scan_offset}
 use Rattle.dml_types.proofs.FirstLemmas.{first_le, first_is}
 use Rattle.dml_types.proofs.MemoryLemmas.{has_all_at, has_all_from}
@@ -90,7 +90,7 @@ passed_more op memory job from at n before more i low high =
     (cases_lt i at)
 
 -- a scan upwards ends at the first place that does not pass
-pub done_upwards : (op : Op) (memory : Memory) (job : Job) (from to at : ℕ) → direction_by op job ≡ Forward → from ≤ at → at ≤ to → Passed op memory job from at → (at < to → passes op memory job at ≡ false) → scan_done op memory job from to ≡ at - from
+pub done_upwards : (op : Op) (memory : Memory) (job : Job) (from to at : ℕ) → operation_direction op job ≡ Forward → from ≤ at → at ≤ to → Passed op memory job from at → (at < to → passes op memory job at ≡ false) → scan_done op memory job from to ≡ at - from
 done_upwards op memory job from to at forward order within passed stops =
     first_is (to - from) (λ i. not (passes op memory job (scan_offset op job from to i))) (at - from) (omega arith)
     (λ i below. ap not (ap (passes op memory job) (place i) ∙ passed (from + i) (omega arith) (omega arith)))
@@ -99,7 +99,7 @@ done_upwards op memory job from to at forward order within passed stops =
     ap not (ap (passes op memory job) (place (at - from) ∙ here) ∙ stops (omega arith)))
   where
     place : (i : ℕ) → scan_offset op job from to i ≡ from + i
-    place i = ap (λ d. from + offset_in d (to - from) i) forward
+    place i = ap (λ d. from + worked_offset d (to - from) i) forward
 
 -- Compares of two ranges.
 pub compare_done : (memory : Memory) (job : Job) (from to at : ℕ) → from ≤ at → at ≤ to → Passed Compare memory job from at → (at < to → passes Compare memory job at ≡ false) → scan_done Compare memory job from to ≡ at - from

@@ -1,6 +1,6 @@
 -- The first place at which two rows of numbers differ.
 use Rattle.std.specs.Prelude.{◌==◌, slice_range}
-use Rattle.std.proofs.Common.{◌≡◌, ℕ, ◌+◌, ◌-◌, ◌%◌, ◌<◌, ◌≤◌, Bool, true, false, not, List, length, get_or, refl, sym, ◌∙◌, ap, arith, rules, ⊎_elim}
+use Rattle.std.proofs.Common.{◌≡◌, ℕ, ◌+◌, ◌-◌, ◌%◌, ◌<◌, ◌≤◌, ◌↔◌, Bool, true, false, not, List, length, get_or, refl, sym, ◌∙◌, ap, arith, rules, ⊎_elim}
 use Rattle.std.proofs.lemmas.Bool.{cases_lt, eqb-false, not-false, not-true, eq-eqb, eqb-true}
 use Rattle.std.proofs.lemmas.List.{places}
 use Rattle.dml_types.specs.Memory.{first}
@@ -50,6 +50,21 @@ alike_more xs ys at n before more i below =
     let place : at + (i - at) ≡ i = omega arith in
     sym (ap (λ k. get_or xs k 0) place) ∙ (more (i - at) (omega arith) ∙ ap (λ k. get_or ys k 0) place))
     (cases_lt i at)
+
+-- two stretches side by side
+pub both_alike : (xs ys : List ℕ) (at n m : ℕ) → AreAlike xs ys at (n + m) ↔ (AreAlike xs ys at n × AreAlike xs ys (at + n) m)
+both_alike xs ys at n m = (
+  λ whole. (
+    λ i below. whole i (omega arith),
+    λ i below. (let place : at + (n + i) ≡ at + n + i = omega arith in
+        sym (ap (λ k. get_or xs k 0) place) ∙ (whole (n + i) (omega arith) ∙ ap (λ k. get_or ys k 0) place)),
+  ),
+  λ parts i below.
+      ⊎_elim (λ low. parts.0 i low) (λ high.
+      let place : at + n + (i - n) ≡ at + i = omega arith in
+      sym (ap (λ k. get_or xs k 0) place) ∙ (parts.1 (i - n) (omega arith) ∙ ap (λ k. get_or ys k 0) place))
+      (cases_lt i n),
+)
 
 range_read : (xs : List ℕ) (at n i : ℕ) → i < n → get_or (slice_range xs at (at + n)) i 0 ≡ get_or xs (at + i) 0
 range_read xs at n i below = search (rules, places)

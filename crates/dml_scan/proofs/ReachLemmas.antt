@@ -8,11 +8,11 @@ use Rattle.dml_types.specs.declared.operations.Direction.{Direction}
 use Rattle.dml_types.specs.declared.operations.Direction.TheVariants.{Forward}
 use Rattle.dml_types.specs.declared.operations.Op.{Op}
 use Rattle.dml_types.specs.declared.operations.Op.TheVariants.{Fill, Move, Dualcast}
-use Rattle.dml_types.specs.Memory.{first, Memory, has, offset_in, present_toward}
+use Rattle.dml_types.specs.Memory.{first, Memory, has, worked_offset, present_toward}
 use Rattle.dml_types.specs.Effect.{Fault, is_clear, first_fault, read_fault, write_fault}
-use Rattle.dml_types.specs.Bytewise.{direction_by, faults_at, passes}
+use Rattle.dml_types.specs.Bytewise.{operation_direction, faults_at, passes}
 use Rattle.dml_types.specs.Chunk.{scan_done, scan_found, scan_offset, fault_found}
-use Rattle.dml_scan.specs.Found.{done_of}
+use Rattle.dml_scan.specs.Found.{done_count}
 use Rattle.dml_types.proofs.FirstLemmas.{first_le, first_agree, passes_at}
 use Rattle.dml_image.proofs.RunLemmas.{first_both}
 
@@ -24,11 +24,11 @@ abbrev pub run_of_three : Memory → ℕ → ℕ → ℕ → ℕ → ℕ
 run_of_three memory source target extra n = min (run_of_two Forward memory source target n) (present_toward Forward memory extra n)
 
 -- the run of a part of a range that begins at an offset, by the addresses of its bytes
-run_at : (memory : Memory) (direction : Direction) (address from n : ℕ) → first n (λ i. not (has memory (address + (from + offset_in direction n i)))) ≡ present_toward direction memory (address + from) n
+run_at : (memory : Memory) (direction : Direction) (address from n : ℕ) → first n (λ i. not (has memory (address + (from + worked_offset direction n i)))) ≡ present_toward direction memory (address + from) n
 run_at memory direction address from n =
-    first_agree n (λ i. not (has memory (address + (from + offset_in direction n i)))) (λ i. not (has memory (address + from + offset_in direction n i)))
+    first_agree n (λ i. not (has memory (address + (from + worked_offset direction n i)))) (λ i. not (has memory (address + from + worked_offset direction n i)))
     (λ i below.
-    let at : address + (from + offset_in direction n i) ≡ address + from + offset_in direction n i = omega arith in
+    let at : address + (from + worked_offset direction n i) ≡ address + from + worked_offset direction n i = omega arith in
     ap (λ (k : ℕ). not (has memory k)) at)
 
 -- the first index at which a fact fails, where nothing more is asked
@@ -44,15 +44,15 @@ pub fill_done : (memory : Memory) (job : Job) (from to : ℕ) → scan_done Fill
 fill_done memory job from to =
     first_alone (to - from) (λ i. has memory (job.target + (from + i))) ∙ run_at memory Forward job.target from (to - from)
 
-pub move_done : (memory : Memory) (job : Job) (from to : ℕ) → scan_done Move memory job from to ≡ run_of_two (direction_by Move job) memory (job.source + from) (job.target + from) (to - from)
+pub move_done : (memory : Memory) (job : Job) (from to : ℕ) → scan_done Move memory job from to ≡ run_of_two (operation_direction Move job) memory (job.source + from) (job.target + from) (to - from)
 move_done memory job from to =
     let n = to - from in
-    let offset = λ (i : ℕ). from + offset_in (direction_by Move job) n i in
+    let offset = λ (i : ℕ). from + worked_offset (operation_direction Move job) n i in
     let source = λ (i : ℕ). has memory (job.source + offset i) in
     let target = λ (i : ℕ). has memory (job.target + offset i) in
     first_both n source (λ i. target i && true)
-    ∙ (ap (λ (k : ℕ). min k (first n (λ i. not (target i && true)))) (run_at memory (direction_by Move job) job.source from n)
-    ∙ ap (λ (k : ℕ). min (present_toward (direction_by Move job) memory (job.source + from) n) k) (first_alone n target ∙ run_at memory (direction_by Move job) job.target from n))
+    ∙ (ap (λ (k : ℕ). min k (first n (λ i. not (target i && true)))) (run_at memory (operation_direction Move job) job.source from n)
+    ∙ ap (λ (k : ℕ). min (present_toward (operation_direction Move job) memory (job.source + from) n) k) (first_alone n target ∙ run_at memory (operation_direction Move job) job.target from n))
 
 pub dualcast_done : (memory : Memory) (job : Job) (from to : ℕ) → scan_done Dualcast memory job from to ≡ run_of_three memory (job.source + from) (job.target + from) (job.extra + from) (to - from)
 dualcast_done memory job from to =
@@ -158,33 +158,33 @@ fill_stops memory job from to address k at is below =
     ap (λ (a : ℕ). Faults k a true) place ∙ found_fault Fill memory job from to k _ done below blocked (one_fault memory _ blocked)
 
 -- a move: what stops it at an offset is its source's byte where that is absent, else its destination's
-pub move_done_from : (memory : Memory) (job : Job) (from to source target : ℕ) → source ≡ job.source + from → target ≡ job.target + from → scan_done Move memory job from to ≡ run_of_two (direction_by Move job) memory source target (to - from)
+pub move_done_from : (memory : Memory) (job : Job) (from to source target : ℕ) → source ≡ job.source + from → target ≡ job.target + from → scan_done Move memory job from to ≡ run_of_two (operation_direction Move job) memory source target (to - from)
 move_done_from memory job from to source target at_source at_target =
-    move_done memory job from to ∙ ap₂ (λ (a b : ℕ). run_of_two (direction_by Move job) memory a b (to - from)) (sym at_source) (sym at_target)
+    move_done memory job from to ∙ ap₂ (λ (a b : ℕ). run_of_two (operation_direction Move job) memory a b (to - from)) (sym at_source) (sym at_target)
 
-pub move_all : (memory : Memory) (job : Job) (from to source target : ℕ) → source ≡ job.source + from → target ≡ job.target + from → run_of_two (direction_by Move job) memory source target (to - from) ≡ to - from → All ≡ scan_found Move memory job from to
+pub move_all : (memory : Memory) (job : Job) (from to source target : ℕ) → source ≡ job.source + from → target ≡ job.target + from → run_of_two (operation_direction Move job) memory source target (to - from) ≡ to - from → All ≡ scan_found Move memory job from to
 move_all memory job from to source target at_source at_target all =
     found_all Move memory job from to (move_done_from memory job from to source target at_source at_target ∙ all)
 
-pub move_stops : (memory : Memory) (job : Job) (from to k : ℕ) → scan_done Move memory job from to ≡ k → k < to - from → let offset = from + offset_in (direction_by Move job) (to - from) k in fault_found k (cond (has memory (job.source + offset)) (write_fault (job.target + offset)) (read_fault (job.source + offset))) ≡ scan_found Move memory job from to
+pub move_stops : (memory : Memory) (job : Job) (from to k : ℕ) → scan_done Move memory job from to ≡ k → k < to - from → let offset = from + worked_offset (operation_direction Move job) (to - from) k in fault_found k (cond (has memory (job.source + offset)) (write_fault (job.target + offset)) (read_fault (job.source + offset))) ≡ scan_found Move memory job from to
 move_stops memory job from to k is below =
     let blocked = blocked_at Move memory job from to k is below in
     found_fault Move memory job from to k _ is below blocked (two_faults memory _ _ blocked)
 
-pub move_reads : (memory : Memory) (job : Job) (from to source target offset k : ℕ) → source ≡ job.source + from → target ≡ job.target + from → offset ≡ offset_in (direction_by Move job) (to - from) k → run_of_two (direction_by Move job) memory source target (to - from) ≡ k → k < to - from → has memory (source + offset) ≡ false → Faults k (source + offset) false ≡ scan_found Move memory job from to
+pub move_reads : (memory : Memory) (job : Job) (from to source target offset k : ℕ) → source ≡ job.source + from → target ≡ job.target + from → offset ≡ worked_offset (operation_direction Move job) (to - from) k → run_of_two (operation_direction Move job) memory source target (to - from) ≡ k → k < to - from → has memory (source + offset) ≡ false → Faults k (source + offset) false ≡ scan_found Move memory job from to
 move_reads memory job from to source target offset k at_source at_target at_offset is below gone =
-    let place : source + offset ≡ job.source + (from + offset_in (direction_by Move job) (to - from) k) = omega (arith, at_source, at_offset) in
-    let other : ℕ = job.target + (from + offset_in (direction_by Move job) (to - from) k) in
+    let place : source + offset ≡ job.source + (from + worked_offset (operation_direction Move job) (to - from) k) = omega (arith, at_source, at_offset) in
+    let other : ℕ = job.target + (from + worked_offset (operation_direction Move job) (to - from) k) in
     ap (λ (a : ℕ). Faults k a false) place
-    ∙ (ap (λ (b : Bool). fault_found k (cond b (write_fault other) (read_fault (job.source + (from + offset_in (direction_by Move job) (to - from) k))))) (sym gone ∙ ap (has memory) place)
+    ∙ (ap (λ (b : Bool). fault_found k (cond b (write_fault other) (read_fault (job.source + (from + worked_offset (operation_direction Move job) (to - from) k))))) (sym gone ∙ ap (has memory) place)
     ∙ move_stops memory job from to k (move_done_from memory job from to source target at_source at_target ∙ is) below)
 
-pub move_writes : (memory : Memory) (job : Job) (from to source target offset k : ℕ) → source ≡ job.source + from → target ≡ job.target + from → offset ≡ offset_in (direction_by Move job) (to - from) k → run_of_two (direction_by Move job) memory source target (to - from) ≡ k → k < to - from → has memory (source + offset) ≡ true → Faults k (target + offset) true ≡ scan_found Move memory job from to
+pub move_writes : (memory : Memory) (job : Job) (from to source target offset k : ℕ) → source ≡ job.source + from → target ≡ job.target + from → offset ≡ worked_offset (operation_direction Move job) (to - from) k → run_of_two (operation_direction Move job) memory source target (to - from) ≡ k → k < to - from → has memory (source + offset) ≡ true → Faults k (target + offset) true ≡ scan_found Move memory job from to
 move_writes memory job from to source target offset k at_source at_target at_offset is below here =
-    let read : source + offset ≡ job.source + (from + offset_in (direction_by Move job) (to - from) k) = omega (arith, at_source, at_offset) in
-    let place : target + offset ≡ job.target + (from + offset_in (direction_by Move job) (to - from) k) = omega (arith, at_target, at_offset) in
+    let read : source + offset ≡ job.source + (from + worked_offset (operation_direction Move job) (to - from) k) = omega (arith, at_source, at_offset) in
+    let place : target + offset ≡ job.target + (from + worked_offset (operation_direction Move job) (to - from) k) = omega (arith, at_target, at_offset) in
     ap (λ (a : ℕ). Faults k a true) place
-    ∙ (ap (λ (b : Bool). fault_found k (cond b (write_fault (job.target + (from + offset_in (direction_by Move job) (to - from) k))) (read_fault (job.source + (from + offset_in (direction_by Move job) (to - from) k))))) (sym here ∙ ap (has memory) read)
+    ∙ (ap (λ (b : Bool). fault_found k (cond b (write_fault (job.target + (from + worked_offset (operation_direction Move job) (to - from) k))) (read_fault (job.source + (from + worked_offset (operation_direction Move job) (to - from) k))))) (sym here ∙ ap (has memory) read)
     ∙ move_stops memory job from to k (move_done_from memory job from to source target at_source at_target ∙ is) below)
 
 -- a dualcast: its source's byte, else its first destination's, else its second's
@@ -226,21 +226,21 @@ dualcast_writes_second memory job from to source target extra k at_source at_tar
     ∙ dualcast_stops memory job from to source target extra k at_source at_target at_extra is below
 
 -- how much was done, by how the scan ended
-pub done_found : (op : Op) (memory : Memory) (job : Job) (from to : ℕ) → done_of (to - from) (scan_found op memory job from to) ≡ scan_done op memory job from to
+pub done_found : (op : Op) (memory : Memory) (job : Job) (from to : ℕ) → done_count (to - from) (scan_found op memory job from to) ≡ scan_done op memory job from to
 unfolding scan_found
 done_found op memory job from to =
     let done = scan_done op memory job from to in
     let faults = faults_at op job (scan_offset op job from to done) in
     choose (to - from) done (is_clear memory faults) (first_fault memory faults)
   where
-    choose : (n k : ℕ) (clear : Bool) (fault : Fault) → done_of n (cond (eqb k n) All (cond clear (Differs k) (fault_found k fault))) ≡ k
+    choose : (n k : ℕ) (clear : Bool) (fault : Fault) → done_count n (cond (eqb k n) All (cond clear (Differs k) (fault_found k fault))) ≡ k
     choose n k clear fault =
-        elim (eqb k n) as (λ b. eqb k n ≡ b → done_of n (cond b All (cond clear (Differs k) (fault_found k fault))) ≡ k) [
+        elim (eqb k n) as (λ b. eqb k n ≡ b → done_count n (cond b All (cond clear (Differs k) (fault_found k fault))) ≡ k) [
           | true ↦ λ same. sym (eqb-true k n same)
           | false ↦ λ _. either clear
         ] refl
       where
-        either : (b : Bool) → done_of n (cond b (Differs k) (fault_found k fault)) ≡ k
+        either : (b : Bool) → done_count n (cond b (Differs k) (fault_found k fault)) ≡ k
         either true = refl
         either false = refl
 
@@ -248,5 +248,5 @@ pub scan_done_within : (op : Op) (memory : Memory) (job : Job) (from to : ℕ) �
 scan_done_within op memory job from to = first_le (to - from) (λ i. not (passes op memory job (scan_offset op job from to i)))
 
 -- the number that is read from how a scan ended
-pub done_told : (op : Op) (memory : Memory) (job : Job) (from to k : ℕ) (found : Found) → found ≡ scan_found op memory job from to → k ≡ done_of (to - from) found → k ≡ scan_done op memory job from to
-done_told op memory job from to k found is tells = tells ∙ (ap (done_of (to - from)) is ∙ done_found op memory job from to)
+pub done_told : (op : Op) (memory : Memory) (job : Job) (from to k : ℕ) (found : Found) → found ≡ scan_found op memory job from to → k ≡ done_count (to - from) found → k ≡ scan_done op memory job from to
+done_told op memory job from to k found is tells = tells ∙ (ap (done_count (to - from)) is ∙ done_found op memory job from to)

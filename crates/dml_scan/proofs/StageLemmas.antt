@@ -5,8 +5,8 @@ use Rattle.dml_types.specs.declared.jobs.Job.{Job}
 use Rattle.dml_types.specs.declared.operations.Direction.{Direction}
 use Rattle.dml_types.specs.declared.operations.Direction.TheVariants.{Forward, Backward}
 use Rattle.dml_types.specs.declared.operations.Op.TheVariants.{Dualcast, Move}
-use Rattle.dml_types.specs.Memory.{Memory, has, has_all, offset_in}
-use Rattle.dml_types.specs.Bytewise.{direction_by, done_from, passes}
+use Rattle.dml_types.specs.Memory.{Memory, has, has_all, worked_offset}
+use Rattle.dml_types.specs.Bytewise.{operation_direction, lowest_done, passes}
 use Rattle.dml_types.specs.Chunk.{scan_done, scan_offset}
 use Rattle.dml_types.proofs.FirstLemmas.{fails_before, first_le}
 use Rattle.dml_types.proofs.MemoryLemmas.{has_all_at, has_all_from}
@@ -16,12 +16,12 @@ pub part_here : (memory : Memory) (address n done place : ℕ) → has_all memor
 part_here memory address n done place all below at = ap (has memory) at ∙ has_all_at memory address n done all below
 
 -- the bytes that were done are present in the source
-pub move_source_present : (memory : Memory) (job : Job) (from to k : ℕ) → scan_done Move memory job from to ≡ k → has_all memory (job.source + (from + done_from (direction_by Move job) (to - from) k)) k ≡ true
+pub move_source_present : (memory : Memory) (job : Job) (from to k : ℕ) → scan_done Move memory job from to ≡ k → has_all memory (job.source + (from + lowest_done (operation_direction Move job) (to - from) k)) k ≡ true
 move_source_present memory job from to k is =
-    has_all_from memory (job.source + (from + done_from (direction_by Move job) (to - from) k)) k
-    (λ j below. at_place (direction_by Move job) refl j below)
+    has_all_from memory (job.source + (from + lowest_done (operation_direction Move job) (to - from) k)) k
+    (λ j below. at_place (operation_direction Move job) refl j below)
   where
-    passed : (i : ℕ) → i < k → has memory (job.source + (from + offset_in (direction_by Move job) (to - from) i)) ≡ true
+    passed : (i : ℕ) → i < k → has memory (job.source + (from + worked_offset (operation_direction Move job) (to - from) i)) ≡ true
     passed i below =
         let stops = λ (j : ℕ). not (passes Move memory job (scan_offset Move job from to j)) in
         (and_parts _ _ (not-false (passes Move memory job (scan_offset Move job from to i)) (fails_before (to - from) stops i (omega (arith, is))))).0
@@ -29,16 +29,16 @@ move_source_present memory job from to k is =
     long : k ≤ to - from
     long = omega (arith, is, first_le (to - from) (λ j. not (passes Move memory job (scan_offset Move job from to j))))
 
-    at_place : (direction : Direction) → direction_by Move job ≡ direction → (j : ℕ) → j < k → has memory (job.source + (from + done_from (direction_by Move job) (to - from) k) + j) ≡ true
+    at_place : (direction : Direction) → operation_direction Move job ≡ direction → (j : ℕ) → j < k → has memory (job.source + (from + lowest_done (operation_direction Move job) (to - from) k) + j) ≡ true
     at_place Forward dir j below =
-        let same : done_from (direction_by Move job) (to - from) k ≡ 0 = ap (λ d. done_from d (to - from) k) dir in
-        let off : offset_in (direction_by Move job) (to - from) j ≡ j = ap (λ d. offset_in d (to - from) j) dir in
-        let place : job.source + (from + done_from (direction_by Move job) (to - from) k) + j ≡ job.source + (from + offset_in (direction_by Move job) (to - from) j) = omega (arith, same, off) in
+        let same : lowest_done (operation_direction Move job) (to - from) k ≡ 0 = ap (λ d. lowest_done d (to - from) k) dir in
+        let off : worked_offset (operation_direction Move job) (to - from) j ≡ j = ap (λ d. worked_offset d (to - from) j) dir in
+        let place : job.source + (from + lowest_done (operation_direction Move job) (to - from) k) + j ≡ job.source + (from + worked_offset (operation_direction Move job) (to - from) j) = omega (arith, same, off) in
         ap (has memory) place ∙ passed j below
     at_place Backward dir j below =
-        let same : done_from (direction_by Move job) (to - from) k ≡ to - from - k = ap (λ d. done_from d (to - from) k) dir in
-        let off : offset_in (direction_by Move job) (to - from) (k - 1 - j) ≡ to - from - 1 - (k - 1 - j) = ap (λ d. offset_in d (to - from) (k - 1 - j)) dir in
-        let place : job.source + (from + done_from (direction_by Move job) (to - from) k) + j ≡ job.source + (from + offset_in (direction_by Move job) (to - from) (k - 1 - j)) = omega (arith, same, off, long, below) in
+        let same : lowest_done (operation_direction Move job) (to - from) k ≡ to - from - k = ap (λ d. lowest_done d (to - from) k) dir in
+        let off : worked_offset (operation_direction Move job) (to - from) (k - 1 - j) ≡ to - from - 1 - (k - 1 - j) = ap (λ d. worked_offset d (to - from) (k - 1 - j)) dir in
+        let place : job.source + (from + lowest_done (operation_direction Move job) (to - from) k) + j ≡ job.source + (from + worked_offset (operation_direction Move job) (to - from) (k - 1 - j)) = omega (arith, same, off, long, below) in
         ap (has memory) place ∙ passed (k - 1 - j) (omega (arith, below))
 
 pub dualcast_source_present : (memory : Memory) (job : Job) (from to k : ℕ) → scan_done Dualcast memory job from to ≡ k → has_all memory (job.source + from) k ≡ true

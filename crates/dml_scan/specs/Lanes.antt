@@ -9,7 +9,8 @@ first_difference xs ys = first (length xs) (λ i. not (slice_index xs i == slice
 
 -- the same of a pattern that is repeated from its byte `from` on
 abbrev pub first_unlike : List ℕ → ℕ → ℕ → ℕ
-first_unlike xs pattern from = first (length xs) (λ i. not (slice_index xs i == pattern_byte pattern (from + i)))
+first_unlike xs pattern from =
+    first (length xs) (λ i. not (slice_index xs i == pattern_byte pattern (from + i)))
 
 -- n bytes from a place on are the same in both
 abbrev pub AreAlike : List ℕ → List ℕ → ℕ → ℕ → Type 0

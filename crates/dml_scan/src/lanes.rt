@@ -1,8 +1,9 @@
 //! How far bytes are alike from the front, those of two slices or those of a slice and a repeated pattern.
 //!
-//! They are compared in steps of four vectors with one test, then a vector at a time, and at the end byte by byte.
+//! They are compared in steps of four vectors with one test, those of two slices four steps a turn; then a vector at a
+//! time, and at the end byte by byte.
 
-ghost use Rattle.std.specs.Prelude.{◌≡◌, ℕ, ◌+◌, ◌<◌, ◌≤◌, ◌↔◌, IsTrue, length, slice_index, slice_range};
+ghost use Rattle.std.specs.Prelude.{◌≡◌, ℕ, ◌+◌, ◌*◌, ◌<◌, ◌≤◌, ◌↔◌, IsTrue, length, slice_index, slice_range};
 ghost use Rattle.dml_types.specs.Bytewise.{pattern_byte};
 ghost use Rattle.dml_types.specs.Step as step;
 ghost use Rattle.dml_scan.specs.Lanes.{AreAlike, AreRepeated, AreZero};
@@ -16,6 +17,9 @@ const LANES: usize = 32;
 /// The bytes of a step of four vectors.
 const STEP: usize = 128;
 
+/// The bytes of a block of four steps.
+const BLOCK: usize = 512;
+
 /// The first place at which two slices of one length differ; their length where they are equal.
 pub fn first_difference(a: &[u8], b: &[u8]) -> usize
     requires { length a.now ≡ length b.now }
@@ -23,6 +27,9 @@ pub fn first_difference(a: &[u8], b: &[u8]) -> usize
     ensures within { result ≤ length a.now }
 {
     let mut at = 0;
+    while a.len() - at >= BLOCK && is_equal_block(a, b, at) {
+        at += BLOCK;
+    }
     while a.len() - at >= STEP && is_equal_step(a, b, at) {
         at += STEP;
     }
@@ -37,6 +44,26 @@ pub fn first_difference(a: &[u8], b: &[u8]) -> usize
         at += 1;
     }
     at
+}
+
+/// Whether a block of two slices, from a place on, is equal.
+#[inline(always)]
+fn is_equal_block(a: &[u8], b: &[u8], at: usize) -> bool
+    requires first { at + BLOCK ≤ length a.now }
+    requires second { at + BLOCK ≤ length b.now }
+    ensures { IsTrue result ↔ AreAlike a.now b.now at 512 }
+{
+    are_equal_steps(a, b, at) && are_equal_steps(a, b, at + 2 * STEP)
+}
+
+/// Whether two steps of two slices, from a place on, are equal.
+#[inline(always)]
+fn are_equal_steps(a: &[u8], b: &[u8], at: usize) -> bool
+    requires first { at + 2 * STEP ≤ length a.now }
+    requires second { at + 2 * STEP ≤ length b.now }
+    ensures { IsTrue result ↔ AreAlike a.now b.now at 256 }
+{
+    is_equal_step(a, b, at) && is_equal_step(a, b, at + STEP)
 }
 
 /// Whether a step of two slices, from a place on, is equal.

@@ -3,28 +3,19 @@
 ghost use Rattle.std.specs.Prelude.{◌≡◌, ◌+◌, ◌-◌, ◌^◌, ◌<◌, ◌≤◌, Some, true, false};
 ghost use Rattle.dml_types.specs.declared.operations.Op.TheVariants.{Fill, Move, Dualcast};
 ghost use Rattle.dml_types.specs.Job.{op_of};
-ghost use Rattle.dml_types.specs.Bytewise.{direction_by};
-ghost use Rattle.dml_types.specs.Memory.{offset_in, present_toward};
+ghost use Rattle.dml_types.specs.Bytewise.{operation_direction};
+ghost use Rattle.dml_types.specs.Memory.{worked_offset, present_toward};
 ghost use Rattle.dml_types.specs.Chunk.{scan_found};
-ghost use Rattle.dml_scan.specs.Found.{done_of};
+ghost use Rattle.dml_scan.specs.Found.{done_count};
 ghost use Rattle.dml_scan.specs.Work.{IsWorkDirection};
 
 use dml_desc::Checked;
 use dml_image::Image;
 use dml_types::{Direction, Found, Job, Op};
 
-/// The bytes of a range before its first absent one, in the order of a direction.
-fn present_bytes(image: &Image, addr: u64, len: u32, direction: Direction) -> u32
-    requires { addr + len ≤ 2 ^ 64 }
-    ensures count { result ≡ present_toward direction image.now addr len }
-    ensures within { result ≤ len }
-{
-    image.first_absent(addr, len, direction).unwrap_or(len)
-}
-
 /// How many of the `len` bytes of a chunk were done, where its scan ended so.
-pub fn done_in(found: Found, len: u32) -> u32
-    ensures { result ≡ done_of len found }
+pub fn done_count(found: Found, len: u32) -> u32
+    ensures { result ≡ done_count len found }
 {
     match found {
         Found::All => len,
@@ -68,7 +59,7 @@ pub fn fill_found(image: &Image, job: &Checked, from: u32, to: u32) -> Found
     let job = job.job();
     let len = to - from;
     let addr = job.target + u64::from(from);
-    let done = present_bytes(image, addr, len, Direction::Forward);
+    let done = image.present_toward(addr, len, Direction::Forward);
     if done == len {
         return Found::All;
     }
@@ -85,11 +76,10 @@ pub fn work_direction(job: &Checked) -> Direction
 /// The order in which an operation works on a job's offsets: downwards in a move whose destination begins inside its
 /// source, behind the first byte, and else upwards.
 pub fn direction_of(op: Op, job: &Job) -> Direction
-    ensures { result ≡ direction_by op job.now }
+    ensures { result ≡ operation_direction op job.now }
 {
-    let begins_inside = job.source < job.target && job.target - job.source < u64::from(job.size);
-    if op == Op::Move && begins_inside {
-        Direction::Backward
+    if op == Op::Move {
+        Direction::of_move(job.source, job.target, job.size)
     } else {
         Direction::Forward
     }
@@ -98,7 +88,7 @@ pub fn direction_of(op: Op, job: &Job) -> Direction
 /// The offset in a range of `len` bytes that is next in a direction, once `done` bytes are done.
 fn next_offset(direction: Direction, len: u32, done: u32) -> u64
     requires { done < len }
-    ensures value { result ≡ offset_in direction len done }
+    ensures value { result ≡ worked_offset direction len done }
     ensures within { result < len }
 {
     u64::from(match direction {
@@ -123,8 +113,8 @@ pub fn move_found(image: &Image, job: &Checked, from: u32, to: u32) -> Found
     let direction = direction_of(Op::Move, job);
     let source = job.source + u64::from(from);
     let target = job.target + u64::from(from);
-    let readable = present_bytes(image, source, len, direction);
-    let writable = present_bytes(image, target, len, direction);
+    let readable = image.present_toward(source, len, direction);
+    let writable = image.present_toward(target, len, direction);
     let done = readable.min(writable);
     if done == len {
         return Found::All;
@@ -152,9 +142,10 @@ pub fn dualcast_found(image: &Image, job: &Checked, from: u32, to: u32) -> Found
     let source = job.source + u64::from(from);
     let target = job.target + u64::from(from);
     let extra = job.extra + u64::from(from);
-    let done = present_bytes(image, source, len, Direction::Forward)
-        .min(present_bytes(image, target, len, Direction::Forward))
-        .min(present_bytes(image, extra, len, Direction::Forward));
+    let done = image
+        .present_toward(source, len, Direction::Forward)
+        .min(image.present_toward(target, len, Direction::Forward))
+        .min(image.present_toward(extra, len, Direction::Forward));
     if done == len {
         return Found::All;
     }

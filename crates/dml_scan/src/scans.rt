@@ -1,13 +1,13 @@
 ghost use Rattle.std.specs.Prelude.{◌≡◌, ◌+◌, ◌-◌, ◌^◌, ◌≤◌, ◌++◌, [], length, IsTrue};
 ghost use Rattle.dml_types.specs.declared.operations.Op.TheVariants.{Compare, ComparePattern, Dualcast, Fill, Move};
 ghost use Rattle.dml_types.specs.Job.{op_of};
-ghost use Rattle.dml_types.specs.Bytewise.{done_from};
+ghost use Rattle.dml_types.specs.Bytewise.{lowest_done};
 ghost use Rattle.dml_types.specs.Memory.{bytes_at, has_all};
 ghost use Rattle.dml_types.specs.Chunk.{scan_found, scan_staged};
 ghost use Rattle.dml_arena.specs.Piece.{SamePlace};
 
 use crate::compares::{compare_found, compare_pattern_found};
-use crate::reach::{direction_of, done_in, dualcast_found, fill_found, move_found};
+use crate::reach::{direction_of, done_count, dualcast_found, fill_found, move_found};
 use crate::staging::stage;
 use dml_arena::Region;
 use dml_desc::Checked;
@@ -50,8 +50,8 @@ pub fn scan_move<'a>(
 {
     let mut staged = room;
     let found = move_found(image, job, from, to);
-    let done = done_in(found, to - from);
-    let first = first_done(direction_of(Op::Move, job.job()), from, to, done);
+    let done = done_count(found, to - from);
+    let first = from + direction_of(Op::Move, job.job()).lowest_done(to - from, done);
     stage_source(image, job.job(), first, done, &mut staged);
     ScanPiece {
         from,
@@ -168,26 +168,13 @@ pub fn scan_dualcast<'a>(
 {
     let mut staged = room;
     let found = dualcast_found(image, job, from, to);
-    let done = done_in(found, to - from);
+    let done = done_count(found, to - from);
     stage_source(image, job.job(), from, done, &mut staged);
     ScanPiece {
         from,
         to,
         found,
         staged,
-    }
-}
-
-/// The offset of the first byte, in address order, of those that were done in a chunk.
-fn first_done(direction: Direction, from: u32, to: u32, done: u32) -> u32
-    requires order { from ≤ to }
-    requires within { done ≤ to - from }
-    ensures value { result ≡ from + done_from direction (to - from) done }
-    ensures within { result + done ≤ to }
-{
-    match direction {
-        Direction::Forward => from,
-        Direction::Backward => to - done,
     }
 }
 

@@ -1,19 +1,17 @@
 -- The laws of answers, by induction on the lines.
-use Rattle.std.proofs.Common.{◌≡◌, ℕ, suc, ◌+◌, Bool, true, false, ◌&&◌, List, [], ◌∷◌, ◌++◌, length, map, Some, nat_eq, refl, sym, ap, ap₂, ◌∙◌, append_assoc, append-nil, zero-add, arith, if◌then◌else◌}
-use Rattle.std.specs.List.{fold, list_all}
+use Rattle.std.proofs.Common.{◌≡◌, ℕ, suc, ◌+◌, ◌<◌, List, [], ◌∷◌, ◌++◌, length, map, drop, get_or, Option, Some, refl, sym, ap, ap₂, ◌∙◌, append_assoc, append-nil, arith}
+use Rattle.std.proofs.lemmas.List.{drop_all, drop_more, length-append}
 use Rattle.dml_types.specs.declared.jobs.Job.{Job}
-use Rattle.dml_types.specs.declared.records.BatchRecord.{BatchRecord}
 use Rattle.dml_types.specs.declared.records.Record.{Record}
-use Rattle.dml_types.specs.declared.statuses.Status.{Status}
-use Rattle.dml_types.specs.declared.statuses.Status.TheVariants.{BatchFailed}
-use Rattle.dml_types.specs.Effect.{code_of}
 use Rattle.dml_types.specs.Memory.{Memory}
-use Rattle.dml_types.specs.Step.{batch_answer, memory_after, records_of, step}
-use Rattle.dml_script.specs.AnswerLaws.{AnswersBatch, AnswersInParts, AnswersJobs, LeavesBatch, after_lines, job_lines}
+use Rattle.dml_types.specs.Step.{batch, memory_after, records_of, step}
+use Rattle.dml_types.proofs.BatchLemmas.{length_batch_records}
+use Rattle.dml_script.proofs.BatchLemmas.{blank, record_same}
+use Rattle.dml_script.specs.AnswerLaws.{AnswersBatch, AnswersInParts, AnswersJobs, LeavesBatch, LeavesJobs, after_lines, job_lines}
 use Rattle.dml_grammar.specs.declared.lines.Line.{Line}
 use Rattle.dml_grammar.specs.declared.lines.Line.TheVariants as line
 use Rattle.dml_script.specs.Output.{batch_line, job_line}
-use Rattle.dml_script.specs.Run.{Session, after_line, answer_from, counted, empty_batch, item_of, added_text}
+use Rattle.dml_script.specs.Run.{Session, after_line, answer_from, item_of, outside, added_text}
 
 pub answers_in_parts : AnswersInParts
 answers_in_parts staging session [] those = refl
@@ -23,10 +21,31 @@ answers_in_parts staging session (l ∷ these) those =
     ap (λ text. here ++ text) (answers_in_parts staging next these those)
     ∙ sym (append_assoc here (answer_from staging next these) (answer_from staging (after_lines staging next these) those))
 
+told_outside : (staging : ℕ) (memory : Memory) (number : ℕ) (jobs : List Job)
+    → answer_from staging (outside memory number) (map (λ job. line.Job job) jobs) ≡ job_lines number (records_of memory jobs staging)
+told_outside staging memory number [] = refl
+told_outside staging memory number (job ∷ jobs) =
+    ap (λ text. job_line number (step memory job staging).1 ++ text) (told_outside staging (step memory job staging).0 (number + 1) jobs)
+
 pub answers_jobs : AnswersJobs
-answers_jobs staging session [] = refl
-answers_jobs staging session (job ∷ jobs) =
-    ap (λ text. job_line session.jobs (step session.memory job staging).1 ++ text) (answers_jobs staging (after_line staging session (line.Job job)) jobs)
+answers_jobs staging session jobs none =
+    let same : session ≡ outside session.memory session.jobs = ap (λ (batch : Option (List Job)). record session { batch = batch }) none in
+    ap (λ (s : Session). answer_from staging s (map (λ job. line.Job job) jobs)) same ∙ told_outside staging session.memory session.jobs jobs
+
+-- Job lines outside a batch.
+
+pub left_outside : (staging : ℕ) (memory : Memory) (number : ℕ) (jobs : List Job)
+    → after_lines staging (outside memory number) (map (λ job. line.Job job) jobs) ≡ outside (memory_after memory jobs staging) (number + length jobs)
+left_outside staging memory number [] = ap (λ (n : ℕ). outside memory n) (let e : number ≡ number + 0 = omega arith in e)
+left_outside staging memory number (job ∷ jobs) =
+    let done = step memory job staging in
+    left_outside staging done.0 (number + 1) jobs
+    ∙ ap (λ (n : ℕ). outside (memory_after done.0 jobs staging) n) (let e : (number + 1) + length jobs ≡ number + suc (length jobs) = omega arith in e)
+
+pub leaves_jobs : LeavesJobs
+leaves_jobs staging session jobs none =
+    let same : session ≡ outside session.memory session.jobs = ap (λ (batch : Option (List Job)). record session { batch = batch }) none in
+    ap (λ (s : Session). after_lines staging s (map (λ job. line.Job job) jobs)) same ∙ left_outside staging session.memory session.jobs jobs
 
 -- Batches.
 
@@ -39,74 +58,52 @@ abbrev jobs_as_lines : List Job → List Line
 jobs_as_lines jobs = map (λ job. line.Job job) jobs
 
 -- what job lines leave in a batch
-abbrev in_batch : Memory → ℕ → BatchRecord → Session
-in_batch memory jobs so_far = record { memory = memory; jobs = jobs; batch = Some so_far }
+abbrev pub in_batch : Memory → ℕ → List Job → Session
+in_batch memory number so_far = record { memory = memory; jobs = number; batch = Some so_far }
 
-left_in_batch : (staging : ℕ) (memory : Memory) (number : ℕ) (so_far : BatchRecord) (jobs : List Job)
-    → after_lines staging (in_batch memory number so_far) (jobs_as_lines jobs)
-    ≡ in_batch (memory_after memory jobs staging) (number + length jobs) (fold counted so_far (records_of memory jobs staging))
-left_in_batch staging memory number so_far [] = ap (λ (n : ℕ). in_batch memory n so_far) (let e : number ≡ number + 0 = omega arith in e)
+pub left_in_batch : (staging : ℕ) (memory : Memory) (number : ℕ) (so_far jobs : List Job)
+    → after_lines staging (in_batch memory number so_far) (jobs_as_lines jobs) ≡ in_batch memory (number + length jobs) (so_far ++ jobs)
+left_in_batch staging memory number so_far [] =
+    ap₂ (in_batch memory) (let e : number ≡ number + 0 = omega arith in e) (sym (append-nil so_far))
 left_in_batch staging memory number so_far (job ∷ jobs) =
-    let done = step memory job staging in
-    left_in_batch staging done.0 (number + 1) (counted so_far done.1) jobs
-    ∙ ap (λ (n : ℕ). in_batch (memory_after done.0 jobs staging) n (fold counted (counted so_far done.1) (records_of done.0 jobs staging)))
-    (let e : (number + 1) + length jobs ≡ number + suc (length jobs) = omega arith in e)
+    left_in_batch staging memory (number + 1) (so_far ++ job ∷ []) jobs
+    ∙ ap₂ (in_batch memory) (let e : (number + 1) + length jobs ≡ number + suc (length jobs) = omega arith in e) (append_assoc so_far (job ∷ []) jobs)
 
-abbrev succeeds : Record → Bool
-succeeds answer = nat_eq (code_of answer.status) 0x01
-
-abbrev answered : BatchRecord → List Record → BatchRecord
-answered so_far records = record {
-  status = if list_all succeeds records then so_far.status else BatchFailed;
-  completed = so_far.completed + length records;
-}
-
-status_of_more : (good others : Bool) (status : Status)
-    → (if others then (if good then status else BatchFailed) else BatchFailed) ≡ (if good && others then status else BatchFailed)
-status_of_more true true status = refl
-status_of_more true false status = refl
-status_of_more false true status = refl
-status_of_more false false status = refl
-
-abbrev batch_record : Status → ℕ → BatchRecord
-batch_record status completed = record { status = status; completed = completed }
-
-same_batch : (these those : Status) (few many : ℕ) → these ≡ those → few ≡ many → batch_record these few ≡ batch_record those many
-same_batch these those few many is counts = ap₂ batch_record is counts
-
-all_counted : (records : List Record) (so_far : BatchRecord) → fold counted so_far records ≡ answered so_far records
-all_counted [] so_far = same_batch so_far.status so_far.status so_far.completed (so_far.completed + 0) refl (omega arith)
-all_counted (answer ∷ records) so_far =
-    let good = succeeds answer in
-    let others = list_all succeeds records in
-    all_counted records (counted so_far answer)
-    ∙ same_batch (if others then (if good then so_far.status else BatchFailed) else BatchFailed) (if good && others then so_far.status else BatchFailed)
-    ((so_far.completed + 1) + length records) (so_far.completed + suc (length records)) (status_of_more good others so_far.status) (omega arith)
-
-batch_counted : (records : List Record) → fold counted empty_batch records ≡ batch_answer records
-batch_counted records =
-    let status = (batch_answer records).status in
-    all_counted records empty_batch ∙ same_batch status status (0 + length records) (length records) refl (zero-add (length records))
-
--- after the jobs of a batch
-behind_jobs : (staging : ℕ) (session : Session) (jobs : List Job)
-    → after_lines staging (in_batch session.memory session.jobs empty_batch) (jobs_as_lines jobs)
-    ≡ in_batch (memory_after session.memory jobs staging) (session.jobs + length jobs) (batch_answer (records_of session.memory jobs staging))
-behind_jobs staging session jobs =
-    left_in_batch staging session.memory session.jobs empty_batch jobs
-    ∙ ap (in_batch (memory_after session.memory jobs staging) (session.jobs + length jobs)) (batch_counted (records_of session.memory jobs staging))
+-- each line shows the record that its job has in the whole batch
+told_in_batch : (staging : ℕ) (memory : Memory) (number : ℕ) (so_far jobs : List Job)
+    → answer_from staging (in_batch memory number so_far) (jobs_as_lines jobs)
+    ≡ job_lines number (drop (length so_far) (batch memory (so_far ++ jobs) staging).2)
+told_in_batch staging memory number so_far [] =
+    sym (ap (job_lines number) (drop_all (length so_far) (batch memory (so_far ++ []) staging).2
+    (omega (arith, length_batch_records memory (so_far ++ []) staging, ap length (append-nil so_far)))))
+told_in_batch staging memory number so_far (job ∷ jobs) =
+    let front = so_far ++ job ∷ [] in
+    let n = length so_far in
+    let records = (batch memory (so_far ++ job ∷ jobs) staging).2 in
+    let joined : front ++ jobs ≡ so_far ++ job ∷ jobs = append_assoc so_far (job ∷ []) jobs in
+    let below : n < length records = omega (arith, length_batch_records memory (so_far ++ job ∷ jobs) staging, length-append so_far (job ∷ jobs)) in
+    let own : get_or (batch memory front staging).2 n blank ≡ get_or records n blank =
+    sym (record_same memory front jobs staging n (omega (arith, length-append so_far (job ∷ []))))
+    ∙ ap (λ (these : List Job). get_or (batch memory these staging).2 n blank) joined in
+    let later : drop (length front) (batch memory (front ++ jobs) staging).2 ≡ drop (n + 1) records =
+    ap (λ k. drop k (batch memory (front ++ jobs) staging).2) (length-append so_far (job ∷ []))
+    ∙ ap (λ (these : List Job). drop (n + 1) (batch memory these staging).2) joined in
+    ap (λ (text : List ℕ). job_line number (get_or (batch memory front staging).2 n blank) ++ text)
+    (told_in_batch staging memory (number + 1) front jobs ∙ ap (job_lines (number + 1)) later)
+    ∙ (ap (λ (r : Record). job_line number r ++ job_lines (number + 1) (drop (n + 1) records)) own
+    ∙ sym (ap (job_lines number) (drop_more records n blank below)))
 
 pub answers_batch : AnswersBatch
 answers_batch staging session jobs =
-    let opened = in_batch session.memory session.jobs empty_batch in
+    let opened = in_batch session.memory session.jobs [] in
+    let done = batch session.memory jobs staging in
     answers_in_parts staging opened (jobs_as_lines jobs) (line.End ∷ [])
-    ∙ ap (λ (text : List ℕ). text ++ answer_from staging (after_lines staging opened (jobs_as_lines jobs)) (line.End ∷ [])) (answers_jobs staging opened jobs)
-    ∙ ap (λ (s : Session). job_lines session.jobs (records_of session.memory jobs staging) ++ answer_from staging s (line.End ∷ [])) (behind_jobs staging session jobs)
-    ∙ ap (λ (text : List ℕ). job_lines session.jobs (records_of session.memory jobs staging) ++ text)
-    (append-nil (batch_line (batch_answer (records_of session.memory jobs staging))))
+    ∙ (ap (λ (text : List ℕ). text ++ answer_from staging (after_lines staging opened (jobs_as_lines jobs)) (line.End ∷ [])) (told_in_batch staging session.memory session.jobs [] jobs)
+    ∙ (ap (λ (s : Session). job_lines session.jobs done.2 ++ answer_from staging s (line.End ∷ [])) (left_in_batch staging session.memory session.jobs [] jobs)
+    ∙ ap (λ (text : List ℕ). job_lines session.jobs done.2 ++ text) (append-nil (batch_line done.1))))
 
 pub leaves_batch : LeavesBatch
 leaves_batch staging session jobs =
-    let opened = in_batch session.memory session.jobs empty_batch in
+    let opened = in_batch session.memory session.jobs [] in
     leaves_in_parts staging opened (jobs_as_lines jobs) (line.End ∷ [])
-    ∙ ap (λ (s : Session). after_lines staging s (line.End ∷ [])) (behind_jobs staging session jobs)
+    ∙ ap (λ (s : Session). after_lines staging s (line.End ∷ [])) (left_in_batch staging session.memory session.jobs [] jobs)

@@ -1,9 +1,9 @@
 -- What reads and writes, one after another, do to known bytes.
-use Rattle.std.proofs.Common.{◌≡◌, ℕ, ◌<◌, List, [], ◌++◌, length, take, drop, Option, None, Some, IfSome, refl, sym, ap, subst, ◌∙◌, append_assoc, append-nil, arith, length-append}
+use Rattle.std.proofs.Common.{◌≡◌, ℕ, ◌<◌, List, [], ◌++◌, length, take, drop, Option, None, Some, IfSome, Result, Ok, Err, OnOk, OnErr, refl, sym, ap, subst, ◌∙◌, append_assoc, append-nil, arith, length-append}
 use Rattle.std.proofs.lemmas.List.{take-append-drop}
 use Rattle.std.proofs.KnownBytes.{Appends-trans, Appends-kept, Appends-nil, Consumes-trans, Consumes-whole}
 use Rattle.std.specs.Io.KnownBytes.{Appends, Consumes, IsAtEnd, Keeps}
-use Rattle.dml_script.specs.Watching.{AppendsFront}
+use Rattle.dml_script.specs.Watching.{AppendsFront, IsWritten}
 
 -- what a reader gave is all that it had, where a read with room then gives nothing
 pub consumed_all : (a b c : Option (List ℕ)) (bytes buffer : List ℕ) (n : ℕ) → Consumes a b bytes
@@ -18,9 +18,7 @@ consumed_over None b bytes most taken over = tt
 consumed_over (Some all) None bytes most taken over = absurd taken
 consumed_over (Some all) (Some rest) bytes most taken over = omega (arith, ap length taken, length-append bytes rest)
 
--- a front is written, and what is left to write completes the whole
-abbrev pub IsWritten : Option (List ℕ) → Option (List ℕ) → List ℕ → List ℕ → Type 0
-IsWritten old new left whole = (front : List ℕ) × Appends old new front × (front ++ left ≡ whole)
+-- A front is written, and what is left to write completes the whole.
 
 pub written_start : (old : Option (List ℕ)) (whole : List ℕ) → IsWritten old old whole whole
 written_start old whole = ([], Appends-nil old, refl)
@@ -55,3 +53,34 @@ written_all a b c left whole written none kept =
 
 pub written_kept : (a b c : Option (List ℕ)) (left whole : List ℕ) → IsWritten a b left whole → Keeps b c → AppendsFront a c whole
 written_kept a b c left whole written kept = (written.0, left, sym written.2, Appends-kept a b c written.0 written.1 kept)
+
+-- what is written behind other bytes
+pub front_after : (a b c : Option (List ℕ)) (these those : List ℕ) → Appends a b these → AppendsFront b c those → AppendsFront a c (these ++ those)
+front_after a b c these those first next = (
+  these ++ next.0,
+  next.1,
+  ap (λ l. these ++ l) next.2 ∙ sym (append_assoc these next.0 next.1),
+  Appends-trans a b c _ _ first next.3,
+)
+
+pub written_on : (a b c : Option (List ℕ)) (left rest whole : List ℕ) → IsWritten a b left whole → IsWritten b c rest left → IsWritten a c rest whole
+written_on a b c left rest whole written next =
+    written_more a b c next.0 rest whole (subst (λ (l : List ℕ). IsWritten a b l whole) (sym next.2) written) next.1
+
+pub written_toward : (a b c : Option (List ℕ)) (left whole : List ℕ) → IsWritten a b left whole → AppendsFront b c left → AppendsFront a c whole
+written_toward a b c left whole written front =
+    written_into a b c left [] whole (subst (λ (l : List ℕ). IsWritten a b l whole) (sym (append-nil left)) written) front
+
+-- What holds where a call succeeds, and where it fails.
+
+pub on_success : {T E : Type 0} (r : Result T E) (P : Type 0) → P → OnOk r P
+on_success (Ok x) P h = h
+on_success (Err e) P h = tt
+
+pub then_ok : {T E : Type 0} (r : Result T E) (P Q : Type 0) → (P → Q) → OnOk r P → OnOk r Q
+then_ok (Ok x) P Q f h = f h
+then_ok (Err e) P Q f h = tt
+
+pub then_err : {T E : Type 0} (r : Result T E) (P Q : Type 0) → (P → Q) → OnErr r P → OnErr r Q
+then_err (Ok x) P Q f h = tt
+then_err (Err e) P Q f h = f h

@@ -1,14 +1,15 @@
 -- What the grammar gives of each line, after the lines before it.
-use Rattle.std.proofs.Common.{◌≡◌, ℕ, ◌+◌, ◌^◌, ◌<◌, ◌≤◌, List, [], ◌∷◌, ◌++◌, length, map, refl, subst, arith, Bool, true, false, not, ◌&&◌, Option, Some, None, unwrap_or, inl, inr, nat_lt, nat_eq}
+use Rattle.std.proofs.Common.{◌≡◌, ℕ, ◌+◌, ◌^◌, ◌<◌, ◌≤◌, List, [], ◌∷◌, ◌++◌, length, map, refl, subst, arith, Bool, true, false, not, ◌&&◌, Option, Some, None, IfSome, IsSome, unwrap_or, inl, inr, nat_le, nat_lt, nat_eq}
 use Rattle.std.specs.List.{list_all}
-use Rattle.std.proofs.lemmas.Bool.{cases_Bool, leb-true, ltb-true, ltb-false, and_parts, not-false, or_parts}
+use Rattle.std.proofs.lemmas.Bool.{cases_Bool, leb-false, leb-true, ltb-true, ltb-false, and_parts, not-false, or_parts}
 use Rattle.std.proofs.lemmas.List.{nil_from_length}
 use Rattle.dml_grammar.specs.declared.faults.Kind.{Kind}
-use Rattle.dml_grammar.specs.declared.faults.Kind.TheVariants.{BadRange, LongLine, MissingImage, NotAscii, SecondImage, WrongWords}
+use Rattle.dml_grammar.specs.declared.faults.Kind.TheVariants.{BadRange, LongLine, MissingImage, NotAscii, SecondImage, TooManyJobs, WrongWords}
 use Rattle.dml_grammar.specs.declared.lines.Line.{Line}
 use Rattle.dml_grammar.specs.declared.lines.Line.TheVariants as line
 use Rattle.dml_grammar.specs.declared.table.Word.{Word}
 use Rattle.dml_grammar.specs.declared.table.Word.TheVariants as word
+use Rattle.dml_types.specs.declared.operations.Op.TheVariants.{NoOp}
 use Rattle.dml_grammar.specs.declared.table.Slot.{Slot}
 use Rattle.dml_grammar.specs.Grammar as grammar
 use Rattle.dml_grammar.specs.Grammar.{Verdict, Skipped, Faulty, Fine, verdict, words_verdict, judged, longest_line, batch_faults, first_of, image_faults, place_faults, entry_faults, faults_of, word_faults}
@@ -17,15 +18,18 @@ use Rattle.dml_grammar.specs.Text.{is_text, words}
 use Rattle.dml_grammar.proofs.LineLemmas.{Entries, fitted_slots, bytes_of_slots, all_bytes_fit}
 
 -- whether a line may follow others: the image line alone is the first, its pages are 1 to 4,096, a brought page is one
--- of them and its bytes are no more than it has, poked bytes are present, and a shown range ends at or below 2^64
+-- of them and its bytes are no more than it has, poked bytes are present, and a shown range ends at or below 2^64; in a
+-- batch there are at most 1,024 jobs, and no other line but its end
 abbrev pub MayFollow : List Line → Line → Type 0
 MayFollow before (line.Image pages) = (before ≡ []) × (1 ≤ pages) × (pages ≤ 4096)
-MayFollow before (line.Page page bytes) = (0 < length before) × (page < grammar.pages_of before) × (length bytes ≤ 4096)
-MayFollow before (line.Poke address bytes) = (0 < length before) × (grammar.has_bytes before address (length bytes) ≡ true)
-MayFollow before (line.Job job) = 0 < length before
-MayFollow before line.Batch = 0 < length before
-MayFollow before line.End = 0 < length before
-MayFollow before (line.Show address len) = (0 < length before) × (address + len ≤ 2 ^ 64)
+MayFollow before (line.Page page bytes) =
+    (0 < length before) × (page < grammar.pages_of before) × (length bytes ≤ 4096) × (grammar.open_jobs before ≡ None)
+MayFollow before (line.Poke address bytes) =
+    (0 < length before) × (grammar.has_bytes before address (length bytes) ≡ true) × (grammar.open_jobs before ≡ None)
+MayFollow before (line.Job job) = (0 < length before) × IfSome (grammar.open_jobs before) (λ n. n < 1024)
+MayFollow before line.Batch = (0 < length before) × (grammar.open_jobs before ≡ None)
+MayFollow before line.End = (0 < length before) × IsSome (grammar.open_jobs before)
+MayFollow before (line.Show address len) = (0 < length before) × (address + len ≤ 2 ^ 64) × (grammar.open_jobs before ≡ None)
 
 -- where no fault is found, no test passes
 none_first : (test : Bool) (kind : Kind) (faults : List (Bool × Kind)) → first_of ((test, kind) ∷ faults) ≡ None → (test ≡ false) × (first_of faults ≡ None)
@@ -53,19 +57,36 @@ page_bytes : (ws : List (List ℕ)) (entries : Entries) → grammar.fitted (part
 page_bytes ws entries is =
     subst (λ (slots : List Slot). length (grammar.values_of entries).bytes ≤ bytes_of_slots slots) (fitted_slots (parts_of word.Page) ws entries is) (all_bytes_fit entries)
 
+-- what is known of the batch that is open, where no test on it passes; of all lines that may not stand in it alike
+none_open : (jobs : Option ℕ) → first_of (grammar.batch_faults word.Batch jobs) ≡ None → jobs ≡ None
+none_open None none = refl
+none_open (Some n) none = cc
+
+one_open : (jobs : Option ℕ) → first_of (grammar.batch_faults word.End jobs) ≡ None → IsSome jobs
+one_open None none = cc
+one_open (Some n) none = refl
+
+few_open : (jobs : Option ℕ) → first_of (grammar.batch_faults (word.Job NoOp) jobs) ≡ None → IfSome jobs (λ n. n < 1024)
+few_open None none = tt
+few_open (Some n) none = leb-false 1024 n (none_first (nat_le 1024 n) TooManyJobs [] none).0
+
 word_follows : (first : Word) (ws : List (List ℕ)) (entries : Entries) (before : List Line) → grammar.fitted (parts_of first) ws ≡ Some entries
     → (nat_eq (length before) 0 && not (grammar.is_image first)) ≡ false → (nat_lt 0 (length before) && grammar.is_image first) ≡ false
-    → grammar.is_out_of_range first (grammar.values_of entries) before ≡ false
+    → first_of (grammar.batch_faults first (grammar.open_jobs before)) ≡ None → grammar.is_out_of_range first (grammar.values_of entries) before ≡ false
     → MayFollow before (grammar.line_of first (grammar.values_of entries))
-word_follows word.Image ws entries before is missing second range =
+word_follows word.Image ws entries before is missing second batch range =
     let within = and_parts _ _ (not-false _ range) in (none_before before second, leb-true _ _ within.0, leb-true _ _ within.1)
-word_follows word.Page ws entries before is missing second range = (some_before before missing, ltb-true _ _ (not-false _ range), page_bytes ws entries is)
-word_follows word.Poke ws entries before is missing second range = (some_before before missing, not-false _ range)
-word_follows (word.Job op) ws entries before is missing second range = some_before before missing
-word_follows word.Raw ws entries before is missing second range = some_before before missing
-word_follows word.Batch ws entries before is missing second range = some_before before missing
-word_follows word.End ws entries before is missing second range = some_before before missing
-word_follows word.Show ws entries before is missing second range = (some_before before missing, ltb-false _ _ (or_parts _ _ range).1)
+word_follows word.Page ws entries before is missing second batch range =
+    (some_before before missing, ltb-true _ _ (not-false _ range), page_bytes ws entries is, none_open (grammar.open_jobs before) batch)
+word_follows word.Poke ws entries before is missing second batch range =
+    (some_before before missing, not-false _ range, none_open (grammar.open_jobs before) batch)
+word_follows (word.Job op) ws entries before is missing second batch range = (some_before before missing, few_open (grammar.open_jobs before) batch)
+word_follows word.Raw ws entries before is missing second batch range = (some_before before missing, few_open (grammar.open_jobs before) batch)
+word_follows word.Batch ws entries before is missing second batch range =
+    (some_before before missing, none_open (grammar.open_jobs before) batch)
+word_follows word.End ws entries before is missing second batch range = (some_before before missing, one_open (grammar.open_jobs before) batch)
+word_follows word.Show ws entries before is missing second batch range =
+    (some_before before missing, ltb-false _ _ (or_parts _ _ range).1, none_open (grammar.open_jobs before) batch)
 
 entries_follow : (first : Word) (ws : List (List ℕ)) (fitted : Option Entries) (before : List Line) → grammar.fitted (parts_of first) ws ≡ fitted
     → first_of (place_faults first before ++ entry_faults first fitted before) ≡ None
@@ -79,7 +100,7 @@ entries_follow first ws (Some entries) before is none =
     let second = none_first (nat_lt 0 (length before) && grammar.is_image first) SecondImage [] missing.1 in
     let values = none_of_two (map (λ e. grammar.slot_fault e.0 e.1) entries)
     ((grammar.is_out_of_range first (grammar.values_of entries) before, BadRange) ∷ []) parts.1 in
-    word_follows first ws entries before is missing.0 second.0 (none_first _ BadRange [] values.1).0
+    word_follows first ws entries before is missing.0 second.0 image.1 (none_first _ BadRange [] values.1).0
 
 judged_follows : (found : Option Word) (kind : Option Kind) (after : List (List ℕ)) (before : List Line) (l : Line) → judged kind found after ≡ Fine l
     → (kind ≡ None → first_of (word_faults found after before) ≡ None) → MayFollow before l

@@ -1,7 +1,9 @@
+pub mod BatchLemmas
 pub mod AnswerLawLemmas
 pub mod BytesLemmas
 pub mod FitLemmas
 pub mod FollowLemmas
+pub mod ListLemmas
 pub mod RunLemmas
 pub mod SessionLemmas
 pub mod TextLemmas

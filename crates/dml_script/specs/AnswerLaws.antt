@@ -2,8 +2,10 @@
 -- their jobs.
 use Rattle.std.specs.Prelude.{◌≡◌, ℕ, ◌+◌, List, [], ◌∷◌, ◌++◌, length, map, None}
 use Rattle.dml_types.specs.declared.jobs.Job.{Job}
+use Rattle.dml_types.specs.declared.records.BatchRecord.{BatchRecord}
 use Rattle.dml_types.specs.declared.records.Record.{Record}
-use Rattle.dml_types.specs.Step.{batch, records_of}
+use Rattle.dml_types.specs.Memory.{Memory}
+use Rattle.dml_types.specs.Step.{batch, memory_after, records_of}
 use Rattle.dml_grammar.specs.declared.lines.Line.{Line}
 use Rattle.dml_grammar.specs.declared.lines.Line.TheVariants as line
 use Rattle.dml_script.specs.Output.{batch_line, job_line}
@@ -25,11 +27,16 @@ AnswersInParts = (staging : ℕ) (session : Session) (these those : List Line)
     → answer_from staging session (these ++ those)
     ≡ answer_from staging session these ++ answer_from staging (after_lines staging session these) those
 
--- job lines one after another show the records of the list of their jobs
+-- job lines outside a batch, one after another, show the records of the list of their jobs
 abbrev pub AnswersJobs : Type 0
 AnswersJobs = (staging : ℕ) (session : Session) (jobs : List Job)
+    → session.batch ≡ None
     → answer_from staging session (map (λ job. line.Job job) jobs)
     ≡ job_lines session.jobs (records_of session.memory jobs staging)
+
+-- the lines of a batch's records: those of its jobs, numbered from a number on, and its own
+abbrev pub batch_text : ℕ → Memory × BatchRecord × List Record → List ℕ
+batch_text number done = job_lines number done.2 ++ batch_line done.1
 
 -- the lines of a batch show the records of its jobs and then its own, and leave what it leaves
 abbrev pub batch_lines : List Job → List Line
@@ -38,8 +45,18 @@ batch_lines jobs = line.Batch ∷ map (λ job. line.Job job) jobs ++ line.End �
 abbrev pub AnswersBatch : Type 0
 AnswersBatch = (staging : ℕ) (session : Session) (jobs : List Job)
     → answer_from staging session (batch_lines jobs)
-    ≡ job_lines session.jobs (batch session.memory jobs staging).2
-    ++ batch_line (batch session.memory jobs staging).1
+    ≡ batch_text session.jobs (batch session.memory jobs staging)
+
+-- job lines outside a batch leave what the list of their jobs leaves
+abbrev pub LeavesJobs : Type 0
+LeavesJobs = (staging : ℕ) (session : Session) (jobs : List Job)
+    → session.batch ≡ None
+    → after_lines staging session (map (λ job. line.Job job) jobs)
+    ≡ record {
+      memory = memory_after session.memory jobs staging;
+      jobs = session.jobs + length jobs;
+      batch = None;
+    }
 
 abbrev pub LeavesBatch : Type 0
 LeavesBatch = (staging : ℕ) (session : Session) (jobs : List Job)

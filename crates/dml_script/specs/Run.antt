@@ -1,12 +1,12 @@
 -- What a script's run writes: its lines change a memory, one after another, and jobs and shows add text.
-use Rattle.std.specs.Prelude.{◌≡◌, ◌≤◌, IsOk, ℕ, ◌+◌, ◌-◌, ◌%◌, if◌then◌else◌, List, [], ◌∷◌, ◌++◌, length, map, nat_eq, nat_le, option_map, replicate, Option, None, Some, Result, Ok, Err}
+use Rattle.std.specs.Prelude.{◌≡◌, ◌≤◌, IsOk, ℕ, ◌+◌, ◌-◌, ◌%◌, if◌then◌else◌, List, [], ◌∷◌, ◌++◌, length, map, nat_le, option_map, replicate, slice_index_or, Option, None, Some, Result, Ok, Err}
 use Rattle.std.specs.List.{range_with_len}
 use Rattle.dml_types.specs.Memory.{Memory, page_size, has, byte_at, put}
-use Rattle.dml_types.specs.declared.records.BatchRecord.{BatchRecord}
+use Rattle.dml_types.specs.declared.jobs.Job.{Job}
 use Rattle.dml_types.specs.declared.records.Record.{Record}
-use Rattle.dml_types.specs.declared.statuses.Status.TheVariants.{BatchFailed, Success}
-use Rattle.dml_types.specs.Effect.{code_of}
-use Rattle.dml_types.specs.Step.{step}
+use Rattle.dml_types.specs.declared.statuses.Status.TheVariants.{Abandoned}
+use Rattle.dml_types.specs.Effect.{ended}
+use Rattle.dml_types.specs.Step.{batch, step}
 use Rattle.dml_image.specs.Brought.{all_absent, brought}
 use Rattle.dml_grammar.specs.declared.faults.ScriptError.{ScriptError}
 use Rattle.dml_grammar.specs.declared.faults.ScriptError.TheVariants as scripts
@@ -22,36 +22,45 @@ use Rattle.dml_script.specs.declared.running.RunFault.TheVariants as faults
 use Rattle.dml_script.specs.declared.writing.AnswerError.{AnswerError}
 use Rattle.dml_script.specs.declared.writing.AnswerError.TheVariants as answers
 
--- the memory so far, the number of jobs so far, and the record of the batch that is open, if one is, for its
--- jobs so far
+-- the memory so far, the number of jobs so far, and the jobs so far of the batch that is open, if one is: its memory
+-- is that before it, until it ends
 pub record Session : Type 0 where
   pub memory : Memory
   pub jobs : ℕ
-  pub batch : Option BatchRecord
+  pub batch : Option (List Job)
 
 -- a session, and the staging size that all of its jobs have
 pub record Running : Type 0 where
   pub session : Session
   pub staging : ℕ
 
+-- a session with no batch open
+abbrev pub outside : Memory → ℕ → Session
+outside memory jobs = record { memory = memory; jobs = jobs; batch = None }
+
 -- before the first line there is no page
 abbrev pub opening : Session
-opening = record { memory = all_absent 0; jobs = 0; batch = None }
+opening = outside (all_absent 0) 0
 
 -- a page of these bytes, and then zeros
 abbrev pub page_of : List ℕ → List ℕ
 page_of bytes = bytes ++ replicate (page_size - length bytes) 0
 
--- the record of a batch without a job, and of one with another job
-abbrev pub empty_batch : BatchRecord
-empty_batch = record { status = Success; completed = 0 }
+-- what a job leaves: in a batch nothing yet
+abbrev pub memory_behind : ℕ → Memory → Option (List Job) → Job → Memory
+memory_behind staging memory None job = (step memory job staging).0
+memory_behind staging memory (Some so_far) job = memory
 
-abbrev pub counted : BatchRecord → Record → BatchRecord
-counted so_far answer =
-    record {
-      status = if nat_eq (code_of answer.status) 0x01 then so_far.status else BatchFailed;
-      completed = so_far.completed + 1;
-    }
+-- its record: in a batch the one that it has behind the jobs so far
+abbrev pub record_behind : ℕ → Memory → Option (List Job) → Job → Record
+record_behind staging memory None job = (step memory job staging).1
+record_behind staging memory (Some so_far) job =
+    slice_index_or (batch memory (so_far ++ job ∷ []) staging).2 (length so_far) (ended Abandoned 0 0 0)
+
+-- what the end of a batch leaves
+abbrev pub memory_closed : ℕ → Memory → Option (List Job) → Memory
+memory_closed staging memory None = memory
+memory_closed staging memory (Some jobs) = (batch memory jobs staging).0
 
 -- what a line leaves, at a staging size
 abbrev pub after_line : ℕ → Session → Line → Session
@@ -61,14 +70,14 @@ after_line staging session (line.Page page bytes) =
 after_line staging session (line.Poke address bytes) =
     record session { memory = put session.memory address bytes }
 after_line staging session (line.Job job) =
-    let done = step session.memory job staging in
     record {
-      memory = done.0;
+      memory = memory_behind staging session.memory session.batch job;
       jobs = session.jobs + 1;
-      batch = option_map (λ so_far. counted so_far done.1) session.batch;
+      batch = option_map (λ so_far. so_far ++ job ∷ []) session.batch;
     }
-after_line staging session line.Batch = record session { batch = Some empty_batch }
-after_line staging session line.End = record session { batch = None }
+after_line staging session line.Batch = record session { batch = Some [] }
+after_line staging session line.End =
+    outside (memory_closed staging session.memory session.batch) session.jobs
 after_line staging session (line.Show address len) = session
 
 -- a range that does not cross the end of a page
@@ -87,9 +96,11 @@ abbrev pub item_of : ℕ → Session → Line → Option Item
 item_of staging session (line.Image pages) = None
 item_of staging session (line.Page page bytes) = None
 item_of staging session (line.Poke address bytes) = None
-item_of staging session (line.Job job) = Some (item.Job session.jobs (step session.memory job staging).1)
+item_of staging session (line.Job job) =
+    Some (item.Job session.jobs (record_behind staging session.memory session.batch job))
 item_of staging session line.Batch = None
-item_of staging session line.End = option_map (λ answer. item.Batch answer) session.batch
+item_of staging session line.End =
+    option_map (λ jobs. item.Batch (batch session.memory jobs staging).1) session.batch
 item_of staging session (line.Show address len) =
     Some (item.Show address (shown_bytes session.memory address len))
 
@@ -101,6 +112,19 @@ abbrev pub answer_from : ℕ → Session → List Line → List ℕ
 answer_from staging session [] = []
 answer_from staging session (l ∷ lines) =
     added_text (item_of staging session l) ++ answer_from staging (after_line staging session l) lines
+
+-- the answer of lines where this is reached
+abbrev pub answer_of : Running → List Line → List ℕ
+answer_of reached lines = answer_from reached.staging reached.session lines
+
+-- lines, the first of which was read ahead, if there is one
+abbrev pub lines_from : Option Line → List Line → List Line
+lines_from None lines = []
+lines_from (Some ahead) lines = ahead ∷ lines
+
+abbrev pub IsJobLine : Option Line → Type 0
+IsJobLine (Some (line.Job job)) = Unit {0}
+IsJobLine other = ⊥
 
 -- the most bytes of a script
 abbrev pub longest_script : ℕ

@@ -27,9 +27,17 @@ abbrev pub AppendsFront : Option (List ℕ) → Option (List ℕ) → List ℕ �
 AppendsFront old new bytes =
     (front : List ℕ) × (rest : List ℕ) × (bytes ≡ front ++ rest) × Appends old new front
 
+-- known bytes grow by a front of a whole, of which these are left
+abbrev pub IsWritten : Option (List ℕ) → Option (List ℕ) → List ℕ → List ℕ → Type 0
+IsWritten old new left whole = (front : List ℕ) × Appends old new front × (front ++ left ≡ whole)
+
 -- these bytes, or a front of them, were written to what is watched, which holds `contents`
 abbrev pub Writes : {W : Type 0} → (W → Option (List ℕ)) → Watched W → Watched W → List ℕ → Type 0
 Writes contents old new bytes = Appends (contents (inner_of old)) (contents (inner_of new)) bytes
 
 abbrev pub WritesFront : {W : Type 0} → (W → Option (List ℕ)) → Watched W → Watched W → List ℕ → Type 0
 WritesFront contents old new bytes = AppendsFront (contents (inner_of old)) (contents (inner_of new)) bytes
+
+-- all of these bytes was written but for what is left
+abbrev pub WritesUpTo : {W : Type 0} → (W → Option (List ℕ)) → Watched W → Watched W → List ℕ → List ℕ → Type 0
+WritesUpTo contents old new left whole = IsWritten (contents (inner_of old)) (contents (inner_of new)) left whole

@@ -5,6 +5,7 @@
 mod input;
 mod items;
 mod laws;
+mod lists;
 mod running;
 mod sessions;
 mod texts;

@@ -3,18 +3,16 @@
 ghost use Rattle.std.specs.Prelude.{◌≡◌, ◌≢◌, ◌+◌, ◌^◌, ◌<◌, ◌≤◌, false, true, length, Err, OnOk, OnErr, IsErrOf, IfErr, IfOk, IfSome};
 ghost use Rattle.std.specs.Io.KnownBytes.{IsAtEnd};
 ghost use Rattle.dml_types.specs.Limits.{IsValid};
-ghost use Rattle.dml_script.specs.Run.{HasFault, IsScript, after_line, answer, answer_from, longest_script, opening, added_text};
-ghost use Rattle.dml_script.specs.Runnable.{AllFit, IsRunnable};
+ghost use Rattle.dml_script.specs.Run.{HasFault, IsScript, after_line, answer, answer_from, answer_of, longest_script, opening};
+ghost use Rattle.dml_script.specs.Runnable.{IsRunnable, MayCome};
 ghost use Rattle.dml_script.specs.Watching.{inner_of, has_failed, is_flushed, Writes, WritesFront};
 ghost use Rattle.dml_grammar.specs.declared.faults.ScriptFault.{ScriptFault as TheFault};
 ghost use Rattle.dml_script.specs.declared.running.RunFault.TheVariants as faults;
 
 use crate::input::read_all;
-use crate::items::Item;
 use crate::sessions::Session;
-use crate::texts::out_text;
 use crate::watching::Watched;
-use crate::writing::{AnswerError, flush, write_all};
+use crate::writing::{AnswerError, flush};
 use dml_engine::Engine;
 use dml_grammar::{
     Line, MAX_SCRIPT, ScriptError, ScriptFault, ScriptLines, fault_text, read_script,
@@ -189,7 +187,7 @@ fn begin(alloc: Global, pages: u32, settings: Settings) -> Result<Session, Answe
 {
     let image = Image::new(alloc, pages)?;
     let engine = Engine::new(alloc, image, settings)?;
-    Ok(Session::new(engine))
+    Ok(Session::new(alloc, engine))
 }
 
 /// Writes what the lines after the first show, and flushes the writer.
@@ -200,39 +198,17 @@ fn answer_lines<T: Threads + Wait + Sync, W: Write>(
     mut lines: ScriptLines<'_>,
     writer: &mut Watched<W>,
 ) -> Result<(), AnswerError>
-    requires fits { AllFit session.staging session.session lines }
-    requires counted { session.session.jobs + length lines < 2 ^ 32 }
+    requires lines { MayCome session lines }
     requires writer { has_failed writer.old ≡ false }
-    ensures ok { OnOk result (Writes W.contents writer.old writer.new
-        (answer_from session.entry.staging session.entry.session lines.entry)) }
+    ensures ok { OnOk result (Writes W.contents writer.old writer.new (answer_of session.entry lines.entry)) }
     ensures passed { result ≢ Err AnswerError.Write → has_failed writer.new ≡ false }
     ensures flushed { OnOk result (is_flushed writer.new ≡ true) }
-    ensures front { OnErr result (WritesFront W.contents writer.old writer.new
-        (answer_from session.entry.staging session.entry.session lines.entry)) }
+    ensures front { OnErr result (WritesFront W.contents writer.old writer.new (answer_of session.entry lines.entry)) }
     ensures failed { IsErrOf result AnswerError.Write → has_failed writer.new ≡ true }
 {
-    while let Some(line) = lines.next_line(alloc)? {
-        let item = session.take(rt, alloc, &line)?;
-        write_item(alloc, item, writer)?;
+    let mut ahead = lines.next_line(alloc)?;
+    while let Some(line) = ahead {
+        ahead = session.answer_line(rt, alloc, line, &mut lines, writer)?;
     }
     flush(writer)
-}
-
-/// Writes the text of an item, if there is one.
-fn write_item<W: Write>(
-    alloc: Global,
-    item: Option<Item>,
-    writer: &mut Watched<W>,
-) -> Result<(), AnswerError>
-    requires writer { has_failed writer.old ≡ false }
-    ensures ok { OnOk result (Writes W.contents writer.old writer.new (added_text item)) }
-    ensures passed { result ≢ Err AnswerError.Write → has_failed writer.new ≡ false }
-    ensures front { OnErr result (WritesFront W.contents writer.old writer.new (added_text item)) }
-    ensures failed { IsErrOf result AnswerError.Write → has_failed writer.new ≡ true }
-{
-    let Some(item) = item else {
-        return Ok(());
-    };
-    let text = out_text(alloc, &item)?;
-    write_all(writer, text.as_bytes())
 }

@@ -1,15 +1,19 @@
-//! Writing all of some bytes.
+//! Writing an answer, and all of some bytes.
 
-ghost use Rattle.std.specs.Prelude.{◌≡◌, ◌≢◌, ◌<◌, ◌≤◌, [], false, true, length, take, Err, IfErr, IfOk, OnOk, OnErr};
+ghost use Rattle.std.specs.Prelude.{◌≡◌, ◌≢◌, ◌+◌, ◌^◌, ◌<◌, ◌≤◌, [], false, true, length, take, Err, IfErr, IfOk, IsErrOf, OnOk, OnErr};
 ghost use Rattle.std.specs.Io.KnownBytes.{Keeps};
+ghost use Rattle.dml_script.specs.AnswerLaws.{job_lines};
+ghost use Rattle.dml_script.specs.Run.{added_text};
 ghost use Rattle.dml_script.specs.Watching.{inner_of, has_failed, is_flushed, Writes, WritesFront};
 
+use crate::items::Item;
 use crate::running::RunFault;
-use crate::texts::TextError;
+use crate::texts::{TextError, out_text};
 use crate::watching::Watched;
-use dml_engine::EngineError;
+use dml_engine::{EngineError, SubmitError};
 use dml_image::{Image, ImageError};
-use std::alloc::AllocError;
+use dml_types::Record;
+use std::alloc::{AllocError, Global};
 use std::io::Write;
 
 /// Why an answer was not written to its end.
@@ -42,7 +46,8 @@ impl From<TextError> for AnswerError {
     }
 }
 
-// The image and the engine of a script without faults, at valid settings, are refused for want of memory alone.
+// The image, the engine and the batches of a script without faults, at valid settings, are refused for want of memory
+// alone.
 impl From<ImageError> for AnswerError {
     ghost use Rattle.std.specs.Prelude.{◌≡◌};
     ghost use Rattle.dml_script.specs.declared.writing.AnswerError.TheVariants.{NoMemory};
@@ -63,6 +68,59 @@ impl From<(Image<'static>, EngineError)> for AnswerError {
     fn from(_error: (Image<'static>, EngineError)) -> AnswerError {
         AnswerError::NoMemory
     }
+}
+
+impl From<SubmitError> for AnswerError {
+    ghost use Rattle.std.specs.Prelude.{◌≡◌};
+    ghost use Rattle.dml_script.specs.declared.writing.AnswerError.TheVariants.{NoMemory};
+
+    ghost from_gives = { λ _ e. e ≡ NoMemory };
+
+    fn from(_error: SubmitError) -> AnswerError {
+        AnswerError::NoMemory
+    }
+}
+
+/// Writes the lines of records, numbered from a number on.
+pub fn write_records<W: Write>(
+    alloc: Global,
+    first: u32,
+    records: &[Record],
+    writer: &mut Watched<W>,
+) -> Result<(), AnswerError>
+    requires counted { first + length records.now < 2 ^ 32 }
+    requires writer { has_failed writer.old ≡ false }
+    ensures ok { OnOk result (Writes W.contents writer.old writer.new (job_lines first records.now)) }
+    ensures passed { result ≢ Err AnswerError.Write → has_failed writer.new ≡ false }
+    ensures front { OnErr result (WritesFront W.contents writer.old writer.new (job_lines first records.now)) }
+    ensures failed { IsErrOf result AnswerError.Write → has_failed writer.new ≡ true }
+{
+    let mut number = first;
+    for answer in records {
+        let answer = *answer;
+        write_item(alloc, Some(Item::Job { number, answer }), writer)?;
+        number += 1;
+    }
+    Ok(())
+}
+
+/// Writes the text of an item, if there is one.
+pub fn write_item<W: Write>(
+    alloc: Global,
+    item: Option<Item>,
+    writer: &mut Watched<W>,
+) -> Result<(), AnswerError>
+    requires writer { has_failed writer.old ≡ false }
+    ensures ok { OnOk result (Writes W.contents writer.old writer.new (added_text item)) }
+    ensures passed { result ≢ Err AnswerError.Write → has_failed writer.new ≡ false }
+    ensures front { OnErr result (WritesFront W.contents writer.old writer.new (added_text item)) }
+    ensures failed { IsErrOf result AnswerError.Write → has_failed writer.new ≡ true }
+{
+    let Some(item) = item else {
+        return Ok(());
+    };
+    let text = out_text(alloc, &item)?;
+    write_all(writer, text.as_bytes())
 }
 
 /// Writes all of some bytes, and flushes the writer.

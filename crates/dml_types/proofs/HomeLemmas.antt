@@ -7,7 +7,7 @@ use Rattle.dml_types.specs.Refusal.{refusal}
 use Rattle.dml_types.specs.Effect.{Effect}
 use Rattle.dml_types.specs.Bytewise.{moved, dualcast, filled, compared}
 use Rattle.dml_types.specs.Delta.{created, applied}
-use Rattle.dml_types.specs.Step.{effect, effect_by, effect_unless, step, memory_after, records_of}
+use Rattle.dml_types.specs.Step.{effect, operation_effect, effect_unless, step, memory_after, records_of}
 
 pub home_after_puts : (memory : Memory) (puts : List Put) → (puts_made memory puts).home ≡ memory.home
 home_after_puts memory [] = refl
@@ -21,7 +21,7 @@ pub home_after_step : (memory : Memory) (job : Job) (staging : ℕ) → (step me
 home_after_step memory job staging = home_after_puts memory (effect memory job staging).puts
 
 -- no operation looks at it
-by_elsewhere : (op : Op) (memory : Memory) (home : Option ℕ) (job : Job) → effect_by op (at_home memory home) job ≡ effect_by op memory job
+by_elsewhere : (op : Op) (memory : Memory) (home : Option ℕ) (job : Job) → operation_effect op (at_home memory home) job ≡ operation_effect op memory job
 unfolding moved dualcast filled compared created applied
 by_elsewhere NoOp memory home job = refl
 by_elsewhere Move memory home job = refl

@@ -1,3 +1,5 @@
+pub mod BatchLemmas
+pub mod FenceLemmas
 pub mod FirstLemmas
 pub mod HomeLemmas
 pub mod MemoryLemmas

@@ -3,30 +3,30 @@ use Rattle.std.proofs.Common.{◌≡◌, ℕ, ◌+◌, ◌-◌, ◌<◌, ◌≤�
 use Rattle.std.proofs.lemmas.Bool.{cases_lt, not-false, and_parts}
 use Rattle.dml_types.specs.Types.{Job, Record, Direction, Forward, Backward, Move}
 use Rattle.dml_types.specs.Job.{op_of}
-use Rattle.dml_types.specs.Memory.{Memory, IsWhole, bytes_at, offset_in, put, puts_made}
+use Rattle.dml_types.specs.Memory.{Memory, IsWhole, bytes_at, worked_offset, put, puts_made}
 use Rattle.dml_types.specs.Refusal.{refusal}
 use Rattle.dml_types.specs.Effect.{is_clear}
-use Rattle.dml_types.specs.Bytewise.{direction_by, done_from, faults_at, length_of, moved}
+use Rattle.dml_types.specs.Bytewise.{operation_direction, lowest_done, faults_at, length_of, moved}
 use Rattle.dml_types.specs.Step.{step}
 use Rattle.dml_types.proofs.FirstLemmas.{first_le, fails_before}
 use Rattle.dml_types.proofs.MemoryLemmas.{has_within, bytes_at_none, length_bytes_at, put_nil, read_written, read_beside}
 use Rattle.dml_types.proofs.StepLemmas.{step_accepted}
 
 -- each offset that was done has both bytes
-pub move_clear : (memory : Memory) (job : Job) (i : ℕ) → i < length_of Move memory job → is_clear memory (faults_at Move job (offset_in (direction_by Move job) job.size i)) ≡ true
+pub move_clear : (memory : Memory) (job : Job) (i : ℕ) → i < length_of Move memory job → is_clear memory (faults_at Move job (worked_offset (operation_direction Move job) job.size i)) ≡ true
 move_clear memory job i below =
-    not-false _ (fails_before job.size (λ j. not (is_clear memory (faults_at Move job (offset_in (direction_by Move job) job.size j)))) i below)
+    not-false _ (fails_before job.size (λ j. not (is_clear memory (faults_at Move job (worked_offset (operation_direction Move job) job.size j)))) i below)
 
 -- the last address that was done, in either direction
-last_done : (direction : Direction) (n k : ℕ) → 0 < k → k ≤ n → (i : ℕ) × (i < k) × (offset_in direction n i ≡ done_from direction n k + (k - 1))
+last_done : (direction : Direction) (n k : ℕ) → 0 < k → k ≤ n → (i : ℕ) × (i < k) × (worked_offset direction n i ≡ lowest_done direction n k + (k - 1))
 last_done Forward n k some within = (k - 1, omega arith, omega arith)
 last_done Backward n k some within = (0, some, omega arith)
 
 -- both ranges that were done lie in the image
-pub move_within : (memory : Memory) (job : Job) → IsWhole memory → 0 < length_of Move memory job → let from = done_from (direction_by Move job) job.size (length_of Move memory job) in (job.source + from + length_of Move memory job ≤ length memory.bytes) × (job.target + from + length_of Move memory job ≤ length memory.bytes)
+pub move_within : (memory : Memory) (job : Job) → IsWhole memory → 0 < length_of Move memory job → let from = lowest_done (operation_direction Move job) job.size (length_of Move memory job) in (job.source + from + length_of Move memory job ≤ length memory.bytes) × (job.target + from + length_of Move memory job ≤ length memory.bytes)
 move_within memory job whole some =
     let k = length_of Move memory job in
-    let last = last_done (direction_by Move job) job.size k some (first_le _ _) in
+    let last = last_done (operation_direction Move job) job.size k some (first_le _ _) in
     let clear = and_parts _ _ (move_clear memory job last.0 last.1) in
     let other = and_parts _ _ clear.1 in
     let at_source = has_within memory _ whole clear.0 in
@@ -46,19 +46,19 @@ copied memory a b k within =
     bytes_at_none (put memory b (bytes_at memory a k)) b k nothing ∙ sym (bytes_at_none memory a k nothing))
     (cases_lt 0 k)
 
-pub moved_reads_source : (memory : Memory) (job : Job) → IsWhole memory → let k = length_of Move memory job in let from = done_from (direction_by Move job) job.size k in bytes_at (puts_made memory (moved memory job).puts) (job.target + from) k ≡ bytes_at memory (job.source + from) k
+pub moved_reads_source : (memory : Memory) (job : Job) → IsWhole memory → let k = length_of Move memory job in let from = lowest_done (operation_direction Move job) job.size k in bytes_at (puts_made memory (moved memory job).puts) (job.target + from) k ≡ bytes_at memory (job.source + from) k
 unfolding moved
 moved_reads_source memory job whole =
-    copied memory (job.source + done_from (direction_by Move job) job.size (length_of Move memory job))
-    (job.target + done_from (direction_by Move job) job.size (length_of Move memory job)) (length_of Move memory job)
+    copied memory (job.source + lowest_done (operation_direction Move job) job.size (length_of Move memory job))
+    (job.target + lowest_done (operation_direction Move job) job.size (length_of Move memory job)) (length_of Move memory job)
     (λ some. let within = move_within memory job whole some in (within.0, within.1))
 
 -- what is not in the destination's part is as before
-pub moved_beside : (memory : Memory) (job : Job) (address n : ℕ) → IsWhole memory → let k = length_of Move memory job in let from = done_from (direction_by Move job) job.size k in (address + n ≤ job.target + from) ⊎ (job.target + from + k ≤ address) → bytes_at (puts_made memory (moved memory job).puts) address n ≡ bytes_at memory address n
+pub moved_beside : (memory : Memory) (job : Job) (address n : ℕ) → IsWhole memory → let k = length_of Move memory job in let from = lowest_done (operation_direction Move job) job.size k in (address + n ≤ job.target + from) ⊎ (job.target + from + k ≤ address) → bytes_at (puts_made memory (moved memory job).puts) address n ≡ bytes_at memory address n
 unfolding moved
 moved_beside memory job address n whole apart =
     let k = length_of Move memory job in
-    let from = done_from (direction_by Move job) job.size k in
+    let from = lowest_done (operation_direction Move job) job.size k in
     ⊎_elim (λ some.
     let within = move_within memory job whole some in
     let long = length_bytes_at memory (job.source + from) k within.0 in
@@ -71,14 +71,14 @@ moved_beside memory job address n whole apart =
     (cases_lt 0 k)
 
 -- the same of a step
-pub move_reads_source : (memory : Memory) (job : Job) (staging : ℕ) → IsWhole memory → op_of job ≡ Some Move → refusal job staging ≡ None → let k = length_of Move memory job in let from = done_from (direction_by Move job) job.size k in bytes_at (step memory job staging).0 (job.target + from) k ≡ bytes_at memory (job.source + from) k
+pub move_reads_source : (memory : Memory) (job : Job) (staging : ℕ) → IsWhole memory → op_of job ≡ Some Move → refusal job staging ≡ None → let k = length_of Move memory job in let from = lowest_done (operation_direction Move job) job.size k in bytes_at (step memory job staging).0 (job.target + from) k ≡ bytes_at memory (job.source + from) k
 move_reads_source memory job staging whole is free =
     let k = length_of Move memory job in
-    let from = done_from (direction_by Move job) job.size k in
+    let from = lowest_done (operation_direction Move job) job.size k in
     ap (λ (p : Memory × Record). bytes_at p.0 (job.target + from) k) (step_accepted memory job staging Move free is)
     ∙ moved_reads_source memory job whole
 
-pub move_beside : (memory : Memory) (job : Job) (staging address n : ℕ) → IsWhole memory → op_of job ≡ Some Move → refusal job staging ≡ None → let k = length_of Move memory job in let from = done_from (direction_by Move job) job.size k in (address + n ≤ job.target + from) ⊎ (job.target + from + k ≤ address) → bytes_at (step memory job staging).0 address n ≡ bytes_at memory address n
+pub move_beside : (memory : Memory) (job : Job) (staging address n : ℕ) → IsWhole memory → op_of job ≡ Some Move → refusal job staging ≡ None → let k = length_of Move memory job in let from = lowest_done (operation_direction Move job) job.size k in (address + n ≤ job.target + from) ⊎ (job.target + from + k ≤ address) → bytes_at (step memory job staging).0 address n ≡ bytes_at memory address n
 move_beside memory job staging address n whole is free apart =
     ap (λ (p : Memory × Record). bytes_at p.0 address n) (step_accepted memory job staging Move free is)
     ∙ moved_beside memory job address n whole apart

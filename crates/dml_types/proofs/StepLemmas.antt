@@ -5,14 +5,14 @@ use Rattle.dml_types.specs.Job.{op_of}
 use Rattle.dml_types.specs.Memory.{Memory, puts_made}
 use Rattle.dml_types.specs.Refusal.{refusal}
 use Rattle.dml_types.specs.Effect.{Effect, ended, refused}
-use Rattle.dml_types.specs.Step.{effect, effect_by, effect_unless, step, memory_after, records_of}
+use Rattle.dml_types.specs.Step.{effect, operation_effect, effect_unless, step, memory_after, records_of}
 use Rattle.dml_types.proofs.MemoryLemmas.{puts_present}
 
 pub effect_refused : (memory : Memory) (job : Job) (staging : ℕ) (status : Status) → refusal job staging ≡ Some status → effect memory job staging ≡ refused status
 unfolding effect
 effect_refused memory job staging status is = ap (λ r. effect_unless r (op_of job) memory job) is
 
-pub effect_accepted : (memory : Memory) (job : Job) (staging : ℕ) (op : Op) → refusal job staging ≡ None → op_of job ≡ Some op → effect memory job staging ≡ effect_by op memory job
+pub effect_accepted : (memory : Memory) (job : Job) (staging : ℕ) (op : Op) → refusal job staging ≡ None → op_of job ≡ Some op → effect memory job staging ≡ operation_effect op memory job
 unfolding effect
 effect_accepted memory job staging op free is =
     ap (λ r. effect_unless r (op_of job) memory job) free ∙ ap (λ o. effect_unless None o memory job) is
@@ -21,7 +21,7 @@ pub step_refused : (memory : Memory) (job : Job) (staging : ℕ) (status : Statu
 step_refused memory job staging status is =
     ap (λ (done : Effect). (puts_made memory done.puts, done.answer)) (effect_refused memory job staging status is)
 
-pub step_accepted : (memory : Memory) (job : Job) (staging : ℕ) (op : Op) → refusal job staging ≡ None → op_of job ≡ Some op → step memory job staging ≡ (puts_made memory (effect_by op memory job).puts, (effect_by op memory job).answer)
+pub step_accepted : (memory : Memory) (job : Job) (staging : ℕ) (op : Op) → refusal job staging ≡ None → op_of job ≡ Some op → step memory job staging ≡ (puts_made memory (operation_effect op memory job).puts, (operation_effect op memory job).answer)
 step_accepted memory job staging op free is =
     ap (λ (done : Effect). (puts_made memory done.puts, done.answer)) (effect_accepted memory job staging op free is)
 

@@ -1,7 +1,7 @@
 -- The operations that go byte by byte: move, fill, compare, compare pattern and dualcast.
 use Rattle.std.specs.Prelude.{ℕ, ◌+◌, ◌-◌, ◌%◌, Bool, not, ◌&&◌, List, [], ◌∷◌, map, if◌then◌else◌, ◌==◌, nat_lt, slice_index}
 use Rattle.dml_types.specs.Types.{Job, Record, Op, Move, Fill, Compare, ComparePattern, Dualcast, Direction, Forward, Backward, range_with_len, to_le_bytes, w64}
-use Rattle.dml_types.specs.Memory.{first, Memory, offset_in, present_bytes, byte_at, bytes_at, put_of}
+use Rattle.dml_types.specs.Memory.{first, Memory, worked_offset, present_bytes, byte_at, bytes_at, put_of}
 use Rattle.dml_types.specs.Effect.{Effect, effect_of, Fault, read_fault, write_fault, is_clear, first_fault, ended, faulted, judged, stopped_at}
 
 -- the 8 bytes of a pattern, low byte first, repeated
@@ -12,10 +12,13 @@ unfoldable pub pattern_bytes : ℕ → ℕ → List ℕ
 pattern_bytes pattern n = map (pattern_byte pattern) (range_with_len 0 n)
 
 -- a move goes backward exactly where its destination begins inside its source, behind the source's first byte
-abbrev pub direction_by : Op → Job → Direction
-direction_by Move job =
-    if nat_lt job.source job.target && nat_lt job.target (job.source + job.size) then Backward else Forward
-direction_by _ job = Forward
+abbrev pub move_direction : ℕ → ℕ → ℕ → Direction
+move_direction source target n =
+    if nat_lt source target && nat_lt target (source + n) then Backward else Forward
+
+abbrev pub operation_direction : Op → Job → Direction
+operation_direction Move job = move_direction job.source job.target job.size
+operation_direction _ job = Forward
 
 -- the result of a move
 abbrev pub result_of : Direction → ℕ
@@ -23,9 +26,9 @@ result_of Forward = 0
 result_of Backward = 1
 
 -- the lowest of the k offsets that come first where n offsets are worked on in a direction
-abbrev pub done_from : Direction → ℕ → ℕ → ℕ
-done_from Forward n k = 0
-done_from Backward n k = n - k
+abbrev pub lowest_done : Direction → ℕ → ℕ → ℕ
+lowest_done Forward n k = 0
+lowest_done Backward n k = n - k
 
 -- the faults that may come at an offset, in their order
 abbrev pub faults_at : Op → Job → ℕ → List Fault
@@ -50,15 +53,15 @@ passes op memory job i = is_clear memory (faults_at op job i)
 -- how many offsets, in the order of work, come before the first that does not pass
 abbrev pub length_of : Op → Memory → Job → ℕ
 length_of op memory job =
-    first job.size (λ i. not (passes op memory job (offset_in (direction_by op job) job.size i)))
+    first job.size (λ i. not (passes op memory job (worked_offset (operation_direction op job) job.size i)))
 
 unfoldable pub moved : Memory → Job → Effect
 moved memory job =
-    let direction = direction_by Move job in
+    let direction = operation_direction Move job in
     let k = length_of Move memory job in
-    let from = done_from direction job.size k in
+    let from = lowest_done direction job.size k in
     effect_of (put_of (job.target + from) (bytes_at memory (job.source + from) k) ∷ [])
-    (stopped_at memory job (result_of direction) k (faults_at Move job (offset_in direction job.size k)))
+    (stopped_at memory job (result_of direction) k (faults_at Move job (worked_offset direction job.size k)))
 
 unfoldable pub dualcast : Memory → Job → Effect
 dualcast memory job =

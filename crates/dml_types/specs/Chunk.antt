@@ -3,19 +3,30 @@
 -- One of create looks neither at the maximum nor at the record's pages: both are judged when the chunks are
 -- joined. One of apply judges the rise between two of its own entries only, and tells the offset of its first
 -- entry where all bytes of that are present, even if the entry is bad.
-use Rattle.std.specs.Prelude.{ℕ, ◌+◌, ◌-◌, ◌*◌, not, ◌&&◌, List, [], flat_map, Option, None, Some, option_map, if◌then◌else◌, ◌==◌}
+use Rattle.std.specs.Prelude.{ℕ, ◌+◌, ◌-◌, ◌*◌, ◌/◌, not, ◌&&◌, List, [], flat_map, Option, None, Some, option_map, if◌then◌else◌, ◌==◌}
 use Rattle.dml_types.specs.declared.findings.Found.{Found}
 use Rattle.dml_types.specs.declared.findings.Found.TheVariants.{All, Differs, Fault as Faults}
-use Rattle.dml_types.specs.Types.{Job, Op, Move, Dualcast}
-use Rattle.dml_types.specs.Memory.{first, Memory, bytes_at, has_all, offset_in}
+use Rattle.dml_types.specs.Types.{Job, Op, NoOp, Move, CreateDelta, ApplyDelta, Dualcast}
+use Rattle.dml_types.specs.Memory.{first, Memory, bytes_at, has_all, worked_offset}
 use Rattle.dml_types.specs.Effect.{code_of, Fault, is_clear, first_fault}
-use Rattle.dml_types.specs.Bytewise.{direction_by, done_from, faults_at, passes}
-use Rattle.dml_types.specs.Delta.{readable_blocks, differing, entry_for, block_fault, offset_at, entry_fault, good_entries}
+use Rattle.dml_types.specs.Bytewise.{operation_direction, lowest_done, faults_at, passes}
+use Rattle.dml_types.specs.Delta.{readable_blocks, differing, block_entry, block_fault, entry_offset, entry_fault, good_entries}
+
+-- how many offsets a scan goes over: a no-op has none
+abbrev pub scan_size : Op → Job → ℕ
+scan_size NoOp job = 0
+scan_size _ job = job.size
+
+-- how many offsets, blocks of a create or entries of an apply there are
+abbrev pub units : Op → Job → ℕ
+units CreateDelta job = job.size / 8
+units ApplyDelta job = job.delta_size / 10
+units op job = scan_size op job
 
 -- Scans: move, fill, dualcast and both compares, by offsets.
 -- the offset that comes i-th in the order of work
 abbrev pub scan_offset : Op → Job → ℕ → ℕ → ℕ → ℕ
-scan_offset op job from to i = from + offset_in (direction_by op job) (to - from) i
+scan_offset op job from to i = from + worked_offset (operation_direction op job) (to - from) i
 
 -- how many offsets come before the first that does not pass
 abbrev pub scan_done : Op → Memory → Job → ℕ → ℕ → ℕ
@@ -36,7 +47,7 @@ scan_found op memory job from to =
 unfoldable pub scan_staged : Op → Memory → Job → ℕ → ℕ → List ℕ
 scan_staged Move memory job from to =
     let done = scan_done Move memory job from to in
-    bytes_at memory (job.source + (from + done_from (direction_by Move job) (to - from) done)) done
+    bytes_at memory (job.source + (from + lowest_done (operation_direction Move job) (to - from) done)) done
 scan_staged Dualcast memory job from to =
     bytes_at memory (job.source + from) (scan_done Dualcast memory job from to)
 scan_staged _ memory job from to = []
@@ -44,7 +55,7 @@ scan_staged _ memory job from to = []
 -- Create, by blocks: the entries of those that differ before the first that is not readable, and the fault of
 -- that one.
 unfoldable pub create_staged : Memory → Job → ℕ → ℕ → List ℕ
-create_staged memory job from to = flat_map (entry_for memory job) (differing memory job from to)
+create_staged memory job from to = flat_map (block_entry memory job) (differing memory job from to)
 
 unfoldable pub create_fault : Memory → Job → ℕ → ℕ → Option (ℕ × ℕ)
 create_fault memory job from to =
@@ -66,9 +77,9 @@ apply_bad memory job from to =
 unfoldable pub apply_first : Memory → Job → ℕ → ℕ → Option ℕ
 apply_first memory job from to =
     if not (from == to) && has_all memory (job.source + 10 * from) 10
-    then Some (offset_at memory job from) else None
+    then Some (entry_offset memory job from) else None
 
 unfoldable pub apply_last : Memory → Job → ℕ → ℕ → Option ℕ
 apply_last memory job from to =
     let done = good_entries memory job from to in
-    if done == 0 then None else Some (offset_at memory job (from + done - 1))
+    if done == 0 then None else Some (entry_offset memory job (from + done - 1))

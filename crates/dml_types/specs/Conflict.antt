@@ -1,7 +1,7 @@
 -- Which jobs of a list have to wait for earlier ones.
-use Rattle.std.specs.Prelude.{fold, unwrap_or, option_map, ℕ, zero, suc, ◌+◌, max, Bool, ◌||◌, List, [], ◌∷◌, ◌++◌, length, map, filter, slice_index, slice_index_or}
-use Rattle.dml_types.specs.Types.{Job, Op, Span, range_with_len}
-use Rattle.dml_types.specs.Job.{op_of, no_op_job, any_shares, reads, writes}
+use Rattle.std.specs.Prelude.{fold, unwrap_or, option_map, ℕ, zero, suc, ◌+◌, max, Bool, ◌||◌, List, [], ◌∷◌, ◌++◌, length, map, filter, slice_index, slice_index_or, slice_range}
+use Rattle.dml_types.specs.Types.{Job, Op, Span, list_any, range_with_len}
+use Rattle.dml_types.specs.Job.{op_of, is_fenced, no_op_job, any_shares, reads, writes}
 
 -- the ranges that a job reads, or writes, by its descriptor alone
 abbrev pub ranges_of : (Op → Job → List Span) → Job → List Span
@@ -32,3 +32,10 @@ levels_of clash (suc n) = levels_of clash n ++ level_over clash (levels_of clash
 -- the levels of a list's jobs: those clash that conflict
 abbrev pub levels : List Job → List ℕ
 levels jobs = levels_of (clash_of jobs) (length jobs)
+
+-- in a batch the jobs at two places also clash where one behind the first, up to the second, is fenced
+abbrev pub fenced_clash : List Job → ℕ → ℕ → Bool
+fenced_clash jobs i k = clash_of jobs i k || list_any is_fenced (slice_range jobs (i + 1) (k + 1))
+
+abbrev pub fenced_levels : List Job → List ℕ
+fenced_levels jobs = levels_of (fenced_clash jobs) (length jobs)

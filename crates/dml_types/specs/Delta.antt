@@ -1,6 +1,6 @@
 -- Create and apply. A delta record's entry: a block's number (the entry's offset) in 2 bytes, low byte first,
 -- and the block's 8.
-use Rattle.std.specs.Prelude.{ℕ, ◌+◌, ◌-◌, ◌*◌, ◌/◌, ◌%◌, ◌^◌, Bool, not, ◌&&◌, List, [], ◌∷◌, ◌++◌, map, length, take, filter, flat_map, find, Option, None, Some, is_some, option_map, if◌then◌else◌, ◌==◌, nat_lt, nat_le, slice_index, bytes_eq}
+use Rattle.std.specs.Prelude.{ℕ, ◌+◌, ◌-◌, ◌*◌, ◌/◌, ◌%◌, ◌^◌, Bool, not, ◌&&◌, List, [], ◌∷◌, ◌++◌, map, length, take, filter, flat_map, find, Option, None, Some, is_some, option_map, if◌then◌else◌, ◌==◌, nat_lt, nat_le, slice_index, slice_range, bytes_eq}
 use Rattle.dml_types.specs.Types.{Job, Record, Success, NotRising, OffsetRange, range_with_len, from_le_bytes, to_le_bytes, w16}
 use Rattle.dml_types.specs.Memory.{first, Memory, Put, put_of, present_bytes, has_all, bytes_at}
 use Rattle.dml_types.specs.Effect.{Effect, effect_of, Fault, read_fault, write_fault, ended, faulted, judged}
@@ -12,15 +12,15 @@ first_absent memory address n = address + present_bytes memory address n
 abbrev pub has_block : Memory → ℕ → ℕ → Bool
 has_block memory address b = has_all memory (address + 8 * b) 8
 
-abbrev pub block_at : Memory → ℕ → ℕ → List ℕ
-block_at memory address b = bytes_at memory (address + 8 * b) 8
+abbrev pub block_bytes : Memory → ℕ → ℕ → List ℕ
+block_bytes memory address b = bytes_at memory (address + 8 * b) 8
 
 -- Create. A block with all its bytes in both sources, and one whose two contents differ
 abbrev pub is_readable : Memory → Job → ℕ → Bool
 is_readable memory job b = has_block memory job.source b && has_block memory job.target b
 
 abbrev pub differs : Memory → Job → ℕ → Bool
-differs memory job b = not (bytes_eq (block_at memory job.source b) (block_at memory job.target b))
+differs memory job b = not (bytes_eq (block_bytes memory job.source b) (block_bytes memory job.target b))
 
 -- how many of the blocks that are at least `from` and below `to` come before the first that is not readable
 abbrev pub readable_blocks : Memory → Job → ℕ → ℕ → ℕ
@@ -36,8 +36,8 @@ differing memory job from to =
 abbrev pub entry_room : Memory → Job → ℕ
 entry_room memory job = first (job.delta_size / 10) (λ x. not (has_all memory (job.extra + 10 * x) 10))
 
-abbrev pub entry_for : Memory → Job → ℕ → List ℕ
-entry_for memory job b = to_le_bytes w16 b ++ block_at memory job.target b
+abbrev pub block_entry : Memory → Job → ℕ → List ℕ
+block_entry memory job b = to_le_bytes w16 b ++ block_bytes memory job.target b
 
 -- bit r of the mask says that result r is expected
 abbrev pub expects : Job → ℕ → Bool
@@ -68,23 +68,27 @@ unfoldable pub created : Memory → Job → Effect
 created memory job =
     let blocks = differing memory job 0 (job.size / 8) in
     let room = entry_room memory job in
-    effect_of (put_of job.extra (flat_map (entry_for memory job) (take room blocks)) ∷ [])
+    effect_of (put_of job.extra (flat_map (block_entry memory job) (take room blocks)) ∷ [])
     (if nat_lt room (length blocks) then crowded memory job room (slice_index blocks room)
     else written_out memory job (length blocks))
 
+-- The number of the block that entry i of a list of whole entries is for
+abbrev pub block_number : List ℕ → ℕ → ℕ
+block_number entries i = from_le_bytes w16 (slice_range entries (10 * i) (10 * i + 2))
+
 -- Apply. The offset of entry x
-abbrev pub offset_at : Memory → Job → ℕ → ℕ
-offset_at memory job x = from_le_bytes w16 (bytes_at memory (job.source + 10 * x) 2)
+abbrev pub entry_offset : Memory → Job → ℕ → ℕ
+entry_offset memory job x = from_le_bytes w16 (bytes_at memory (job.source + 10 * x) 2)
 
 -- the fault for which entry x is bad: of the causes, in order, the first that holds. The offsets of the
 -- entries after the one named `behind` have to rise: a whole job says 0, a chunk its first entry
 abbrev pub entry_fault : ℕ → Memory → Job → ℕ → Option Fault
 entry_fault behind memory job x =
-    let offset = offset_at memory job x in
+    let offset = entry_offset memory job x in
     let causes : List (Bool × Fault) =
     (not (has_all memory (job.source + 10 * x) 10), read_fault (first_absent memory (job.source + 10 * x) 10))
     ∷ (
-      nat_lt behind x && nat_le offset (offset_at memory job (x - 1)),
+      nat_lt behind x && nat_le offset (entry_offset memory job (x - 1)),
       record { status = NotRising; address = 0 },
     )
     ∷ (nat_le (job.size / 8) offset, record { status = OffsetRange; address = 0 })
@@ -100,7 +104,7 @@ good_entries memory job from to = first (to - from) (λ i. is_some (entry_fault 
 
 abbrev pub entry_put : Memory → Job → ℕ → Put
 entry_put memory job x =
-    put_of (job.target + 8 * offset_at memory job x) (bytes_at memory (job.source + 10 * x + 2) 8)
+    put_of (job.target + 8 * entry_offset memory job x) (bytes_at memory (job.source + 10 * x + 2) 8)
 
 abbrev pub apply_answer : ℕ → Option Fault → Record
 apply_answer x None = ended Success 0 (10 * x) 0

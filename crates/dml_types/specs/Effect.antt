@@ -1,10 +1,11 @@
 -- The statuses' codes, and what a job does, found on the image as it stood before: its puts and its record.
 use Rattle.std.specs.Prelude.{ℕ, Bool, not, ◌||◌, List, [], ◌∷◌, Option, find, unwrap_or, if◌then◌else◌, ◌==◌, nat_eq, bit_and}
-use Rattle.dml_types.specs.Types.{Job, Record, Status, Success, FalsePredicate, ReadFault, BatchFailed, NotRising, OffsetRange, BadOpcode, BadFlags, BadSize, BadDeltaSize, Overlap, DualcastBits, Misaligned, RangePast, StagingRefused, WriteFault, list_all}
+use Rattle.dml_types.specs.Types.{Job, Record, Status, Abandoned, Success, FalsePredicate, ReadFault, BatchFailed, NotRising, OffsetRange, BadOpcode, BadFlags, BadSize, BadDeltaSize, Overlap, DualcastBits, Misaligned, RangePast, StagingRefused, WriteFault, list_all}
 use Rattle.dml_types.specs.Memory.{Memory, Put, has}
 
 -- the statuses' codes in a completion record
 abbrev pub code_of : Status → ℕ
+code_of Abandoned = 0x00
 code_of Success = 0x01
 code_of FalsePredicate = 0x02
 code_of ReadFault = 0x03
@@ -26,8 +27,8 @@ code_of WriteFault = 0x83
 abbrev pub status_with : ℕ → Option Status
 status_with code =
     find (λ status. nat_eq code (code_of status))
-    (Success ∷ FalsePredicate ∷ ReadFault ∷ BatchFailed ∷ NotRising ∷ OffsetRange ∷ BadOpcode ∷ BadFlags
-    ∷ BadSize ∷ BadDeltaSize ∷ Overlap ∷ DualcastBits ∷ Misaligned ∷ RangePast ∷ StagingRefused
+    (Abandoned ∷ Success ∷ FalsePredicate ∷ ReadFault ∷ BatchFailed ∷ NotRising ∷ OffsetRange ∷ BadOpcode
+    ∷ BadFlags ∷ BadSize ∷ BadDeltaSize ∷ Overlap ∷ DualcastBits ∷ Misaligned ∷ RangePast ∷ StagingRefused
     ∷ WriteFault ∷ [])
 
 pub record Effect : Type 0 where

@@ -36,14 +36,14 @@ pub record IsMemory (memory : Memory) : Type 0 where
   pub absent : (address : ℕ) → has memory address ≡ false → slice_index memory.bytes address ≡ 0
 
 -- the offset that comes i-th where n offsets are worked on in a direction
-abbrev pub offset_in : Direction → ℕ → ℕ → ℕ
-offset_in Forward n i = i
-offset_in Backward n i = n - 1 - i
+abbrev pub worked_offset : Direction → ℕ → ℕ → ℕ
+worked_offset Forward n i = i
+worked_offset Backward n i = n - 1 - i
 
 -- how many of n bytes come before the first absent one
 abbrev pub present_toward : Direction → Memory → ℕ → ℕ → ℕ
 present_toward direction memory address n =
-    first n (λ i. not (has memory (address + offset_in direction n i)))
+    first n (λ i. not (has memory (address + worked_offset direction n i)))
 
 abbrev pub present_bytes : Memory → ℕ → ℕ → ℕ
 present_bytes memory address n = first n (λ i. not (has memory (address + i)))

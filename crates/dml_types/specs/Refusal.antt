@@ -4,16 +4,16 @@ use Rattle.dml_types.specs.Types.{Job, Op, NoOp, Move, CreateDelta, ApplyDelta, 
 use Rattle.dml_types.specs.Job.{op_of, accepted_flags, span, shares, any_shares, is_past, reads, writes}
 
 -- the staging that a job needs
-abbrev pub need_of : Op → Job → ℕ
-need_of Move job = job.size
-need_of CreateDelta job = 10 * (job.size / 8)
-need_of ApplyDelta job = job.delta_size
-need_of Dualcast job = job.size
-need_of _ job = 0
+abbrev pub operation_need : Op → Job → ℕ
+operation_need Move job = job.size
+operation_need CreateDelta job = 10 * (job.size / 8)
+operation_need ApplyDelta job = job.delta_size
+operation_need Dualcast job = job.size
+operation_need _ job = 0
 
 -- a job with an unsupported opcode needs none
 abbrev pub need : Job → ℕ
-need job = unwrap_or (option_map (λ op. need_of op job) (op_of job)) 0
+need job = unwrap_or (option_map (λ op. operation_need op job) (op_of job)) 0
 
 -- a flag bit that is not accepted is set
 abbrev pub has_bad_flags : Job → Bool
@@ -59,7 +59,7 @@ rules_of op job staging =
     (has_bad_flags job, BadFlags) ∷ (has_bad_size op job, BadSize) ∷ (has_bad_delta_size op job, BadDeltaSize)
     ∷ (is_misaligned op job, Misaligned) ∷ (has_dualcast_bits op job, DualcastBits)
     ∷ (has_overlap op job, Overlap) ∷ (has_range_past op job, RangePast)
-    ∷ (nat_lt staging (need_of op job), StagingRefused) ∷ []
+    ∷ (nat_lt staging (operation_need op job), StagingRefused) ∷ []
 
 abbrev pub first_broken : List (Bool × Status) → Option Status
 first_broken rules = option_map (λ rule. rule.1) (find (λ rule. rule.0) rules)

@@ -1,30 +1,30 @@
 -- A job's step on an image, the fold of a list of jobs, one after another, and the job that is left after a
 -- page fault.
-use Rattle.std.specs.Prelude.{ℕ, ◌+◌, ◌-◌, ◌*◌, ◌%◌, ◌^◌, ◌&&◌, ◌||◌, List, [], ◌∷◌, ◌++◌, length, Option, None, Some, option_and_then, if◌then◌else◌, ◌==◌, nat_eq, nat_lt}
-use Rattle.dml_types.specs.Types.{Job, Record, Op, NoOp, Move, Fill, Compare, ComparePattern, CreateDelta, ApplyDelta, Dualcast, Status, BadOpcode, BatchRecord, Success, BatchFailed, list_all, rotate_right, w64}
-use Rattle.dml_types.specs.Job.{op_of, reads, writes}
-use Rattle.dml_types.specs.Memory.{Memory, puts_made}
+use Rattle.std.specs.Prelude.{ℕ, ◌+◌, ◌-◌, ◌*◌, ◌%◌, ◌^◌, Bool, not, ◌&&◌, ◌||◌, List, [], ◌∷◌, ◌++◌, length, map, take, replicate, slice_index_or, Option, None, Some, option_and_then, if◌then◌else◌, ◌==◌, nat_eq, nat_lt}
+use Rattle.dml_types.specs.Types.{Job, Record, Op, NoOp, Move, Fill, Compare, ComparePattern, CreateDelta, ApplyDelta, Dualcast, Status, BadOpcode, BatchRecord, Abandoned, Success, BatchFailed, list_all, rotate_right, w64}
+use Rattle.dml_types.specs.Job.{op_of, is_fenced, unfenced, no_op_job, reads, writes}
+use Rattle.dml_types.specs.Memory.{Memory, first, puts_made}
 use Rattle.dml_types.specs.Refusal.{refusal}
 use Rattle.dml_types.specs.Effect.{code_of, Effect, effect_of, ended, refused}
 use Rattle.dml_types.specs.Bytewise.{moved, dualcast, filled, compared}
 use Rattle.dml_types.specs.Delta.{created, applied}
 
 -- what an operation does that is not refused
-abbrev pub effect_by : Op → Memory → Job → Effect
-effect_by NoOp memory job = effect_of [] (ended Success 0 0 0)
-effect_by Move memory job = moved memory job
-effect_by Fill memory job = filled memory job
-effect_by Compare memory job = compared Compare memory job
-effect_by ComparePattern memory job = compared ComparePattern memory job
-effect_by CreateDelta memory job = created memory job
-effect_by ApplyDelta memory job = applied memory job
-effect_by Dualcast memory job = dualcast memory job
+abbrev pub operation_effect : Op → Memory → Job → Effect
+operation_effect NoOp memory job = effect_of [] (ended Success 0 0 0)
+operation_effect Move memory job = moved memory job
+operation_effect Fill memory job = filled memory job
+operation_effect Compare memory job = compared Compare memory job
+operation_effect ComparePattern memory job = compared ComparePattern memory job
+operation_effect CreateDelta memory job = created memory job
+operation_effect ApplyDelta memory job = applied memory job
+operation_effect Dualcast memory job = dualcast memory job
 
 -- a job without an operation is always refused; the second line is there for totality alone
 abbrev pub effect_unless : Option Status → Option Op → Memory → Job → Effect
 effect_unless (Some status) op memory job = refused status
 effect_unless None None memory job = refused BadOpcode
-effect_unless None (Some op) memory job = effect_by op memory job
+effect_unless None (Some op) memory job = operation_effect op memory job
 
 unfoldable pub effect : Memory → Job → ℕ → Effect
 effect memory job staging = effect_unless (refusal job staging) (op_of job) memory job
@@ -43,19 +43,35 @@ records_of memory [] staging = []
 records_of memory (job ∷ jobs) staging =
     (step memory job staging).1 ∷ records_of (step memory job staging).0 jobs staging
 
--- a batch is the fold of its jobs, with a record: success where each job has it; the jobs are counted,
--- refused ones included
+-- each of these has status 0x01
+abbrev pub have_succeeded : List Record → Bool
+have_succeeded records = list_all (λ r. nat_eq (code_of r.status) 0x01) records
+
+-- whether a batch ends before the job at a place: it is fenced, and an earlier one has another status
+abbrev pub ends_before : List Job → List Record → ℕ → Bool
+ends_before jobs records i = is_fenced (slice_index_or jobs i no_op_job) && not (have_succeeded (take i records))
+
+-- the jobs of a batch that are carried out, without their fences: those before the first place where it ends
+abbrev pub batch_jobs : Memory → List Job → ℕ → List Job
+batch_jobs memory jobs staging =
+    let free = map unfenced jobs in
+    take (first (length jobs) (ends_before jobs (records_of memory free staging))) free
+
+-- the record of a batch: success where each job has it; the jobs are counted, refused ones included
 abbrev pub batch_answer : List Record → BatchRecord
 batch_answer records =
     record {
-      status = if list_all (λ r. nat_eq (code_of r.status) 0x01) records then Success else BatchFailed;
+      status = if have_succeeded records then Success else BatchFailed;
       completed = length records;
     }
 
+-- a batch is the fold of the jobs that are carried out; the records of all others, which are abandoned, are zeros
 abbrev pub batch : Memory → List Job → ℕ → Memory × BatchRecord × List Record
 batch memory jobs staging =
-    let records = records_of memory jobs staging in
-    (memory_after memory jobs staging, batch_answer records, records)
+    let done = batch_jobs memory jobs staging in
+    let records = records_of memory done staging in
+    let zeros = replicate (length jobs - length done) (ended Abandoned 0 0 0) in
+    (memory_after memory done staging, batch_answer records, records ++ zeros)
 
 -- a pattern whose byte k mod 8 comes first
 abbrev pub turned : ℕ → ℕ → ℕ
@@ -82,17 +98,17 @@ without_front Dualcast job k =
 without_front _ job k = None
 
 -- that job, where each of its addresses still fits 64 bits
-abbrev pub rest_behind : Op → Job → ℕ → Option Job
-rest_behind op job k =
+abbrev pub fitting_rest : Op → Job → ℕ → Option Job
+fitting_rest op job k =
     if list_all (λ range. nat_lt (range.start + k) (2 ^ 64)) (reads op job ++ writes op job)
     then without_front op job k else None
 
 -- a move with result 1 went backward: what is left is its front
-abbrev pub rest_by : Op → Job → Record → Option Job
-rest_by Move job outcome =
+abbrev pub operation_rest : Op → Job → Record → Option Job
+operation_rest Move job outcome =
     if outcome.result == 1 then Some (record job { size = job.size - outcome.completed })
-    else rest_behind Move job outcome.completed
-rest_by op job outcome = rest_behind op job outcome.completed
+    else fitting_rest Move job outcome.completed
+operation_rest op job outcome = fitting_rest op job outcome.completed
 
 -- the job that is left after a record: some only after a page fault, a read's (0x03) or a write's (0x83),
 -- that left bytes
@@ -100,4 +116,4 @@ abbrev pub rest : Job → Record → Option Job
 rest job outcome =
     let code = code_of outcome.status in
     if (code == 0x03 || code == 0x83) && nat_lt outcome.completed job.size
-    then option_and_then (λ op. rest_by op job outcome) (op_of job) else None
+    then option_and_then (λ op. operation_rest op job outcome) (op_of job) else None

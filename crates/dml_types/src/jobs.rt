@@ -1,4 +1,4 @@
-ghost use Rattle.std.specs.Prelude.{◌≡◌};
+ghost use Rattle.std.specs.Prelude.{◌≡◌, false};
 ghost use Rattle.std.specs.Int.RustNames.{bit_or};
 ghost use Rattle.dml_types.specs.Job as table;
 
@@ -154,6 +154,25 @@ impl Job {
         Job {
             flags: self.flags | JobFlags::CHECK_RESULT.bits(),
             expected,
+            ..self
+        }
+    }
+
+    /// Whether it has the fence.
+    pub fn is_fenced(&self) -> bool
+        ensures { result ≡ table.is_fenced self.now }
+    {
+        self.flags & JobFlags::FENCE.bits() == JobFlags::FENCE.bits()
+    }
+
+    /// The same job with the fence's bit cleared.
+    #[tactic(auto, using(crate::proofs::FenceLemmas::unfenced_same))]
+    pub fn unfenced(self) -> Job
+        ensures job { result ≡ table.unfenced self }
+        ensures same { table.is_fenced self ≡ false → result ≡ self }
+    {
+        Job {
+            flags: self.flags & !JobFlags::FENCE.bits(),
             ..self
         }
     }

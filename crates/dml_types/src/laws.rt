@@ -1,13 +1,13 @@
 //! What the definitions mean, as laws of theirs: each is the contract of a function that does nothing.
 
-ghost use Rattle.std.specs.Prelude.{◌≡◌, ℕ, ◌+◌, ◌<◌, ◌≤◌, ◌⊎◌, Bool, true, false, List, [], ◌∷◌, ◌++◌, length, Option, Some, None};
-ghost use Rattle.dml_types.specs.Types.{Job, Status, NoOp, Move};
-ghost use Rattle.dml_types.specs.Job.{op_of};
+ghost use Rattle.std.specs.Prelude.{map, ◌≡◌, ℕ, ◌+◌, ◌<◌, ◌≤◌, ◌⊎◌, Bool, true, false, List, [], ◌∷◌, ◌++◌, length, Option, Some, None};
+ghost use Rattle.dml_types.specs.Types.{Job, Status, NoOp, Move, list_any};
+ghost use Rattle.dml_types.specs.Job.{is_fenced, op_of, unfenced};
 ghost use Rattle.dml_types.specs.Memory.{first, Memory, IsWhole, at_home, bytes_at, put};
 ghost use Rattle.dml_types.specs.Refusal.{refusal};
 ghost use Rattle.dml_types.specs.Effect.{ended};
-ghost use Rattle.dml_types.specs.Bytewise.{direction_by, done_from, length_of};
-ghost use Rattle.dml_types.specs.Step.{step, memory_after, records_of};
+ghost use Rattle.dml_types.specs.Bytewise.{operation_direction, lowest_done, length_of};
+ghost use Rattle.dml_types.specs.Step.{batch, batch_answer, step, memory_after, records_of};
 
 /// The first index: none before it passes, it passes where it is within the range, and in a range cut in two it is
 /// that of the front where it lies there, else that of the back.
@@ -69,14 +69,22 @@ pub fn law_of_folds()
     ensures presence { (memory : Memory) (jobs : List Job) (staging : ℕ) → (memory_after memory jobs staging).present ≡ memory.present }
 {}
 
+/// Batches: without fences one is the fold of its jobs, and there is a record for each job.
+pub fn law_of_batches()
+    ensures without_fences { (memory : Memory) (jobs : List Job) (staging : ℕ) → list_any is_fenced jobs ≡ false → map unfenced jobs ≡ jobs →
+        batch memory jobs staging
+        ≡ (memory_after memory jobs staging, batch_answer (records_of memory jobs staging), records_of memory jobs staging) }
+    ensures as_many { (memory : Memory) (jobs : List Job) (staging : ℕ) → length (batch memory jobs staging).2 ≡ length jobs }
+{}
+
 /// Moves: the part of the destination that was done holds the source as it stood before the job, whatever was
 /// overwritten on the way, and all else is as before.
 pub fn law_of_moves()
     ensures source_as_it_stood { (memory : Memory) (job : Job) (staging : ℕ) → IsWhole memory → op_of job ≡ Some Move → refusal job staging ≡ None →
-        let k = length_of Move memory job in let from = done_from (direction_by Move job) job.size k in
+        let k = length_of Move memory job in let from = lowest_done (operation_direction Move job) job.size k in
         bytes_at (step memory job staging).0 (job.target + from) k ≡ bytes_at memory (job.source + from) k }
     ensures beside { (memory : Memory) (job : Job) (staging address n : ℕ) → IsWhole memory → op_of job ≡ Some Move → refusal job staging ≡ None →
-        let k = length_of Move memory job in let from = done_from (direction_by Move job) job.size k in
+        let k = length_of Move memory job in let from = lowest_done (operation_direction Move job) job.size k in
         (address + n ≤ job.target + from) ⊎ (job.target + from + k ≤ address) →
         bytes_at (step memory job staging).0 address n ≡ bytes_at memory address n }
 {}

@@ -4,6 +4,7 @@
 //! what a job does; the contracts of every crate above cite them.
 #![tactic(auto)]
 
+mod entries;
 mod findings;
 mod flags;
 mod jobs;
@@ -14,10 +15,14 @@ mod records;
 mod spans;
 mod statuses;
 
+pub use entries::{ENTRY, block_number};
 pub use findings::Found;
 pub use flags::JobFlags;
 pub use jobs::Job;
-pub use laws::{law_of_first, law_of_folds, law_of_homes, law_of_moves, law_of_puts, law_of_steps};
+pub use laws::{
+    law_of_batches, law_of_first, law_of_folds, law_of_homes, law_of_moves, law_of_puts,
+    law_of_steps,
+};
 pub use limits::Settings;
 pub use operations::{Direction, Op};
 pub use records::{BatchRecord, Record};

@@ -44,6 +44,6 @@ impl Record {
 #[derive(Clone, Copy, PartialEq, Eq, Debug)]
 pub struct BatchRecord {
     pub status: Status,
-    /// The jobs carried out, refused ones included.
+    /// The jobs carried out, refused ones included; abandoned ones are not.
     pub completed: u32,
 }

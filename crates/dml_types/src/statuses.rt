@@ -4,6 +4,8 @@ ghost use Rattle.dml_types.specs.Effect.{code_of, status_with};
 /// The status of a completion record. The codes are those of `linux/idxd.h`; 0x7d and 0x7e are this software's own.
 #[derive(Clone, Copy, PartialEq, Eq, Debug)]
 pub enum Status {
+    /// 0x00: the job of a batch was abandoned at a fence.
+    Abandoned,
     /// 0x01: done.
     Success,
     /// 0x02: done, and the result is not the expected one.
@@ -44,6 +46,7 @@ impl Status {
         ensures { result ≡ code_of self }
     {
         match self {
+            Status::Abandoned => 0x00,
             Status::Success => 0x01,
             Status::FalsePredicate => 0x02,
             Status::ReadFault => 0x03,
@@ -68,6 +71,7 @@ impl Status {
         ensures { result ≡ status_with code }
     {
         Some(match code {
+            0x00 => Status::Abandoned,
             0x01 => Status::Success,
             0x02 => Status::FalsePredicate,
             0x03 => Status::ReadFault,

@@ -1,7 +1,8 @@
 use crate::{JobFlags, Record, Settings, Status};
 use bitflags::Flags;
 
-static CODES: [(u8, Status); 16] = [
+static CODES: [(u8, Status); 17] = [
+    (0x00, Status::Abandoned),
     (0x01, Status::Success),
     (0x02, Status::FalsePredicate),
     (0x03, Status::ReadFault),
@@ -65,24 +66,30 @@ fn bits_of_flags(rt: HostRuntime) {
     }
 }
 
-#[test]
-fn limits_of_settings(rt: HostRuntime) {
-    let valid = |staging, chunk, workers| {
-        Settings {
-            staging,
-            chunk,
-            workers,
-        }
-        .is_valid()
+/// Whether settings of these values are valid.
+fn are_valid(staging: u32, chunk: u32, workers: u32) -> bool {
+    let settings = Settings {
+        staging,
+        chunk,
+        workers,
     };
+    settings.is_valid()
+}
+
+#[test]
+fn limits_of_staging(rt: HostRuntime) {
     for (value, is_within) in [
         (0, true),
         (16_777_216, true),
         (16_777_217, false),
         (u32::MAX, false),
     ] {
-        assert_eq!(rt; valid(value, 8, 1), is_within, "staging {value}");
+        assert_eq!(rt; are_valid(value, 8, 1), is_within, "staging {value}");
     }
+}
+
+#[test]
+fn limits_of_chunks(rt: HostRuntime) {
     for (value, is_within) in [
         (0, false),
         (7, false),
@@ -95,8 +102,12 @@ fn limits_of_settings(rt: HostRuntime) {
         (1_048_584, false),
         (u32::MAX, false),
     ] {
-        assert_eq!(rt; valid(0, value, 1), is_within, "chunk {value}");
+        assert_eq!(rt; are_valid(0, value, 1), is_within, "chunk {value}");
     }
+}
+
+#[test]
+fn limits_of_workers(rt: HostRuntime) {
     for (value, is_within) in [
         (0, false),
         (1, true),
@@ -104,6 +115,6 @@ fn limits_of_settings(rt: HostRuntime) {
         (17, false),
         (u32::MAX, false),
     ] {
-        assert_eq!(rt; valid(0, 8, value), is_within, "workers {value}");
+        assert_eq!(rt; are_valid(0, 8, value), is_within, "workers {value}");
     }
 }

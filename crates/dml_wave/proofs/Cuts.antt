@@ -11,7 +11,7 @@ use Rattle.std.specs.Int.{div_ceil}
 use Rattle.dml_types.specs.declared.jobs.Job.{Job}
 use Rattle.dml_types.specs.declared.operations.Op.{Op}
 use Rattle.dml_types.specs.declared.operations.Op.TheVariants.{NoOp, Move, Fill, Compare, ComparePattern, CreateDelta, ApplyDelta, Dualcast}
-use Rattle.dml_types.specs.Refusal.{need, need_of}
+use Rattle.dml_types.specs.Refusal.{need, operation_need}
 use Rattle.dml_desc.specs.Checked.{KeepsRules, operation_of}
 use Rattle.dml_arena.specs.Piece.{Piece}
 use Rattle.dml_effect.specs.Chunks.{AreChunksFrom}
@@ -89,7 +89,7 @@ room_none CreateDelta = refl
 room_none ApplyDelta = refl
 room_none Dualcast = refl
 
-room_within : (op : Op) (job : Job) → room_for op (units op job) ≤ need_of op job
+room_within : (op : Op) (job : Job) → room_for op (units op job) ≤ operation_need op job
 room_within NoOp job = omega arith
 room_within Move job = omega arith
 room_within Fill job = omega arith
@@ -99,8 +99,8 @@ room_within CreateDelta job = omega arith
 room_within ApplyDelta job = omega arith
 room_within Dualcast job = omega arith
 
-pub need_at : (op : Op) (job : Job) → KeepsRules op job → need job ≡ need_of op job
-need_at op job rules = ap (λ o. unwrap_or (option_map (λ p. need_of p job) o) 0) rules.operation
+pub need_at : (op : Op) (job : Job) → KeepsRules op job → need job ≡ operation_need op job
+need_at op job rules = ap (λ o. unwrap_or (option_map (λ p. operation_need p job) o) 0) rules.operation
 
 pub count_at : (op : Op) (job : Job) (chunk : ℕ) → KeepsRules op job → task_count job chunk ≡ task_count_by op job chunk
 count_at op job chunk rules = ap (λ o. unwrap_or (option_map (λ p. task_count_by p job chunk) o) 0) rules.operation

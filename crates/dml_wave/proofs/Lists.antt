@@ -9,11 +9,11 @@ use Rattle.dml_levels.specs.Tasks.{task_count}
 use Rattle.dml_levels.specs.Waves.{job_at, needs_of, tasks_of}
 use Rattle.dml_pool.specs.declared.tasks.Task.{Task}
 use Rattle.dml_pool.specs.Tasks.{IsRunnable}
-use Rattle.dml_wave.specs.Tasks.{AreTasks, AreTasksOf, AddsTasks}
+use Rattle.dml_wave.specs.Tasks.{AreWaveTasks, AreJobTasks, AddsTasks}
 
-pub tasks_pushed : (jobs : List Job) (chunk : ℕ) (places : List ℕ) (i : ℕ) (tasks mine : List Task) → AreTasks jobs chunk places tasks
-    → length mine ≡ task_count (job_at jobs i) chunk → AreTasksOf (job_at jobs i) mine
-    → AreTasks jobs chunk (places ++ i ∷ []) (tasks ++ mine)
+pub tasks_pushed : (jobs : List Job) (chunk : ℕ) (places : List ℕ) (i : ℕ) (tasks mine : List Task) → AreWaveTasks jobs chunk places tasks
+    → length mine ≡ task_count (job_at jobs i) chunk → AreJobTasks (job_at jobs i) mine
+    → AreWaveTasks jobs chunk (places ++ i ∷ []) (tasks ++ mine)
 tasks_pushed jobs chunk [] i tasks mine none count chunks =
     (mine, [], ap (λ (list : List Task). list ++ mine) none ∙ sym (append-nil mine), count, chunks, refl)
 tasks_pushed jobs chunk (k ∷ places) i tasks mine are count chunks = (
@@ -26,12 +26,12 @@ tasks_pushed jobs chunk (k ∷ places) i tasks mine are count chunks = (
 )
 
 pub tasks_added : (jobs : List Job) (chunk : ℕ) (wave : List ℕ) (i : ℕ) (old new : List Task) → i < length wave
-    → AreTasks jobs chunk (take i wave) old → AddsTasks (job_at jobs (get_or wave i 0)) chunk old new
-    → AreTasks jobs chunk (take (i + 1) wave) new
+    → AreWaveTasks jobs chunk (take i wave) old → AddsTasks (job_at jobs (get_or wave i 0)) chunk old new
+    → AreWaveTasks jobs chunk (take (i + 1) wave) new
 tasks_added jobs chunk wave i old new below are adds =
     let places = take_more wave i 0 below in
-    subst (λ (front : List ℕ). AreTasks jobs chunk front new) (sym places)
-    (subst (λ (list : List Task). AreTasks jobs chunk (take i wave ++ get_or wave i 0 ∷ []) list) (sym adds.list)
+    subst (λ (front : List ℕ). AreWaveTasks jobs chunk front new) (sym places)
+    (subst (λ (list : List Task). AreWaveTasks jobs chunk (take i wave ++ get_or wave i 0 ∷ []) list) (sym adds.list)
     (tasks_pushed jobs chunk (take i wave) (get_or wave i 0) old adds.mine are adds.count adds.tasks))
 
 pub all_added : (job : Job) (chunk : ℕ) (old new : List Task) → All IsRunnable old → AddsTasks job chunk old new → All IsRunnable new

@@ -25,7 +25,7 @@ use Rattle.dml_effect.specs.Chunks.{FirstIsBehind, AreChunksFrom, IsScanFrom, Is
 use Rattle.dml_pool.specs.declared.tasks.Piece.{Piece}
 use Rattle.dml_pool.specs.declared.tasks.Piece.TheVariants.{Scan, Create, Apply}
 use Rattle.dml_pool.specs.declared.tasks.Task.{Task}
-use Rattle.dml_pool.specs.Tasks.{IsScanned, IsCreated, IsApplied, IsValueBy, units}
+use Rattle.dml_pool.specs.Tasks.{IsScanned, IsCreated, IsApplied, IsOperationValue, units}
 use Rattle.dml_wave.specs.Tasks.{IsTaskFrom}
 use Rattle.dml_wave.specs.Effects.{IsValueIn, HoldJob, scan_in, create_in, apply_in}
 
@@ -70,12 +70,12 @@ module _ {P : Type 0} (memory : Memory) (job : Job) (pick : Option Piece → Opt
 operation_at : (job : Job) (op : Op) → op_of job ≡ Some op → operation_of job ≡ op
 operation_at job op is = ap (λ (o : Option Op). unwrap_or o NoOp) is
 
-value_by : (memory : Memory) (job : Job) (op : Op) (task : Task) (piece : Piece) → op_of job ≡ Some op → task.job ≡ job → IsValueIn memory task (Some piece) → IsValueBy op memory task piece
+value_by : (memory : Memory) (job : Job) (op : Op) (task : Task) (piece : Piece) → op_of job ≡ Some op → task.job ≡ job → IsValueIn memory task (Some piece) → IsOperationValue op memory task piece
 value_by memory job op task piece is of value =
-    subst (λ (o : Op). IsValueBy o memory task piece) (ap operation_of of ∙ operation_at job op is) value
+    subst (λ (o : Op). IsOperationValue o memory task piece) (ap operation_of of ∙ operation_at job op is) value
 
 -- Scans
-scan_held_by : (op : Op) (memory : Memory) (task : Task) (piece : Piece) → op ≢ CreateDelta → op ≢ ApplyDelta → IsValueBy op memory task piece → (scan : ScanPiece) × (scan_in (Some piece) ≡ Some scan) × IsScanned op memory task scan
+scan_held_by : (op : Op) (memory : Memory) (task : Task) (piece : Piece) → op ≢ CreateDelta → op ≢ ApplyDelta → IsOperationValue op memory task piece → (scan : ScanPiece) × (scan_in (Some piece) ≡ Some scan) × IsScanned op memory task scan
 scan_held_by NoOp memory task piece no_create no_apply value = absurd value
 scan_held_by CreateDelta memory task piece no_create no_apply value = absurd (no_create refl)
 scan_held_by ApplyDelta memory task piece no_create no_apply value = absurd (no_apply refl)
@@ -130,7 +130,7 @@ scans_in memory job op slots is no_create no_apply hold =
     (scan_value memory job op) (λ task piece value. value.chunk.1) (λ task piece value. value.place) (units (operation_of job) job) 0 hold.0 slots hold.1 hold.2)
 
 -- Creates
-create_held_by : (memory : Memory) (task : Task) (piece : Piece) → IsValueBy CreateDelta memory task piece → (create : CreatePiece) × (create_in (Some piece) ≡ Some create) × IsCreated memory task create
+create_held_by : (memory : Memory) (task : Task) (piece : Piece) → IsOperationValue CreateDelta memory task piece → (create : CreatePiece) × (create_in (Some piece) ≡ Some create) × IsCreated memory task create
 create_held_by memory task (Scan piece) value = absurd value
 create_held_by memory task (Create piece) value = (piece, refl, value)
 create_held_by memory task (Apply piece) value = absurd value
@@ -160,7 +160,7 @@ creates_in memory job slots is hold =
     (λ task piece value. value.chunk.1) (λ task piece value. value.place) (units (operation_of job) job) 0 hold.0 slots hold.1 hold.2)
 
 -- Applies
-apply_held_by : (memory : Memory) (task : Task) (piece : Piece) → IsValueBy ApplyDelta memory task piece → (apply : ApplyPiece) × (apply_in (Some piece) ≡ Some apply) × IsApplied memory task apply
+apply_held_by : (memory : Memory) (task : Task) (piece : Piece) → IsOperationValue ApplyDelta memory task piece → (apply : ApplyPiece) × (apply_in (Some piece) ≡ Some apply) × IsApplied memory task apply
 apply_held_by memory task (Scan piece) value = absurd value
 apply_held_by memory task (Create piece) value = absurd value
 apply_held_by memory task (Apply piece) value = (piece, refl, value)

@@ -8,11 +8,11 @@ use Rattle.dml_levels.specs.Waves.{job_at}
 use Rattle.dml_pool.specs.declared.tasks.Outcome.{Outcome}
 use Rattle.dml_pool.specs.declared.tasks.Piece.{Piece}
 use Rattle.dml_pool.specs.declared.tasks.Task.{Task}
-use Rattle.dml_pool.specs.Tasks.{IsValueOf}
+use Rattle.dml_pool.specs.Tasks.{IsTaskValue}
 use Rattle.dml_wave.specs.Effects.{HoldWave, IsValueIn}
-use Rattle.dml_wave.specs.Tasks.{AreTasks}
+use Rattle.dml_wave.specs.Tasks.{AreWaveTasks}
 
-pub values_in : (memory : Memory) (tasks : List Task) (outcomes : List Outcome) → AllZip (λ task outcome. IsValueOf memory task outcome.piece) tasks outcomes
+pub values_in : (memory : Memory) (tasks : List Task) (outcomes : List Outcome) → AllZip (λ task outcome. IsTaskValue memory task outcome.piece) tasks outcomes
     → AllZip (IsValueIn memory) tasks (map (λ outcome. Some outcome.piece) outcomes)
 values_in memory [] [] are = tt
 values_in memory [] (o ∷ outcomes) are = absurd are
@@ -40,7 +40,7 @@ module _ {A B : Type 0} (R : A → B → Type 0) where
   none_tied [] all = refl
   none_tied (z ∷ zs) all = absurd all
 
-pub wave_held : (memory : Memory) (jobs : List Job) (chunk : ℕ) (places : List ℕ) (tasks : List Task) (slots : List (Option Piece)) → AreTasks jobs chunk places tasks → AllZip (IsValueIn memory) tasks slots → HoldWave memory jobs chunk places slots
+pub wave_held : (memory : Memory) (jobs : List Job) (chunk : ℕ) (places : List ℕ) (tasks : List Task) (slots : List (Option Piece)) → AreWaveTasks jobs chunk places tasks → AllZip (IsValueIn memory) tasks slots → HoldWave memory jobs chunk places slots
 wave_held memory jobs chunk [] tasks slots none all =
     none_tied (IsValueIn memory) slots (subst (λ (l : List Task). AllZip (IsValueIn memory) l slots) none all)
 wave_held memory jobs chunk (i ∷ places) tasks slots are all =

@@ -2,12 +2,9 @@
 use Rattle.std.specs.Prelude.{◌≡◌, ℕ, ◌≤◌, List, [], ◌∷◌, Option, None, Some, IsTrue, length, take, drop, slice_set}
 use Rattle.std.specs.List.{AllZip}
 use Rattle.dml_types.specs.declared.jobs.Job.{Job}
-use Rattle.dml_types.specs.declared.records.Record.{Record}
 use Rattle.dml_types.specs.Memory.{Memory, puts_made}
 use Rattle.dml_types.specs.Effect.{Effect}
-use Rattle.dml_types.specs.Refusal.{need}
-use Rattle.dml_types.specs.Step.{effect, step}
-use Rattle.dml_desc.specs.Checked.{IsChecked}
+use Rattle.dml_desc.specs.Checked.{checked_effect, checked_step, IsChecked}
 use Rattle.dml_effect.specs.Effects.{are_present, some_puts}
 use Rattle.dml_levels.specs.Laws.{Progress}
 use Rattle.dml_levels.specs.Tasks.{task_count}
@@ -15,21 +12,21 @@ use Rattle.dml_levels.specs.Waves.{job_at}
 use Rattle.dml_pool.specs.declared.tasks.Piece.{Piece}
 use Rattle.dml_pool.specs.declared.tasks.Piece.TheVariants.{Scan, Create, Apply}
 use Rattle.dml_pool.specs.declared.tasks.Task.{Task}
-use Rattle.dml_pool.specs.Tasks.{IsValueOf}
+use Rattle.dml_pool.specs.Tasks.{IsTaskValue}
 use Rattle.dml_scan.specs.declared.scans.ScanPiece.{ScanPiece}
 use Rattle.dml_delta.specs.declared.applies.ApplyPiece.{ApplyPiece}
 use Rattle.dml_delta.specs.declared.creates.CreatePiece.{CreatePiece}
 use Rattle.dml_wave.specs.declared.effects.JobEffect.{JobEffect}
-use Rattle.dml_wave.specs.Tasks.{AreTasksOf}
+use Rattle.dml_wave.specs.Tasks.{AreJobTasks}
 
 -- the slot holds the value of the task
 abbrev pub IsValueIn : Memory → Task → Option Piece → Type 0
 IsValueIn memory task None = ⊥
-IsValueIn memory task (Some piece) = IsValueOf memory task piece
+IsValueIn memory task (Some piece) = IsTaskValue memory task piece
 
 -- the slots hold the values of a job's tasks, in order
 abbrev pub HoldJob : Memory → Job → List (Option Piece) → Type 0
-HoldJob memory job slots = (tasks : List Task) × AreTasksOf job tasks × AllZip (IsValueIn memory) tasks slots
+HoldJob memory job slots = (tasks : List Task) × AreJobTasks job tasks × AllZip (IsValueIn memory) tasks slots
 
 -- those of the jobs at these places, one after another
 abbrev pub HoldWave : Memory → List Job → ℕ → List ℕ → List (Option Piece) → Type 0
@@ -55,18 +52,14 @@ apply_in _ = None
 -- what a job does on an image; its puts lie in pages that are present
 pub record IsEffectOf (memory : Memory) (job : Job) (done : Effect) : Type 0 where
   pub checked : IsChecked job
-  pub answer : done.answer ≡ (step memory job (need job)).1
-  pub puts : done.puts ≡ some_puts (effect memory job (need job)).puts
+  pub answer : done.answer ≡ (checked_step memory job).1
+  pub puts : done.puts ≡ some_puts (checked_effect memory job).puts
   pub present : IsTrue (are_present memory done.puts)
 
 -- that of the job at a place
 pub record IsEffectAt (memory : Memory) (jobs : List Job) (i : ℕ) (done : JobEffect) : Type 0 where
   pub place : done.place ≡ i
   pub effect : IsEffectOf memory (job_at jobs i) done.effect
-
--- an image, and the records so far
-abbrev pub progress : Memory → List Record → Progress
-progress image records = record { image = image; records = records }
 
 -- a job's puts made, and its record written at its place
 abbrev pub committed : Progress → JobEffect → Progress

@@ -24,25 +24,25 @@ pub record IsTaskFrom (job : Job) (from : ℕ) (task : Task) : Type 0 where
   pub order : from ≤ task.to
 
 -- the tasks of a job: all its chunks upwards, each region right behind the one before
-abbrev pub AreTasksOf : Job → List Task → Type 0
-AreTasksOf job tasks =
+abbrev pub AreJobTasks : Job → List Task → Type 0
+AreJobTasks job tasks =
     AreChunksFrom (IsTaskFrom job) (λ task. task.to) (λ task. task.room)
     (units (operation_of job) job) 0 tasks
 
 -- those of the jobs at these places, one after another
-abbrev pub AreTasks : List Job → ℕ → List ℕ → List Task → Type 0
-AreTasks jobs chunk [] tasks = tasks ≡ []
-AreTasks jobs chunk (i ∷ places) tasks =
+abbrev pub AreWaveTasks : List Job → ℕ → List ℕ → List Task → Type 0
+AreWaveTasks jobs chunk [] tasks = tasks ≡ []
+AreWaveTasks jobs chunk (i ∷ places) tasks =
     (mine others : List Task)
     × (tasks ≡ mine ++ others)
     × (length mine ≡ task_count (job_at jobs i) chunk)
-    × AreTasksOf (job_at jobs i) mine
-    × AreTasks jobs chunk places others
+    × AreJobTasks (job_at jobs i) mine
+    × AreWaveTasks jobs chunk places others
 
 -- the tasks of one more job stand behind those of a list
 pub record AddsTasks (job : Job) (chunk : ℕ) (old new : List Task) : Type 0 where
   pub mine : List Task
   pub list : new ≡ old ++ mine
   pub count : length mine ≡ task_count job chunk
-  pub tasks : AreTasksOf job mine
+  pub tasks : AreJobTasks job mine
   pub runnable : All IsRunnable mine

@@ -1,17 +1,17 @@
 //! A wave of jobs, from its tasks to its records.
-ghost use Rattle.std.specs.Prelude.{◌≡◌, ◌<◌, ◌≤◌, length, OnOk, OnErr};
+ghost use Rattle.std.specs.Prelude.{◌≡◌, ◌<◌, ◌≤◌, length, map, OnOk, OnErr};
 ghost use Rattle.std.specs.List.{All};
+ghost use Rattle.dml_types.specs.Job.{unfenced};
 ghost use Rattle.dml_types.specs.Limits.{IsValid};
-ghost use Rattle.dml_levels.specs.Laws.{carried};
+ghost use Rattle.dml_levels.specs.Laws.{begun, carried};
 ghost use Rattle.dml_levels.specs.Waves.{IsSmall};
 ghost use Rattle.dml_order.specs.Order.{run_all};
-ghost use Rattle.dml_wave.specs.Effects.{progress};
 ghost use Rattle.dml_wave.specs.Waves.{AreApart, busy};
 
 use crate::WaveError;
 use crate::committing::commit_all;
 use crate::cutting::cut_tasks;
-use crate::effects::{effects_of, slots_of};
+use crate::effects::{effects_of, piece_slots};
 use dml_arena::Arena;
 use dml_desc::Checked;
 use dml_image::Image;
@@ -34,7 +34,7 @@ impl From<PoolError> for WaveError {
 }
 
 /// Carries out the jobs at a wave's places on at most `workers` threads, this one among them, and writes the record of
-/// each at its place. A no-op is passed over: its record stays as it is.
+/// each at its place. A no-op is passed over: its record stays as it is. Fences are not looked at.
 ///
 /// All effects are found on the image as it stands, and then committed in the wave's order.
 ///
@@ -58,7 +58,7 @@ pub fn carry_out_wave<R: Threads + Wait + Sync, G: Gate + Sync>(
     requires places { All (λ i. i < length jobs.now) wave.now }
     requires apart { AreApart jobs.now wave.now }
     requires small { IsSmall jobs.now settings.now.staging settings.now.chunk wave.now }
-    ensures done { OnOk result (progress image.new records.new ≡ run_all (carried jobs.now settings.now.staging) (progress image.old records.old) (busy jobs.now wave.now)) }
+    ensures done { OnOk result (begun image.new records.new ≡ run_all (carried (map unfenced jobs.now) settings.now.staging) (begun image.old records.old) (busy jobs.now wave.now)) }
     ensures refused { OnErr result ((image.new ≡ image.old) × (records.new ≡ records.old)) }
     ensures arena { arena.new ≡ arena.old }
 {
@@ -66,7 +66,7 @@ pub fn carry_out_wave<R: Threads + Wait + Sync, G: Gate + Sync>(
     let room = arena.open();
     let tasks = cut_tasks(alloc, jobs, wave, settings.chunk, room)?;
     let outcomes = run_wave(rt, alloc, image, tasks, settings.workers, gate)?;
-    let mut slots = slots_of(alloc, outcomes)?;
+    let mut slots = piece_slots(alloc, outcomes)?;
     let effects = effects_of(alloc, image, jobs, wave, settings.chunk, &mut slots)?;
     commit_all(image, effects, records);
     Ok(())

@@ -6,7 +6,7 @@ ghost use Rattle.dml_desc.specs.Checked.{operation_of};
 ghost use Rattle.dml_levels.specs.Tasks.{IsChunk, task_count};
 ghost use Rattle.dml_levels.specs.Waves.{most_tasks, needs_of, tasks_of};
 ghost use Rattle.dml_pool.specs.Tasks.{IsRunnable};
-ghost use Rattle.dml_wave.specs.Tasks.{AddsTasks, AreTasks};
+ghost use Rattle.dml_wave.specs.Tasks.{AddsTasks, AreWaveTasks};
 
 use crate::units::{chunk_units, room_for, units};
 use dml_arena::Region;
@@ -33,7 +33,7 @@ pub fn cut_tasks<'a>(
     requires empty { room.bytes ≡ [] }
     requires fits { needs_of jobs.now wave.now ≤ room.room }
     requires few { tasks_of jobs.now chunk wave.now ≤ most_tasks }
-    ensures tasks { IfOk result (λ tasks. AreTasks jobs.now chunk wave.now tasks.items) }
+    ensures tasks { IfOk result (λ tasks. AreWaveTasks jobs.now chunk wave.now tasks.items) }
     ensures runnable { IfOk result (λ tasks. All IsRunnable tasks.items) }
     ensures count { IfOk result (λ tasks. length tasks.items ≡ tasks_of jobs.now chunk wave.now) }
 {

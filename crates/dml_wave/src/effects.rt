@@ -28,7 +28,7 @@ pub(crate) struct JobEffect<'a> {
 /// # Errors
 ///
 /// Where the allocator has no memory left for the list.
-pub(crate) fn slots_of<'a>(
+pub(crate) fn piece_slots<'a>(
     alloc: Global,
     outcomes: Vec<Outcome<'a>>,
 ) -> Result<Vec<Option<Piece<'a>>>, AllocError>

@@ -36,7 +36,7 @@ fn valid_chunk(rt: &impl Abort, chunk: u32) -> u32
 }
 
 /// The staging that a job needs.
-fn need_of(rt: &impl Abort, job: &Checked) -> u64
+fn operation_need(rt: &impl Abort, job: &Checked) -> u64
     ensures count { result ≡ need job.now }
     ensures most { result ≤ 1048576 }
 {
@@ -56,7 +56,7 @@ fn tasks_of<'a>(
     let job = check(job, STAGING).map_err(|_| "refused")?;
     let chunk = valid_chunk(rt, chunk);
     let room = arena.open();
-    assert!(rt; need_of(rt, &job) <= u64::from(room.room()));
+    assert!(rt; operation_need(rt, &job) <= u64::from(room.room()));
     assert!(rt; task_count(&job, chunk) <= 131_072);
     Ok(cut_tasks(alloc, &[job], &[0], chunk, room)?)
 }
@@ -118,7 +118,8 @@ fn chunks_side_by_side(rt: HostRuntime) -> Result<(), Fail> {
     let cast = check(&Job::dualcast(0, 4096, 8192, 20), STAGING).map_err(|_| "refused")?;
     let mut arena = Arena::new(rt.alloc(), 50)?;
     let room = arena.open();
-    let needs = need_of(&rt, &cast) + (need_of(&rt, &create) + need_of(&rt, &compare));
+    let needs = operation_need(&rt, &cast)
+        + (operation_need(&rt, &create) + operation_need(&rt, &compare));
     assert!(rt; needs <= u64::from(room.room()));
     let count = task_count(&cast, 16) + (task_count(&create, 16) + task_count(&compare, 16));
     assert!(rt; count <= 131_072);
@@ -176,7 +177,8 @@ fn expect_small(
 )
     ensures { IsSmall (first.now ∷ second.now ∷ third.now ∷ []) settings.now.staging settings.now.chunk (2 ∷ 0 ∷ 1 ∷ []) }
 {
-    let needs = need_of(rt, third) + (need_of(rt, first) + need_of(rt, second));
+    let needs = operation_need(rt, third)
+        + (operation_need(rt, first) + operation_need(rt, second));
     assert!(rt; needs <= u64::from(settings.staging));
     let chunk = valid_chunk(rt, settings.chunk);
     let count = task_count(third, chunk) + (task_count(first, chunk) + task_count(second, chunk));

@@ -4,13 +4,10 @@ ghost use Rattle.dml_desc.specs.Checked.{KeepsRules};
 ghost use Rattle.dml_pool.specs.Tasks as word;
 ghost use Rattle.dml_wave.specs.Tasks as cut;
 
-use dml_types::{Job, Op};
+use dml_types::{ENTRY, Job, Op};
 
 /// The bytes of a block.
 const BLOCK: u32 = 8;
-
-/// The bytes of a delta record's entry.
-const ENTRY: u32 = 10;
 
 /// How many units a job has that keeps the rules of its operation.
 pub fn units(op: Op, job: &Job) -> u32

@@ -158,6 +158,37 @@ fn every_submit_runs_at_once(rt: HostRuntime) -> Result<(), Fail> {
     Ok(())
 }
 
+/// The jobs at and behind a fence enter at once, as those of a list do.
+#[test]
+fn fenced_jobs_enter_at_once(rt: HostRuntime) -> Result<(), Fail> {
+    for turn in 0..10 {
+        let counts = Counts::new();
+        let gate = Meeting {
+            clock: &rt,
+            counts: &counts,
+            wanted: ALL_ONCE,
+        };
+        let mut engine = engine_of_eight(rt.alloc(), 3)
+            .ok_or("no memory")?
+            .with_gate(gate);
+        let jobs = [
+            Job::no_op(),
+            Job::fill(1, 0, 16).with_flags(1),
+            Job::fill(2, 64, 8),
+        ];
+        let (batch, records) = engine.submit_batch(&rt, rt.alloc(), &jobs)?;
+        assert_eq!(rt;
+            (batch.status, batch.completed),
+            (Status::Success, 3),
+            "turn {turn}"
+        );
+        assert_eq!(rt; records[0], answer(Status::Success, 0, 0, 0), "turn {turn}");
+        assert_eq!(rt; &records[1..], filled().as_slice(), "turn {turn}");
+        assert_eq!(rt; counts.both(), (ALL_ONCE, 0), "turn {turn}");
+    }
+    Ok(())
+}
+
 #[test]
 fn two_tasks_at_once(rt: HostRuntime) -> Result<(), Fail> {
     for turn in 0..10 {
@@ -193,5 +224,59 @@ fn waves_enter_one_after_another(rt: HostRuntime) -> Result<(), Fail> {
         .with_gate(gate);
     engine.submit_list(&rt, rt.alloc(), &small_jobs())?;
     assert_eq!(rt; counts.both(), (0x1_0202, 0));
+    Ok(())
+}
+
+/// A gate that was given sees each wave of a list of two tasks, also one of a single task.
+#[test]
+fn waves_of_one_task_enter(rt: HostRuntime) -> Result<(), Fail> {
+    let counts = Counts::new();
+    let gate = Meeting {
+        clock: &rt,
+        counts: &counts,
+        wanted: 0,
+    };
+    let mut engine = engine_of_eight(rt.alloc(), 2)
+        .ok_or("no memory")?
+        .with_gate(gate);
+    engine.submit_list(&rt, rt.alloc(), &[Job::fill(1, 0, 8), Job::fill(2, 0, 8)])?;
+    assert_eq!(rt; counts.both(), (0x2, 0));
+    Ok(())
+}
+
+#[test]
+fn set_up_of_waves(rt: HostRuntime) -> Result<(), Fail> {
+    let engine = engine_of_eight(rt.alloc(), 2).ok_or("no memory")?;
+    assert_eq!(rt; engine.image().byte(0), Some(0));
+    Ok(())
+}
+
+/// Once memory is refused to a wave, no later one goes to the workers: a third task enters in the second wave alone,
+/// and only where the first wave has entered.
+#[test]
+fn refused_waves(rt: HostRuntime) -> Result<(), Fail> {
+    let counts = Counts::new();
+    let gate = Meeting {
+        clock: &rt,
+        counts: &counts,
+        wanted: 0,
+    };
+    let mut engine = engine_of_eight(rt.alloc(), 2)
+        .ok_or("no memory")?
+        .with_gate(gate);
+    let jobs = [Job::fill(1, 0, 8), Job::fill(2, 0, 24)];
+    match engine.submit_list(&rt, rt.alloc(), &jobs) {
+        Ok(records) => {
+            let last = answer(Status::Success, 0, 24, 0);
+            assert_eq!(rt; records.last().copied(), Some(last));
+            assert_eq!(rt; engine.image().byte(0), Some(2));
+        }
+        Err(error) => assert_eq!(rt; error, SubmitError::NoMemory),
+    }
+    let (entered, _) = counts.both();
+    assert!(rt;
+        entered & 0x1_0000 == 0 || entered & 0xff == 2,
+        "{entered:x}"
+    );
     Ok(())
 }

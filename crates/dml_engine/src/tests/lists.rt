@@ -1,27 +1,11 @@
 //! Lists and batches at many settings, all with the same answers.
 
-use super::{USUAL, answer};
+use super::rows::{Row, expect, plain_row};
+use super::{USUAL, answer, engine};
 use crate::{Engine, SubmitError};
 use dml_image::Image;
-use dml_pool::{Free, Gate};
-use dml_types::{Job, Record, Settings, Status};
-use std::alloc::Global;
-use std::process::Abort;
-use std::sync::Wait;
+use dml_types::{Job, Settings, Status};
 use std::test::Fail;
-use std::thread::Threads;
-
-/// A list of jobs on a page that begins with some bytes, what they answer, and bytes that they leave.
-#[derive(Clone, Copy)]
-struct Row<'a> {
-    name: &'a str,
-    staging: u32,
-    opening: &'a [u8],
-    jobs: &'a [Job],
-    records: &'a [Record],
-    status: Status,
-    left: &'a [(u64, &'a [u8])],
-}
 
 /// An opcode that no job has.
 const BAD_OPCODE: Job = Job {
@@ -35,98 +19,9 @@ const BAD_OPCODE: Job = Job {
     expected: 0,
 };
 
-/// An image of one page that begins with these bytes, the others being 0.
-fn image(alloc: Global, opening: &[u8]) -> Option<Image<'static>> {
-    let mut page = [0; 4096];
-    for (byte, first) in page.iter_mut().zip(opening) {
-        *byte = *first;
-    }
-    let mut image = Image::new(alloc, 1).ok()?;
-    image.bring(0, &page).ok()?;
-    Some(image)
-}
-
-/// The settings of the rows.
-fn settings(staging: u32) -> [Settings; 12] {
-    let mut all = [Settings { staging, ..USUAL }; 12];
-    for (i, settings) in all.iter_mut().enumerate() {
-        settings.chunk = [8, 16, 4096, 1_048_576][i / 3];
-        settings.workers = [1, 2, 16][i % 3];
-    }
-    all
-}
-
-/// Submits the jobs as a list and as a batch, and expects the row's answers.
-fn expect_row<R: Abort + Threads + Wait + Sync, G: Gate + Sync>(
-    rt: &R,
-    alloc: Global,
-    row: &Row,
-    list: &mut Engine<G>,
-    batch: &mut Engine<G>,
-) -> Result<(), SubmitError> {
-    let records = list.submit_list(rt, alloc, row.jobs)?;
-    assert_eq!(rt; records.as_slice(), row.records, "{}", row.name);
-    let (answer, records) = batch.submit_batch(rt, alloc, row.jobs)?;
-    assert_eq!(rt; records.as_slice(), row.records, "{}", row.name);
-    assert_eq!(rt;
-        (answer.status, answer.completed),
-        (row.status, row.jobs.len() as u32),
-        "{}",
-        row.name
-    );
-    for (addr, bytes) in row.left {
-        for (i, byte) in bytes.iter().enumerate() {
-            assert_eq!(rt;
-                list.image().byte(addr.saturating_add(i as u64)),
-                Some(*byte),
-                "{}",
-                row.name
-            );
-            assert_eq!(rt;
-                batch.image().byte(addr.saturating_add(i as u64)),
-                Some(*byte),
-                "{}",
-                row.name
-            );
-        }
-    }
-    Ok(())
-}
-
-/// An engine over a row's image.
-fn engine_at(alloc: Global, row: &Row, settings: Settings) -> Option<Engine> {
-    Engine::new(alloc, image(alloc, row.opening)?, settings).ok()
-}
-
-/// Expects a row's answers at all settings, with its own gate and with one given.
-fn expect_everywhere<R: Abort + Threads + Wait + Sync>(
-    rt: &R,
-    alloc: Global,
-    row: &Row,
-) -> Option<()> {
-    for settings in settings(row.staging) {
-        let mut list = engine_at(alloc, row, settings)?;
-        let mut batch = engine_at(alloc, row, settings)?;
-        expect_row(rt, alloc, row, &mut list, &mut batch).ok()?;
-        let mut list = engine_at(alloc, row, settings)?.with_gate(Free);
-        let mut batch = engine_at(alloc, row, settings)?.with_gate(Free);
-        expect_row(rt, alloc, row, &mut list, &mut batch).ok()?;
-    }
-    Some(())
-}
-
-/// Expects a list's records at all settings, as a list and as a batch.
-fn expect<R: Abort + Threads + Wait + Sync>(rt: &R, alloc: Global, row: &Row) -> Result<(), Fail> {
-    expect_everywhere(rt, alloc, row).ok_or("no memory")?;
-    Ok(())
-}
-
 #[test]
 fn batch_with_bad_opcode(rt: HostRuntime) -> Result<(), Fail> {
     let row = Row {
-        name: "batch_with_bad_opcode",
-        staging: USUAL.staging,
-        opening: &[],
         jobs: &[Job::fill(1, 0, 8), BAD_OPCODE, Job::fill(2, 8, 8)],
         records: &[
             answer(Status::Success, 0, 8, 0),
@@ -135,6 +30,7 @@ fn batch_with_bad_opcode(rt: HostRuntime) -> Result<(), Fail> {
         ],
         status: Status::BatchFailed,
         left: &[(0, &[1, 0, 0, 0, 0, 0, 0, 0, 2, 0, 0, 0, 0, 0, 0, 0])],
+        ..plain_row("batch_with_bad_opcode")
     };
     expect(&rt, rt.alloc(), &row)
 }
@@ -142,9 +38,8 @@ fn batch_with_bad_opcode(rt: HostRuntime) -> Result<(), Fail> {
 #[test]
 fn staging_refusal_and_two_waves(rt: HostRuntime) -> Result<(), Fail> {
     let row = Row {
-        name: "staging_refusal_and_two_waves",
         staging: 64,
-        opening: &[9],
+        bytes: &[(0, &[9])],
         jobs: &[
             Job::move_bytes(0, 256, 64),
             Job::move_bytes(0, 512, 65),
@@ -157,6 +52,7 @@ fn staging_refusal_and_two_waves(rt: HostRuntime) -> Result<(), Fail> {
         ],
         status: Status::BatchFailed,
         left: &[(256, &[9, 0]), (512, &[0]), (1024, &[9, 0])],
+        ..plain_row("staging_refusal_and_two_waves")
     };
     expect(&rt, rt.alloc(), &row)
 }
@@ -164,21 +60,19 @@ fn staging_refusal_and_two_waves(rt: HostRuntime) -> Result<(), Fail> {
 #[test]
 fn conflict_chain(rt: HostRuntime) -> Result<(), Fail> {
     let row = Row {
-        name: "conflict_chain",
-        staging: USUAL.staging,
-        opening: &[1, 2, 3, 4, 5, 6, 7, 8],
+        bytes: &[(0, &[1, 2, 3, 4, 5, 6, 7, 8])],
         jobs: &[
             Job::move_bytes(0, 64, 16),
             Job::move_bytes(64, 128, 16),
             Job::fill(0xffff_ffff_ffff_ffff, 0, 16),
         ],
         records: &[answer(Status::Success, 0, 16, 0); 3],
-        status: Status::Success,
         left: &[
             (0, &[0xff; 8]),
             (64, &[1, 2, 3, 4, 5, 6, 7, 8]),
             (128, &[1, 2, 3, 4, 5, 6, 7, 8]),
         ],
+        ..plain_row("conflict_chain")
     };
     expect(&rt, rt.alloc(), &row)
 }
@@ -186,23 +80,18 @@ fn conflict_chain(rt: HostRuntime) -> Result<(), Fail> {
 #[test]
 fn flags_before_size(rt: HostRuntime) -> Result<(), Fail> {
     let row = Row {
-        name: "flags_before_size",
-        staging: USUAL.staging,
-        opening: &[],
         jobs: &[
             Job::move_bytes(0, 0, 1_048_577).with_flags(0x10),
             Job::move_bytes(0, 0, 1_048_577),
             Job::move_bytes(0, 0, 0),
-            Job::no_op().with_flags(1),
         ],
         records: &[
             answer(Status::BadFlags, 0, 0, 0),
             answer(Status::BadSize, 0, 0, 0),
             answer(Status::Success, 0, 0, 0),
-            answer(Status::BadFlags, 0, 0, 0),
         ],
         status: Status::BatchFailed,
-        left: &[],
+        ..plain_row("flags_before_size")
     };
     expect(&rt, rt.alloc(), &row)?;
     let empty = Row {
@@ -215,28 +104,11 @@ fn flags_before_size(rt: HostRuntime) -> Result<(), Fail> {
     expect(&rt, rt.alloc(), &empty)
 }
 
-#[test]
-fn fence_in_batch(rt: HostRuntime) -> Result<(), Fail> {
-    let row = Row {
-        name: "fence_in_batch",
-        staging: USUAL.staging,
-        opening: &[],
-        jobs: &[Job::no_op().with_flags(1)],
-        records: &[answer(Status::BadFlags, 0, 0, 0)],
-        status: Status::BatchFailed,
-        left: &[],
-    };
-    expect(&rt, rt.alloc(), &row)
-}
-
 /// A chunk stops inside each of these: a fill at an absent page, a move with its source there, and a compare at the
 /// first byte that differs. What comes after them in list order sees what they left.
 #[test]
 fn stopped_jobs(rt: HostRuntime) -> Result<(), Fail> {
     let row = Row {
-        name: "stopped_jobs",
-        staging: USUAL.staging,
-        opening: &[],
         jobs: &[
             Job::fill(0x0101_0101_0101_0101, 4080, 40),
             Job::move_bytes(4084, 0, 40),
@@ -259,6 +131,7 @@ fn stopped_jobs(rt: HostRuntime) -> Result<(), Fail> {
             (4095, &[1]),
             (256, &[0]),
         ],
+        ..plain_row("stopped_jobs")
     };
     expect(&rt, rt.alloc(), &row)
 }
@@ -266,10 +139,8 @@ fn stopped_jobs(rt: HostRuntime) -> Result<(), Fail> {
 #[test]
 fn too_many_jobs(rt: HostRuntime) -> Result<(), Fail> {
     let jobs = [Job::fill(1, 0, 8); 1025];
-    let image = image(rt.alloc(), &[7]).ok_or("no memory")?;
-    let Ok(mut engine) = Engine::new(rt.alloc(), image, USUAL) else {
-        return Err("no memory".into());
-    };
+    let mut engine = engine(rt.alloc()).ok_or("no memory")?;
+    engine.bring(0, &[7; 4096])?;
     let refused = engine.submit_list(&rt, rt.alloc(), &jobs);
     assert_eq!(rt; refused.err(), Some(SubmitError::TooMany));
     let refused = engine.submit_batch(&rt, rt.alloc(), &jobs);
@@ -281,7 +152,7 @@ fn too_many_jobs(rt: HostRuntime) -> Result<(), Fail> {
     Ok(())
 }
 
-/// Moves of a mebibyte pay for workers without a gate.
+/// Moves of a mebibyte, and a compare of what they left.
 #[test]
 fn large_moves(rt: HostRuntime) -> Result<(), Fail> {
     let mut image = Image::new(rt.alloc(), 1024)?;
@@ -305,6 +176,53 @@ fn large_moves(rt: HostRuntime) -> Result<(), Fail> {
         assert_eq!(rt; byte, Some((page % 256) as u8));
     }
     Ok(())
+}
+
+/// Compares of more than four mebibytes in all go to several workers without a gate that was given. Half of them meet a
+/// byte that differs.
+#[test]
+fn large_compares(rt: HostRuntime) -> Result<(), Fail> {
+    let mut image = Image::new(rt.alloc(), 512)?;
+    for page in 0..512 {
+        image.bring(page, &[5; 4096])?;
+    }
+    image.bring(300, &[6; 4096])?;
+    let settings = Settings {
+        chunk: 65_536,
+        ..USUAL
+    };
+    let Ok(mut engine) = Engine::new(rt.alloc(), image, settings) else {
+        return Err("no memory".into());
+    };
+    let mebibyte = 1_048_576;
+    let equal = Job::compare(0, 0, mebibyte);
+    let other = Job::compare(0, u64::from(mebibyte), mebibyte);
+    let same = answer(Status::Success, 0, mebibyte, 0);
+    let differs = answer(Status::Success, 1, 44 * 4096, 0);
+    for _ in 0..10 {
+        let jobs = [equal, other, other, equal, equal, other, equal, other];
+        let records = engine.submit_list(&rt, rt.alloc(), &jobs)?;
+        let want = [same, differs, differs, same, same, differs, same, differs];
+        assert_eq!(rt; records.as_slice(), want.as_slice());
+    }
+    Ok(())
+}
+
+/// Four jobs of three levels: a fill, a move of it, a fill elsewhere, and a move of that over the first.
+#[test]
+fn levels_of_four_jobs(rt: HostRuntime) -> Result<(), Fail> {
+    let row = Row {
+        jobs: &[
+            Job::fill(1, 0, 8),
+            Job::move_bytes(0, 64, 8),
+            Job::fill(2, 512, 8),
+            Job::move_bytes(512, 0, 8),
+        ],
+        records: &[answer(Status::Success, 0, 8, 0); 4],
+        left: &[(0, &[2, 0]), (64, &[1, 0]), (512, &[2, 0])],
+        ..plain_row("levels_of_four_jobs")
+    };
+    expect(&rt, rt.alloc(), &row)
 }
 
 #[test]

@@ -180,3 +180,39 @@ fn refused_submit_batch(rt: HostRuntime) -> Result<(), Fail> {
     }
     Ok(())
 }
+
+/// The set-up, and a list of records as the call takes it first.
+#[test]
+fn set_up_of_later_growths(rt: HostRuntime) -> Result<(), Fail> {
+    watched_set_up(&rt, rt.alloc())?;
+    let records = Vec::<Record>::with_capacity(rt.alloc(), small_jobs().len())?;
+    assert!(rt; records.is_empty());
+    Ok(())
+}
+
+/// Behind the list of records no refusal changes the answer of a list.
+#[test]
+fn refused_later_growths(rt: HostRuntime) -> Result<(), Fail> {
+    let (mut engine, _records) = watched_engine(rt.alloc()).ok_or("no memory")?;
+    let records = engine.submit_list(&rt, rt.alloc(), &small_jobs())?;
+    expect_small_jobs(&rt, &engine, &records);
+    Ok(())
+}
+
+#[test]
+fn set_up_of_later_growths_of_a_batch(rt: HostRuntime) -> Result<(), Fail> {
+    watched_set_up(&rt, rt.alloc())?;
+    let records = Vec::<Record>::with_capacity(rt.alloc(), small_jobs().len())?;
+    assert!(rt; records.is_empty());
+    Ok(())
+}
+
+/// Nor that of a batch.
+#[test]
+fn refused_later_growths_of_a_batch(rt: HostRuntime) -> Result<(), Fail> {
+    let (mut engine, _records) = watched_engine(rt.alloc()).ok_or("no memory")?;
+    let (batch, records) = engine.submit_batch(&rt, rt.alloc(), &small_jobs())?;
+    assert_eq!(rt; (batch.status, batch.completed), (Status::Success, 3));
+    expect_small_jobs(&rt, &engine, &records);
+    Ok(())
+}

@@ -97,35 +97,36 @@ fn write_over_page_edge(rt: HostRuntime) -> Result<(), Fail> {
     Ok(())
 }
 
+/// Ranges, and how many bytes come before the first absent one, forward and backward, where pages 0, 2 and 3 of 4 are
+/// present.
+const RANGES: [(u64, u32, Option<u32>, Option<u32>); 21] = [
+    (0, 4096, None, None),
+    (0, 4097, Some(4096), Some(0)),
+    (4090, 4102, Some(6), Some(0)),
+    (4090, 4103, Some(6), Some(1)),
+    (4090, 4112, Some(6), Some(10)),
+    (4096, 1, Some(0), Some(0)),
+    (4095, 1, None, None),
+    (8192, 8192, None, None),
+    (8191, 8193, Some(0), Some(8192)),
+    (8192, 8193, Some(8192), Some(0)),
+    (12280, 20, None, None),
+    (5000, 3192, Some(0), Some(0)),
+    (5000, 3193, Some(0), Some(1)),
+    (0, 0, None, None),
+    (4096, 0, None, None),
+    (1 << 40, 0, None, None),
+    (1 << 40, 5, Some(0), Some(0)),
+    (u64::MAX, 0, None, None),
+    (u64::MAX, 1, Some(0), Some(0)),
+    (0xffff_ffff_ffff_fff8, 8, Some(0), Some(0)),
+    (0, u32::MAX, Some(4096), Some(0)),
+];
+
 #[test]
 fn first_absent_both_ways(rt: HostRuntime) -> Result<(), Fail> {
     let image = image_with(rt.alloc(), 4, &[0, 2, 3])?;
-    let end = u64::MAX - 7; // 8 bytes below 2^64
-    let rows = [
-        // address, length, forward, backward
-        (0, 4096, None, None),
-        (0, 4097, Some(4096), Some(0)),
-        (4090, 4102, Some(6), Some(0)),
-        (4090, 4103, Some(6), Some(1)),
-        (4090, 4112, Some(6), Some(10)),
-        (4096, 1, Some(0), Some(0)),
-        (4095, 1, None, None),
-        (8192, 8192, None, None),
-        (8191, 8193, Some(0), Some(8192)),
-        (8192, 8193, Some(8192), Some(0)),
-        (12280, 20, None, None),
-        (5000, 3192, Some(0), Some(0)),
-        (5000, 3193, Some(0), Some(1)),
-        (0, 0, None, None),
-        (4096, 0, None, None),
-        (1 << 40, 0, None, None),
-        (1 << 40, 5, Some(0), Some(0)),
-        (u64::MAX, 0, None, None),
-        (u64::MAX, 1, Some(0), Some(0)),
-        (end, 8, Some(0), Some(0)),
-        (0, u32::MAX, Some(4096), Some(0)),
-    ];
-    for (addr, len, forward, backward) in rows {
+    for (addr, len, forward, backward) in RANGES {
         assert!(rt; addr as u128 + len as u128 <= 1 << 64);
         assert_eq!(rt;
             image.first_absent(addr, len, Direction::Forward),

@@ -1,5 +1,5 @@
 //! Compares against what each byte alone says, and worked rows at chunks of several sizes.
-use super::{PLACES, STAGING, expect_pieces, piece_of, read_fault};
+use super::{PLACES, STAGING, expect_piece, expect_pieces, found_of, piece_of, read_fault};
 use crate::Found;
 use dml_arena::Arena;
 use dml_desc::check;
@@ -56,6 +56,46 @@ fn pattern_compares_by_bytes(rt: HostRuntime) -> Result<(), Fail> {
                 let job = Job::compare_pattern(source, pattern, size);
                 expect_pieces(&rt, &image, &mut arena, &job);
             }
+        }
+    }
+    Ok(())
+}
+
+/// Chunks that begin at no multiple of 8.
+#[test]
+fn compares_from_any_offset(rt: HostRuntime) -> Result<(), Fail> {
+    let image = image_but(rt.alloc(), &[0, 1, 3], 0x5a, &[40, 4095, 12_300, 16_383])?;
+    let mut arena = Arena::new(rt.alloc(), STAGING)?;
+    for source in PLACES {
+        for job in [
+            Job::compare(source, 5, 300),
+            Job::compare(5, source, 300),
+            Job::compare_pattern(source, 0x5a5a_5a5a_5a5a_5a5a, 300),
+            Job::compare_pattern(source, 0x5aa5_5a5a_5a5a_5a5a, 300),
+        ] {
+            for chunk in [(3, 100), (1, 300), (37, 45), (299, 300)] {
+                expect_piece(&rt, &image, &mut arena, &job, chunk);
+            }
+        }
+    }
+    Ok(())
+}
+
+/// A difference in each part of two turns of four steps, and behind them.
+#[test]
+fn compares_of_blocks(rt: HostRuntime) -> Result<(), Fail> {
+    let mut arena = Arena::new(rt.alloc(), STAGING)?;
+    for place in [0, 127, 128, 300, 511, 512, 900, 1023, 1024, 1160, 1199] {
+        let image = image_but(rt.alloc(), &[0, 1], 0x5a, &[4096 + u64::from(place)])?;
+        for len in [1200, 1199, 1024, 512] {
+            let job = Job::compare(100, 4096, len);
+            let want = if place < len {
+                Found::Differs { done: place }
+            } else {
+                Found::All
+            };
+            let found = found_of(&rt, &image, &mut arena, &job);
+            assert_eq!(rt; found, want, "{len} with another byte at {place}");
         }
     }
     Ok(())

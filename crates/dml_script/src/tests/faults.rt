@@ -1,6 +1,6 @@
 //! Scripts with a fault, and inputs of the greatest length.
 
-use super::run;
+use super::{refuses, run};
 use crate::{Kind, MAX_SCRIPT, RunFault, ScriptFault, fault_text};
 use std::alloc::{AllocError, Global};
 use std::test::Fail;
@@ -54,13 +54,8 @@ const FAULTS: [(&str, &str, u32, Kind, &str); 6] = [
 #[test]
 fn a_fault_writes_nothing(rt: HostRuntime) {
     for (name, script, line, kind, text) in FAULTS {
-        let (outcome, written) = run(&rt, rt.alloc(), script.as_bytes());
-        assert_eq!(rt;
-            outcome,
-            Err(RunFault::Script(ScriptFault { line, kind })),
-            "at {name}"
-        );
-        assert!(rt; written.is_empty(), "at {name}");
+        let fault = ScriptFault { line, kind };
+        refuses(&rt, rt.alloc(), name, script.as_bytes(), fault);
         assert_eq!(rt; fault_text(kind), text, "at {name}");
     }
 }

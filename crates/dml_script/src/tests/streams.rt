@@ -1,6 +1,6 @@
 //! Readers and writers that give, take and fail as told.
 
-use super::{DEFAULTS, FILL, FILL_ANSWER};
+use super::{BATCH, BATCH_ANSWER, DEFAULTS, FILL, FILL_ANSWER};
 use crate::{RunFault, Watched, run_script};
 use std::io;
 use std::io::{ErrorKind, Read, Write};
@@ -147,27 +147,29 @@ impl Write for Paper {
 
 #[test]
 fn a_writer_fails_at_each_byte(rt: HostRuntime) {
-    let answer = FILL_ANSWER.as_bytes();
-    for fails in [true, false] {
-        for room in 0..answer.len() {
-            let mut reader = Watched::new(FILL.as_bytes());
-            let mut writer = Watched::new(Paper::new(room, fails));
+    for (script, answer) in [(FILL, FILL_ANSWER), (BATCH, BATCH_ANSWER)] {
+        let (script, answer) = (script.as_bytes(), answer.as_bytes());
+        for fails in [true, false] {
+            for room in 0..answer.len() {
+                let mut reader = Watched::new(script);
+                let mut writer = Watched::new(Paper::new(room, fails));
+                assert_eq!(rt;
+                    run_script(&rt, rt.alloc(), &mut reader, &mut writer, DEFAULTS),
+                    Err(RunFault::Write),
+                    "at {room}"
+                );
+                assert!(rt; writer.failed());
+                assert!(rt; writer.into_inner().holds(&answer[..room]), "at {room}");
+            }
+            let mut reader = Watched::new(script);
+            let mut writer = Watched::new(Paper::new(answer.len(), fails));
             assert_eq!(rt;
                 run_script(&rt, rt.alloc(), &mut reader, &mut writer, DEFAULTS),
-                Err(RunFault::Write),
-                "at {room}"
+                Ok(())
             );
-            assert!(rt; writer.failed());
-            assert!(rt; writer.into_inner().holds(&answer[..room]), "at {room}");
+            assert!(rt; !writer.failed());
+            assert!(rt; writer.into_inner().holds(answer));
         }
-        let mut reader = Watched::new(FILL.as_bytes());
-        let mut writer = Watched::new(Paper::new(answer.len(), fails));
-        assert_eq!(rt;
-            run_script(&rt, rt.alloc(), &mut reader, &mut writer, DEFAULTS),
-            Ok(())
-        );
-        assert!(rt; !writer.failed());
-        assert!(rt; writer.into_inner().holds(answer));
     }
 }
 

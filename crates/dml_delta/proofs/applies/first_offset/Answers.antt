@@ -15,8 +15,8 @@ returns-then-present_bytes-lt10 c =
     c.present_bytes.ensures.count ∙ ap₂ (λ (job : Job) (x : ℕ). present_bytes memory (job.source + 10 * x) 10) c.job.ensures.job c.from.ensures in
     first_of_absent memory c.args.job.now c.args.from c.args.to (omega (arith, count, c.if-present_bytes-lt10.true))
 
-pub offset_at-requires-clause-present : goal.offset_at-requires-clause-present
-offset_at-requires-clause-present c =
+pub entry_offset-requires-clause-present : goal.entry_offset-requires-clause-present
+entry_offset-requires-clause-present c =
     let memory = c.args.image.now in
     let count : c.present_bytes.result ≡ present_bytes memory (c.args.job.now.source + 10 * c.args.from) 10 =
     c.present_bytes.ensures.count ∙ ap₂ (λ (job : Job) (x : ℕ). present_bytes memory (job.source + 10 * x) 10) c.job.ensures.job c.from.ensures in
@@ -31,4 +31,4 @@ returns c =
     c.present_bytes.ensures.count ∙ ap₂ (λ (job : Job) (x : ℕ). present_bytes memory (job.source + 10 * x) 10) c.job.ensures.job c.from.ensures in
     first_of_present memory c.args.job.now c.args.from c.args.to _ c.if-from-to.false
     (all_counted memory (c.args.job.now.source + 10 * c.args.from) 10 (omega (arith, count, c.if-present_bytes-lt10.false)))
-    c.offset_at.ensures
+    c.entry_offset.ensures

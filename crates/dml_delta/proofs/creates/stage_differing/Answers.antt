@@ -2,8 +2,8 @@ use Rattle.std.proofs.Common.{◌≡◌, ℕ, ◌+◌, ◌*◌, ◌/◌, ◌++�
 use Rattle.std.proofs.lemmas.List.{length-append, length-take-le}
 use Rattle.dml_types.specs.declared.jobs.Job.{Job}
 use Rattle.dml_types.specs.Memory.{bytes_at, has}
-use Rattle.dml_types.specs.Delta.{differs, entry_for}
-use Rattle.dml_delta.specs.Entries.{differs_in, entry_in, gathered}
+use Rattle.dml_types.specs.Delta.{differs, block_entry}
+use Rattle.dml_delta.specs.Entries.{nth_differs, nth_entry, gathered}
 use Rattle.dml_delta.proofs.UnitLemmas.{block_here}
 use Rattle.dml_delta.proofs.EntryLemmas.{gathered_split, length_entries}
 use Rattle.dml_delta.proofs.LaneLemmas.{memory_entries}
@@ -29,7 +29,7 @@ add_differing-requires-clause-fits c =
     let memory = c.args.image.now in
     let job = c.job-job.result.now in
     let len = c.min-len.result in
-    let entries = gathered (entry_for memory job) (differs memory job) c.args.from c.loop-done.done in
+    let entries = gathered (block_entry memory job) (differs memory job) c.args.from c.loop-done.done in
     let long = so_far c.args.room.now.bytes entries c.loop-done.room.bytes c.loop-done.entries c.loop-done.invariant.bytes in
     let short = length_entries memory job (differs memory job) c.args.from c.loop-done.done in
     let taken = length-take-le len c.part-one.result.now (omega (arith, c.min-len.ensures)) in
@@ -39,7 +39,7 @@ pub flush-requires : goal.flush-requires
 flush-requires c =
     let memory = c.args.image.now in
     let job = c.job-job.result.now in
-    let entries = gathered (entry_for memory job) (differs memory job) c.args.from c.loop-done.done in
+    let entries = gathered (block_entry memory job) (differs memory job) c.args.from c.loop-done.done in
     let long = so_far c.args.room.now.bytes entries c.loop-done.room.bytes c.loop-done.entries c.loop-done.invariant.bytes in
     let short = length_entries memory job (differs memory job) c.args.from c.loop-done.done in
     record { fits = omega (arith, long, short, c.requires.fits, c.loop-done.invariant.room, c.loop-done.invariant.within) }
@@ -48,7 +48,7 @@ pub loop-done-preserved : goal.loop-done-preserved
 loop-done-preserved c =
     let memory = c.args.image.now in
     let job = c.job-job.result.now in
-    let entry = entry_for memory job in
+    let entry = block_entry memory job in
     let test = differs memory job in
     let from = c.args.from in
     let done = c.loop-done.done in
@@ -64,8 +64,8 @@ loop-done-preserved c =
     c.part-other.ensures.bytes ∙ ap (λ (b : ℕ). bytes_at memory (job.target + 8 * b) (length other)) c.from-first.ensures in
     let taken = length-take-le len one (omega (arith, c.min-len.ensures)) in
     let count : length (take len one) / 8 ≡ n = ap (λ (m : ℕ). m / 8) taken in
-    let more : gathered (entry_in (from + done) (take len other)) (differs_in (take len one) (take len other)) 0 (length (take len one) / 8) ≡ gathered entry test (from + done) n =
-    ap (gathered (entry_in (from + done) (take len other)) (differs_in (take len one) (take len other)) 0) count
+    let more : gathered (nth_entry (from + done) (take len other)) (nth_differs (take len one) (take len other)) 0 (length (take len one) / 8) ≡ gathered entry test (from + done) n =
+    ap (gathered (nth_entry (from + done) (take len other)) (nth_differs (take len one) (take len other)) 0) count
     ∙ memory_entries memory job one other (from + done) len n read also (omega (arith, c.min-len.ensures)) (omega (arith, c.min-len.ensures)) (omega arith) in
     record {
       within = omega (arith, c.min-len.ensures, c.part-one.ensures.length);

@@ -1,5 +1,5 @@
 use Rattle.std.proofs.Common.{◌≡◌, ◌-◌, ◌≤◌, ◌++◌}
-use Rattle.dml_types.specs.Delta.{differs, entry_for}
+use Rattle.dml_types.specs.Delta.{differs, block_entry}
 use Rattle.dml_delta.specs.Entries.{gathered}
 use Rattle.dml_delta.proofs.creates.stage_differing.Given as goal
 
@@ -9,7 +9,7 @@ invariant-loop-done l = record {
   opening : l.room.opening ≡ l.initial.room.opening;
   start : l.room.start ≡ l.initial.room.start;
   room : l.room.room ≡ l.initial.room.room;
-  bytes : l.room.bytes ++ l.entries ≡ l.initial.room.bytes ++ gathered (entry_for l.image l.job) (differs l.image l.job) l.from l.done;
+  bytes : l.room.bytes ++ l.entries ≡ l.initial.room.bytes ++ gathered (block_entry l.image l.job) (differs l.image l.job) l.from l.done;
 }
 
 abbrev pub decreases-loop-done : goal.decreases-loop-done

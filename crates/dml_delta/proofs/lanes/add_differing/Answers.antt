@@ -1,6 +1,6 @@
 use Rattle.std.proofs.Common.{◌≡◌, ℕ, ◌+◌, ◌-◌, ◌*◌, ◌/◌, ◌++◌, List, length, take, drop, sym, ◌∙◌, ap, arith, zero-add, append_assoc}
 use Rattle.std.proofs.lemmas.List.{length-append, length-take, length-drop}
-use Rattle.dml_delta.specs.Entries.{differs_in, entry_in, gathered, is_marked}
+use Rattle.dml_delta.specs.Entries.{nth_differs, nth_entry, gathered, is_marked}
 use Rattle.dml_delta.proofs.EntryLemmas.{gathered_split, length_entries_in}
 use Rattle.dml_delta.proofs.LaneLemmas.{part_entries}
 use Rattle.dml_delta.proofs.lanes.add_differing.Goals as goal
@@ -12,16 +12,16 @@ fits_so_far old before gathered_here here entries is =
 
 pub add_marked-requires-clause-fits : goal.add_marked-requires-clause-fits
 add_marked-requires-clause-fits c =
-    let entry = entry_in c.args.number c.args.other.now in
-    let differs = differs_in c.args.one.now c.args.other.now in
+    let entry = nth_entry c.args.number c.args.other.now in
+    let differs = nth_differs c.args.one.now c.args.other.now in
     let long = fits_so_far c.args.room.now.bytes c.args.entries.now (gathered entry differs 0 (8 * c.loop-k.k)) c.loop-k.room.bytes c.loop-k.entries c.loop-k.invariant.bytes in
     let short = length_entries_in c.args.number c.args.other.now differs 0 (8 * c.loop-k.k) in
     omega (arith, long, short, c.requires.fits, c.loop-k.invariant.room, c.loop-k-test.true)
 
 pub add_marked-requires-2-clause-fits : goal.add_marked-requires-2-clause-fits
 add_marked-requires-2-clause-fits c =
-    let entry = entry_in c.args.number c.args.other.now in
-    let differs = differs_in c.args.one.now c.args.other.now in
+    let entry = nth_entry c.args.number c.args.other.now in
+    let differs = nth_differs c.args.one.now c.args.other.now in
     let long = fits_so_far c.args.room.now.bytes c.args.entries.now (gathered entry differs 0 (8 * c.loop-k.k)) c.loop-k.room.bytes c.loop-k.entries c.loop-k.invariant.bytes in
     let short = length_entries_in c.args.number c.args.other.now differs 0 (8 * c.loop-k.k) in
     omega (arith, long, short, c.requires.fits, c.loop-k.invariant.room, c.loop-k.auto.k-end)
@@ -30,8 +30,8 @@ pub loop-k-preserved : goal.loop-k-preserved
 loop-k-preserved c =
     let one = c.args.one.now in
     let other = c.args.other.now in
-    let entry = entry_in c.args.number other in
-    let differs = differs_in one other in
+    let entry = nth_entry c.args.number other in
+    let differs = nth_differs one other in
     let old = c.args.room.now.bytes ++ c.args.entries.now in
     let here = c.loop-k.room.bytes ++ c.loop-k.entries in
     let k = c.loop-k.k in
@@ -41,8 +41,8 @@ loop-k-preserved c =
     let marks = c.marks_of_group-marks.result in
     let eight : length part / 8 ≡ 8 = omega (arith, length-take count (drop place other), length-drop place other, c.requires.lengths, c.loop-k-test.true) in
     let next : 8 * (k + 1) ≡ 8 * k + 8 = omega arith in
-    let more : gathered (entry_in (c.args.number + 8 * k) part) (is_marked marks) 0 (length part / 8) ≡ gathered entry differs (8 * k) 8 =
-    ap (gathered (entry_in (c.args.number + 8 * k) part) (is_marked marks) 0) eight
+    let more : gathered (nth_entry (c.args.number + 8 * k) part) (is_marked marks) 0 (length part / 8) ≡ gathered entry differs (8 * k) 8 =
+    ap (gathered (nth_entry (c.args.number + 8 * k) part) (is_marked marks) 0) eight
     ∙ part_entries one other marks c.args.number place (8 * k) count count 8 (omega arith) (omega arith) (omega arith) c.marks_of_group-marks.ensures in
     let both : gathered entry differs 0 (8 * (k + 1)) ≡ gathered entry differs 0 (8 * k) ++ gathered entry differs (8 * k) 8 =
     ap (gathered entry differs 0) next
@@ -63,8 +63,8 @@ pub returns-clause-bytes : goal.returns-clause-bytes
 returns-clause-bytes c =
     let one = c.args.one.now in
     let other = c.args.other.now in
-    let entry = entry_in c.args.number other in
-    let differs = differs_in one other in
+    let entry = nth_entry c.args.number other in
+    let differs = nth_differs one other in
     let old = c.args.room.now.bytes ++ c.args.entries.now in
     let here = c.loop-k.room.bytes ++ c.loop-k.entries in
     let groups = length one / 64 in

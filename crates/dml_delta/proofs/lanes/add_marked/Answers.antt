@@ -1,5 +1,5 @@
 use Rattle.std.proofs.Common.{◌≡◌, ℕ, ◌+◌, ◌/◌, ◌++◌, List, length, sym, ◌∙◌, ap, arith, append-nil}
-use Rattle.dml_delta.specs.Entries.{entry_in, is_marked}
+use Rattle.dml_delta.specs.Entries.{nth_entry, is_marked}
 use Rattle.dml_delta.proofs.EntryLemmas.{gathered_none}
 use Rattle.dml_delta.proofs.LaneLemmas.{no_marks}
 use Rattle.dml_delta.proofs.lanes.add_marked.Goals as goal
@@ -9,4 +9,4 @@ returns-else-marks-ne0-clause-bytes c =
     let here = c.args.room.now.bytes ++ c.args.entries.now in
     let none : c.args.marks ≡ 0 = omega arith in
     sym (append-nil here)
-    ∙ ap (λ (xs : List ℕ). here ++ xs) (sym (gathered_none (entry_in c.args.number c.args.blocks.now) (is_marked c.args.marks) 0 (length c.args.blocks.now / 8) (λ i below. ap (λ (m : ℕ). is_marked m (0 + i)) none ∙ no_marks (0 + i))))
+    ∙ ap (λ (xs : List ℕ). here ++ xs) (sym (gathered_none (nth_entry c.args.number c.args.blocks.now) (is_marked c.args.marks) 0 (length c.args.blocks.now / 8) (λ i below. ap (λ (m : ℕ). is_marked m (0 + i)) none ∙ no_marks (0 + i))))

@@ -5,14 +5,14 @@ use Rattle.dml_types.specs.declared.operations.Op.{Op}
 use Rattle.dml_types.specs.declared.operations.Op.TheVariants.{CreateDelta}
 use Rattle.dml_types.specs.Chunk.{create_fault, create_staged}
 use Rattle.dml_types.specs.Job.{op_of}
-use Rattle.dml_types.specs.Refusal.{need, need_of}
+use Rattle.dml_types.specs.Refusal.{need, operation_need}
 use Rattle.dml_effect.specs.Chunks.{IsCreateFrom}
 use Rattle.dml_effect.proofs.CreateJoinLemmas.{once_yields_create}
 use Rattle.dml_effect.proofs.carrying.create_in.Goals as goal
 
 -- the staging that a create needs
 need_of_create : (job : Job) → op_of job ≡ Some CreateDelta → need job ≡ 10 * (job.size / 8)
-need_of_create job operation = ap (λ (o : Option Op). unwrap_or (option_map (λ op. need_of op job) o) 0) operation
+need_of_create job operation = ap (λ (o : Option Op). unwrap_or (option_map (λ op. operation_need op job) o) 0) operation
 
 pub scan_create-piece-requires-clause-fits : goal.scan_create-piece-requires-clause-fits
 scan_create-piece-requires-clause-fits c =

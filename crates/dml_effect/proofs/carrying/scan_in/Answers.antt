@@ -2,11 +2,11 @@ use Rattle.std.proofs.Common.{◌≡◌, ◌⊎◌, ⊎_elim, Some, refl}
 use Rattle.dml_types.specs.declared.jobs.Job.{Job}
 use Rattle.dml_types.specs.declared.operations.Op.TheVariants.{ApplyDelta, Compare, ComparePattern, CreateDelta, Fill}
 use Rattle.dml_types.specs.Job.{op_of}
-use Rattle.dml_effect.specs.Chunks.{IsScanned}
+use Rattle.dml_effect.specs.Chunks.{GoesByOffsets}
 use Rattle.dml_effect.proofs.JoinLemmas.{once_yields_scan}
 use Rattle.dml_effect.proofs.carrying.scan_in.Goals as goal
 
-is_scanned : (job : Job) → (op_of job ≡ Some Fill) ⊎ (op_of job ≡ Some Compare) ⊎ (op_of job ≡ Some ComparePattern) → IsScanned job
+is_scanned : (job : Job) → (op_of job ≡ Some Fill) ⊎ (op_of job ≡ Some Compare) ⊎ (op_of job ≡ Some ComparePattern) → GoesByOffsets job
 is_scanned job one = (
   λ (e : op_of job ≡ Some CreateDelta). ⊎_elim (λ is. absurd (cc)) (λ others. ⊎_elim (λ is. absurd (cc)) (λ is. absurd (cc)) others) one,
   λ (e : op_of job ≡ Some ApplyDelta). ⊎_elim (λ is. absurd (cc)) (λ others. ⊎_elim (λ is. absurd (cc)) (λ is. absurd (cc)) others) one,

@@ -27,7 +27,7 @@ pub returns-then-room-count : goal.returns-then-room-count
 returns-then-room-count c =
     let limits = create_limits c.args.job.now c.job-checked.ensures.checked c.requires.operation in
     c.crowded.ensures
-    ∙ (ap (crowded c.args.image.now c.args.job.now c.args.room) c.number_at.ensures
+    ∙ (ap (crowded c.args.image.now c.args.job.now c.args.room) c.block_number.ensures
     ∙ crowded_is c.args.image.now c.args.job.now c.pages-pages.ensures.memory.whole limits c.args.entries.now c.requires.entries (length c.args.entries.now / 10) c.args.room refl c.requires.room (omega arith))
 
 pub returns-else-room-count : goal.returns-else-room-count

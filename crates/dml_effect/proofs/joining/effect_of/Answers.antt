@@ -7,13 +7,13 @@ use Rattle.dml_types.specs.declared.records.Record.{Record}
 use Rattle.dml_types.specs.Job.{op_of}
 use Rattle.dml_types.specs.Memory.{Memory, Put}
 use Rattle.dml_types.specs.Effect.{Effect}
-use Rattle.dml_types.specs.Bytewise.{direction_by}
+use Rattle.dml_types.specs.Bytewise.{operation_direction}
 use Rattle.dml_types.specs.Chunk.{scan_done, scan_found, scan_staged}
 use Rattle.dml_scan.specs.declared.scans.ScanPiece.{ScanPiece}
 use Rattle.dml_scan.proofs.ReachLemmas.{scan_done_within, found_none}
 use Rattle.dml_effect.specs.Chunks.{IsScanFrom, IsWholeScan, scan_size}
 use Rattle.dml_effect.specs.Effects.{are_present, some_puts}
-use Rattle.dml_effect.specs.Joined.{scanned_record, puts_by}
+use Rattle.dml_effect.specs.Joined.{scanned_record, scanned_puts}
 use Rattle.dml_effect.proofs.WholeLemmas.{puts_none, record_of_step, puts_of_effect, scanned_count, effect_of_checked, image_of_puts, scan_size_within}
 use Rattle.dml_effect.proofs.joining.effect_of.Goals as goal
 
@@ -37,26 +37,26 @@ empty_at memory job op whole operation is at =
     ∙ subst (λ (w : Option ScanPiece). MatchOption w (scan_size is.op job ≡ 0) (λ p. IsScanFrom is.op memory job 0 p × (p.to ≡ scan_size is.op job))) at is.value
 
 -- the record and the puts that the code made
-answer_at : (memory : Memory) (job given : Job) (op : Op) (direction : Direction) (found : Found) (answer : Record) → given ≡ job → direction ≡ direction_by op job → found ≡ scan_found op memory job 0 (scan_size op job)
-    → answer ≡ scanned_record op given direction found → answer ≡ scanned_record op job (direction_by op job) (scan_found op memory job 0 (scan_size op job))
+answer_at : (memory : Memory) (job given : Job) (op : Op) (direction : Direction) (found : Found) (answer : Record) → given ≡ job → direction ≡ operation_direction op job → found ≡ scan_found op memory job 0 (scan_size op job)
+    → answer ≡ scanned_record op given direction found → answer ≡ scanned_record op job (operation_direction op job) (scan_found op memory job 0 (scan_size op job))
 answer_at memory job given op direction found answer same way is told =
-    told ∙ (ap₂ (λ (j : Job) (d : Direction). scanned_record op j d found) same way ∙ ap (scanned_record op job (direction_by op job)) is)
+    told ∙ (ap₂ (λ (j : Job) (d : Direction). scanned_record op j d found) same way ∙ ap (scanned_record op job (operation_direction op job)) is)
 
-count_at : (memory : Memory) (job given : Job) (op : Op) (direction : Direction) (found : Found) (answer : Record) → given ≡ job → direction ≡ direction_by op job → found ≡ scan_found op memory job 0 (scan_size op job)
+count_at : (memory : Memory) (job given : Job) (op : Op) (direction : Direction) (found : Found) (answer : Record) → given ≡ job → direction ≡ operation_direction op job → found ≡ scan_found op memory job 0 (scan_size op job)
     → answer ≡ scanned_record op given direction found → answer.completed ≡ scan_done op memory job 0 (scan_size op job)
 count_at memory job given op direction found answer same way is told =
-    ap (λ (r : Record). r.completed) (answer_at memory job given op direction found answer same way is told) ∙ scanned_count op memory job (direction_by op job)
+    ap (λ (r : Record). r.completed) (answer_at memory job given op direction found answer same way is told) ∙ scanned_count op memory job (operation_direction op job)
 
 puts_at : (memory : Memory) (job given : Job) (op : Op) (direction : Direction) (piece : ScanPiece) (answer : Record) (puts : List Put)
     → (piece.found ≡ scan_found op memory job 0 (scan_size op job)) × (piece.staged.bytes ≡ scan_staged op memory job 0 (scan_size op job))
-    → given ≡ job → direction ≡ direction_by op job → answer ≡ scanned_record op given direction piece.found → puts ≡ puts_by op given direction answer.completed piece.staged.bytes
-    → puts ≡ puts_by op job (direction_by op job) (scan_done op memory job 0 (scan_size op job)) (scan_staged op memory job 0 (scan_size op job))
+    → given ≡ job → direction ≡ operation_direction op job → answer ≡ scanned_record op given direction piece.found → puts ≡ scanned_puts op given direction answer.completed piece.staged.bytes
+    → puts ≡ scanned_puts op job (operation_direction op job) (scan_done op memory job 0 (scan_size op job)) (scan_staged op memory job 0 (scan_size op job))
 puts_at memory job given op direction piece answer puts value same way told puts_told =
     let count = count_at memory job given op direction piece.found answer same way value.0 told in
-    puts_told ∙ (ap₂ (λ (j : Job) (d : Direction). puts_by op j d answer.completed piece.staged.bytes) same way ∙ ap₂ (puts_by op job (direction_by op job)) count value.1)
+    puts_told ∙ (ap₂ (λ (j : Job) (d : Direction). scanned_puts op j d answer.completed piece.staged.bytes) same way ∙ ap₂ (scanned_puts op job (operation_direction op job)) count value.1)
 
-pub puts_by-puts-requires-clause-within : goal.puts_by-puts-requires-clause-within
-puts_by-puts-requires-clause-within c =
+pub scanned_puts-puts-requires-clause-within : goal.scanned_puts-puts-requires-clause-within
+scanned_puts-puts-requires-clause-within c =
     let job = c.args.job.now in
     let op = c.op-op.result in
     let operation = c.op-op.ensures.rules.operation in
@@ -74,9 +74,9 @@ returns-in-None-clause-answer c =
     answer_at c.args.image.now job c.job-job.result.now op c.args.direction _ c.scanned_record.result c.job-job.ensures.job (c.requires.direction op operation) (found_none op c.args.image.now job 0 (scan_size op job) (omega arith)) c.scanned_record.ensures
     ∙ record_of_step c.args.image.now job op operation c.requires.operation c.job-job.ensures.checked
 
-none_put : (memory : Memory) (job : Job) (op : Op) → scan_size op job ≡ 0 → puts_by op job (direction_by op job) (scan_done op memory job 0 (scan_size op job)) (scan_staged op memory job 0 (scan_size op job)) ≡ []
+none_put : (memory : Memory) (job : Job) (op : Op) → scan_size op job ≡ 0 → scanned_puts op job (operation_direction op job) (scan_done op memory job 0 (scan_size op job)) (scan_staged op memory job 0 (scan_size op job)) ≡ []
 none_put memory job op none =
-    puts_none op job (direction_by op job) _ _ (omega (arith, none, scan_done_within op memory job 0 (scan_size op job)))
+    puts_none op job (operation_direction op job) _ _ (omega (arith, none, scan_done_within op memory job 0 (scan_size op job)))
 
 pub returns-in-None-clause-puts : goal.returns-in-None-clause-puts
 returns-in-None-clause-puts c =
@@ -108,7 +108,7 @@ returns-in-Some-clause-puts c =
     let op = c.op-op.result in
     let operation = c.op-op.ensures.rules.operation in
     let value = value_at memory job op c.args.whole c.in-Some.piece operation c.requires.whole c.in-Some.is in
-    puts_at memory job c.job-job.result.now op c.args.direction c.in-Some.piece c.scanned_record-answer.result _ value c.job-job.ensures.job (c.requires.direction op operation) c.scanned_record-answer.ensures c.puts_by-puts.ensures
+    puts_at memory job c.job-job.result.now op c.args.direction c.in-Some.piece c.scanned_record-answer.result _ value c.job-job.ensures.job (c.requires.direction op operation) c.scanned_record-answer.ensures c.scanned_puts-puts.ensures
     ∙ ((puts_of_effect memory job op operation c.requires.operation c.pages-pages.ensures.memory.whole).same
     ∙ ap (λ (e : Effect). some_puts e.puts) (effect_of_checked memory job op operation c.job-job.ensures.checked))
 
@@ -122,6 +122,6 @@ returns-in-Some-clause-present c =
     let op = c.op-op.result in
     let operation = c.op-op.ensures.rules.operation in
     let value = value_at memory job op c.args.whole c.in-Some.piece operation c.requires.whole c.in-Some.is in
-    let puts = puts_at memory job c.job-job.result.now op c.args.direction c.in-Some.piece c.scanned_record-answer.result _ value c.job-job.ensures.job (c.requires.direction op operation) c.scanned_record-answer.ensures c.puts_by-puts.ensures in
+    let puts = puts_at memory job c.job-job.result.now op c.args.direction c.in-Some.piece c.scanned_record-answer.result _ value c.job-job.ensures.job (c.requires.direction op operation) c.scanned_record-answer.ensures c.scanned_puts-puts.ensures in
     ap (are_present memory) puts
     ∙ (puts_of_effect memory job op operation c.requires.operation c.pages-pages.ensures.memory.whole).present

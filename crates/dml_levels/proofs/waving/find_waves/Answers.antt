@@ -11,4 +11,5 @@ loop-level-preserved c =
           ∙ (ap (λ front. front ++ waves_at fits c.args.levels.now c.loop-level.level) c.loop-level.invariant.0
           ∙ sym (waves_more fits c.args.levels.now c.loop-level.level)),
       c.in_ok-cut_level.ensures.fit,
+      c.in_ok-cut_level.ensures.empty,
     )

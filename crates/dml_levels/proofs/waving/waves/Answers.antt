@@ -1,5 +1,5 @@
 use Rattle.std.proofs.Common.{List, All, length, ap, sym, subst, ◌∙◌, ℕ}
-use Rattle.dml_types.specs.Conflict.{clash_of}
+use Rattle.dml_types.specs.Conflict.{fenced_clash}
 use Rattle.dml_order.specs.Waves.{AreFull, IsOfOneLevel, Rises, joined}
 use Rattle.dml_order.proofs.LevelLemmas.{length_levels_of}
 use Rattle.dml_order.proofs.WaveFacts.{waves_rise, waves_of_one_level, waves_full}
@@ -9,7 +9,7 @@ use Rattle.dml_levels.proofs.waving.waves.Goals as goal
 
 pub find_waves-requires-clause-levels : goal.find_waves-requires-clause-levels
 find_waves-requires-clause-levels c =
-    ap length c.requires.levels ∙ length_levels_of (clash_of c.args.jobs.now) (length c.args.jobs.now)
+    ap length c.requires.levels ∙ length_levels_of (fenced_clash c.args.jobs.now) (length c.args.jobs.now)
 
 pub returns-in-Ok-clause-each_once : goal.returns-in-Ok-clause-each_once
 returns-in-Ok-clause-each_once c =

@@ -33,7 +33,3 @@ returns-clause-levels_of_four_jobs c = refl
 pub returns-clause-flags_before_size : goal.returns-clause-flags_before_size
 unfolding row.flags_before_size first overwrite moved effect
 returns-clause-flags_before_size c = (refl, (refl, refl))
-
-pub returns-clause-fence_in_batch : goal.returns-clause-fence_in_batch
-unfolding row.fence_in_batch effect
-returns-clause-fence_in_batch c = (refl, refl)

@@ -1,41 +1,68 @@
-use Rattle.std.proofs.Common.{ℕ, Option, sym, ap, subst, ◌∙◌}
-use Rattle.std.specs.Io.KnownBytes.{Appends}
-use Rattle.dml_script.specs.declared.items.Item.{Item}
-use Rattle.dml_script.specs.Run.{Session, after_line, answer_from, item_of, added_text}
-use Rattle.dml_script.specs.Watching.{inner_of, AppendsFront}
-use Rattle.dml_script.proofs.BytesLemmas.{written_more, written_into}
-use Rattle.dml_script.proofs.RunLemmas.{Turn, on_error, line_taken}
+use Rattle.std.proofs.Common.{Option, List, ap, subst, ◌∷◌}
+use Rattle.dml_grammar.specs.declared.lines.Line.{Line}
+use Rattle.dml_script.specs.Run.{answer_of, lines_from}
+use Rattle.dml_script.specs.Runnable.{MayCome}
+use Rattle.dml_script.specs.Watching.{inner_of, IsWritten}
+use Rattle.dml_script.proofs.BytesLemmas.{on_success, written_all, written_kept, written_on, written_start, written_toward}
+use Rattle.dml_script.proofs.ListLemmas.{next_lines}
+use Rattle.dml_script.proofs.RunLemmas.{on_error}
 use Rattle.dml_script.proofs.running.answer_lines.Goals as goal
 
-pub returns-in_err-write_item-clause-front : goal.returns-in_err-write_item-clause-front
-returns-in_err-write_item-clause-front g c =
-    let before = g.W.Write.contents (inner_of c.loop-lines.writer) in
-    let now = g.W.Write.contents (inner_of c.write_item.new.writer) in
-    let size = c.args.session.staging in
-    let shown = item_of c.loop-lines.session.staging c.loop-lines.session.session c.in-Some.line in
-    let same = ap (λ (staging : ℕ). item_of staging c.loop-lines.session.session c.in-Some.line) c.loop-lines.invariant.staging in
-    let turn = line_taken size _ _ c.in-Some.line _ _ _ _ _ c.in-Some.is c.in_ok-line.ensures.line c.loop-lines.invariant.turn in
-    let front : AppendsFront before now (added_text (item_of size c.loop-lines.session.session c.in-Some.line)) =
-    subst (λ (item : Option Item). AppendsFront before now (added_text item)) (◌∙◌ {b = shown} c.in_ok-item.ensures.item same) c.in_err-write_item.ensures.front in
-    on_error _ _ (written_into _ _ _ _ _ _ turn.written front)
-
-pub loop-lines-preserved : goal.loop-lines-preserved
-loop-lines-preserved g c =
-    let rest = c.next_line.new.self in
-    let old = g.W.Write.contents (inner_of c.args.writer.now) in
-    let before = g.W.Write.contents (inner_of c.loop-lines.writer) in
-    let now = g.W.Write.contents (inner_of c.write_item.new.writer) in
-    let size = c.args.session.staging in
-    let whole = answer_from size c.args.session.session c.args.lines in
-    let same = ap (λ (staging : ℕ). item_of staging c.loop-lines.session.session c.in-Some.line) c.loop-lines.invariant.staging in
-    let after = ap (λ (staging : ℕ). after_line staging c.loop-lines.session.session c.in-Some.line) c.loop-lines.invariant.staging in
-    let turn = line_taken size _ _ c.in-Some.line _ rest _ _ _ c.in-Some.is c.in_ok-line.ensures.line c.loop-lines.invariant.turn in
-    let text : Appends before now (added_text (item_of size c.loop-lines.session.session c.in-Some.line)) =
-    subst (λ (item : Option Item). Appends before now (added_text item)) (c.in_ok-item.ensures.item ∙ same) c.in_ok-write_item.ensures.ok in
+pub loop-ahead-init : goal.loop-ahead-init
+loop-ahead-init g c =
+    let before = g.W.Write.contents (inner_of c.args.writer.now) in
+    let whole = answer_of c.args.session c.args.lines in
+    let same = next_lines c.in_ok-ahead.ahead c.args.lines c.next_line.new.self c.in_ok-ahead.ensures.line in
     record {
-      staging = c.take.ensures.staging ∙ c.loop-lines.invariant.staging;
-      passed = c.in_ok-write_item.ensures.passed (λ e. cc);
-      turn =
-          subst (λ (session : Session). Turn size session rest old now whole) (sym (c.in_ok-item.ensures.after ∙ after))
-          (record { fits = turn.fits; counted = turn.counted; written = written_more _ _ _ _ _ _ turn.written text });
+      passed = c.requires.writer;
+      come = subst (λ (lines : List Line). MayCome c.args.session lines) same c.requires.lines;
+      written = subst (λ (lines : List Line). IsWritten before before (answer_of c.args.session lines) whole) same (written_start before whole);
     }
+
+pub returns-in_err-ahead-2-clause-front : goal.returns-in_err-ahead-2-clause-front
+returns-in_err-ahead-2-clause-front g c =
+    let before = g.W.Write.contents (inner_of c.args.writer.now) in
+    let between = g.W.Write.contents (inner_of c.loop-ahead.writer) in
+    let now = g.W.Write.contents (inner_of c.answer_line.new.writer) in
+    let session = c.loop-ahead.session in
+    let whole = answer_of c.args.session c.args.lines in
+    let left = c.in-Some.line ∷ c.loop-ahead.lines in
+    let same = ap (λ (ahead : Option Line). lines_from ahead c.loop-ahead.lines) c.in-Some.is in
+    on_error _ _
+    (written_toward before between now (answer_of session left) whole
+    (subst (λ (lines : List Line). IsWritten before between (answer_of session lines) whole) same c.loop-ahead.invariant.written)
+    c.in_err-ahead-2.ensures.front)
+
+pub loop-ahead-preserved : goal.loop-ahead-preserved
+loop-ahead-preserved g c =
+    let before = g.W.Write.contents (inner_of c.args.writer.now) in
+    let between = g.W.Write.contents (inner_of c.loop-ahead.writer) in
+    let now = g.W.Write.contents (inner_of c.answer_line.new.writer) in
+    let session = c.loop-ahead.session in
+    let whole = answer_of c.args.session c.args.lines in
+    let left = c.in-Some.line ∷ c.loop-ahead.lines in
+    let same = ap (λ (ahead : Option Line). lines_from ahead c.loop-ahead.lines) c.in-Some.is in
+    record {
+      passed = c.in_ok-ahead-2.ensures.passed (λ e. cc);
+      come = c.in_ok-ahead-2.ensures.lines;
+      written =
+          written_on before between now (answer_of session left) _ whole
+          (subst (λ (lines : List Line). IsWritten before between (answer_of session lines) whole) same c.loop-ahead.invariant.written)
+          c.in_ok-ahead-2.ensures.written;
+    }
+
+pub returns-clause-ok : goal.returns-clause-ok
+returns-clause-ok g c =
+    let before = g.W.Write.contents (inner_of c.args.writer.now) in
+    let between = g.W.Write.contents (inner_of c.loop-ahead.writer) in
+    let now = g.W.Write.contents (inner_of c.flush.new.writer) in
+    let whole = answer_of c.args.session c.args.lines in
+    let none = ap (λ (ahead : Option Line). answer_of c.loop-ahead.session (lines_from ahead c.loop-ahead.lines)) c.in_default.is in
+    on_success _ _ (written_all before between now _ whole c.loop-ahead.invariant.written none c.flush.ensures.same)
+
+pub returns-clause-front : goal.returns-clause-front
+returns-clause-front g c =
+    let before = g.W.Write.contents (inner_of c.args.writer.now) in
+    let between = g.W.Write.contents (inner_of c.loop-ahead.writer) in
+    let now = g.W.Write.contents (inner_of c.flush.new.writer) in
+    on_error _ _ (written_kept before between now _ _ c.loop-ahead.invariant.written c.flush.ensures.same)

@@ -1,6 +1,5 @@
 use Rattle.std.proofs.Common.{◌≡◌, false, length}
-use Rattle.dml_script.specs.Watching.{inner_of, has_failed}
-use Rattle.dml_script.proofs.BytesLemmas.{IsWritten}
+use Rattle.dml_script.specs.Watching.{inner_of, has_failed, IsWritten}
 use Rattle.dml_script.proofs.writing.write_all.Given as goal
 
 abbrev pub invariant-loop-left : goal.invariant-loop-left

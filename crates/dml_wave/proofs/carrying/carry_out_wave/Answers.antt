@@ -4,7 +4,8 @@ use Rattle.std.proofs.lemmas.List.Elements.{All-filter}
 use Rattle.dml_levels.specs.Waves.{job_at}
 use Rattle.dml_desc.specs.Checked.{operation_of}
 use Rattle.dml_pool.specs.declared.tasks.Outcome.{Outcome}
-use Rattle.dml_wave.specs.Effects.{HoldWave, progress}
+use Rattle.dml_levels.specs.Laws.{begun}
+use Rattle.dml_wave.specs.Effects.{HoldWave}
 use Rattle.dml_wave.specs.Waves.{busy, is_busy}
 use Rattle.dml_wave.proofs.CommitLemmas.{busy_apart, busy_enough, committed_all, effects_present, effects_within}
 use Rattle.dml_wave.proofs.ValueLemmas.{values_in, wave_held}
@@ -43,5 +44,5 @@ returns-clause-done g c =
     let wave = c.args.wave.now in
     let staging = c.args.settings.now.staging in
     c.commit_all.ensures.done
-    ∙ committed_all jobs staging (busy jobs wave) c.in_ok-effects.effects.items (progress c.args.image.now c.args.records.now) c.pages-pages.ensures.memory.whole
+    ∙ committed_all jobs staging (busy jobs wave) c.in_ok-effects.effects.items (begun c.args.image.now c.args.records.now) c.pages-pages.ensures.memory.whole
     (busy_apart jobs staging wave c.requires.apart) (busy_enough jobs staging wave c.requires.small.needs) c.in_ok-effects.ensures

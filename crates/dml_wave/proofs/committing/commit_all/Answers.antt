@@ -4,9 +4,9 @@ use Rattle.std.proofs.lemmas.List.{length-set}
 use Rattle.std.proofs.lemmas.List.Elements.{All-tail}
 use Rattle.dml_types.specs.Memory.{Memory, puts_made}
 use Rattle.dml_effect.specs.Effects.{are_present}
-use Rattle.dml_levels.specs.Laws.{Progress}
+use Rattle.dml_levels.specs.Laws.{Progress, begun}
 use Rattle.dml_wave.specs.declared.effects.JobEffect.{JobEffect}
-use Rattle.dml_wave.specs.Effects.{committed, progress}
+use Rattle.dml_wave.specs.Effects.{committed}
 use Rattle.dml_wave.proofs.CommitLemmas.{all_present_after}
 use Rattle.dml_wave.proofs.committing.commit_all.Goals as goal
 
@@ -16,7 +16,7 @@ loop-place-preserved c =
     let records = c.loop-place.records in
     let done = c.in-Some.field-0 in
     let rest = c.next.new.self.rest.items in
-    let now = progress image records in
+    let now = begun image records in
     let split : c.loop-place.place-iterator.rest.items ≡ done ∷ rest = c.in-Some.ensures.steps.0 in
     let answer : c.commit.result ≡ done.effect.answer = cc in
     let put : c.commit.new.image ≡ puts_made image done.effect.puts = cc in
@@ -25,8 +25,8 @@ loop-place-preserved c =
     subst (λ (l : List JobEffect). All (λ d. IsTrue (are_present image d.effect.puts)) l) split c.loop-place.invariant.present in
     let inside : All (λ d. d.place < length records) (done ∷ rest) =
     subst (λ (l : List JobEffect). All (λ d. d.place < length records) l) split c.loop-place.invariant.places in
-    let step : progress c.commit.new.image (set records done.place c.commit.result) ≡ committed now done =
-    ap₂ progress put (ap (set records done.place) answer) in
+    let step : begun c.commit.new.image (set records done.place c.commit.result) ≡ committed now done =
+    ap₂ begun put (ap (set records done.place) answer) in
     record {
       can = tt;
       ends = tt;

@@ -1,10 +1,16 @@
-use Rattle.std.proofs.Common.{◌≡◌, ◌+◌, ◌<◌, min, ap, List, arith, subst, sym, ◌∙◌}
+use Rattle.std.proofs.Common.{◌≡◌, ◌+◌, ◌<◌, min, ap, refl, List, arith, subst, sym, ◌∙◌}
 use Rattle.dml_levels.specs.Tasks.{task_count}
 use Rattle.dml_pool.specs.declared.tasks.Task.{Task}
 use Rattle.dml_pool.specs.Tasks.{units}
 use Rattle.dml_wave.specs.Tasks.{chunk_units}
-use Rattle.dml_wave.proofs.Cuts.{IsCutUpTo, cut_more, cut_all}
+use Rattle.dml_wave.proofs.Cuts.{IsCutUpTo, cut_none, cut_more, cut_all}
 use Rattle.dml_wave.proofs.cutting.cut_job.Goals as goal
+
+pub loop-init : goal.loop-init
+loop-init c = record {
+  cut = cut_none c.op-op.result c.args.job.now c.args.chunk 0 c.args.room c.args.tasks.now.items refl c.requires.empty;
+  capacity = refl;
+}
 
 pub loop-preserved : goal.loop-preserved
 loop-preserved c =

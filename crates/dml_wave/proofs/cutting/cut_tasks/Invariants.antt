@@ -1,13 +1,13 @@
 use Rattle.std.proofs.Common.{◌≡◌, ◌≤◌, [], All, length, take, drop, vec_capacity}
 use Rattle.dml_levels.specs.Waves.{needs_of, tasks_of}
 use Rattle.dml_pool.specs.Tasks.{IsRunnable}
-use Rattle.dml_wave.specs.Tasks.{AreTasks}
+use Rattle.dml_wave.specs.Tasks.{AreWaveTasks}
 use Rattle.dml_wave.proofs.cutting.cut_tasks.Given as goal
 
 abbrev pub invariant-loop-place : goal.invariant-loop-place
 invariant-loop-place l =
     record {
-      tasks : AreTasks l.jobs l.chunk (take l.place-index l.wave) l.tasks.items;
+      tasks : AreWaveTasks l.jobs l.chunk (take l.place-index l.wave) l.tasks.items;
       runnable : All IsRunnable l.tasks.items;
       count : length l.tasks.items ≡ tasks_of l.jobs l.chunk (take l.place-index l.wave);
       empty : l.room.bytes ≡ [];

@@ -9,3 +9,4 @@ invariant-loop-place g l =
     (run_all after (begun l.self.image l.records) (drop l.place-index l.places)
     ≡ run_all after (begun l.initial.self.image l.initial.records) l.places)
     × (l.self.settings ≡ l.initial.self.settings)
+    × (l.self.watched ≡ l.initial.self.watched)

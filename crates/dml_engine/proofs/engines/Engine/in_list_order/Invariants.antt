@@ -9,3 +9,4 @@ invariant-loop-i g l =
     × (take l.i l.records ++ records_of l.self.image (drop l.i l.jobs) staging
     ≡ records_of l.initial.self.image l.jobs staging)
     × (l.self.settings ≡ l.initial.self.settings)
+    × (l.self.watched ≡ l.initial.self.watched)

@@ -19,17 +19,17 @@ loop-wave-preserved g c =
     let below : at < length waves = omega arith in
     let wave = c.wave-item.result in
     let now = begun c.loop-wave.self.image c.loop-wave.records in
-    let next = begun c.carry_out_wave.new.self.image c.carry_out_wave.new.records in
+    let next = begun c.next_wave-alone.new.self.image c.next_wave-alone.new.records in
     let same_settings = c.loop-wave.invariant.2 in
     let same_wave : c.deref.result.now ≡ wave = c.deref.ensures.value ∙ c.wave.view_is in
     let done : next ≡ run_all after now wave =
-    c.carry_out_wave.ensures.progress
+    c.next_wave-alone.ensures.done
     ∙ (ap (λ (settings : Settings). run_all (carried jobs settings.staging) now c.deref.result.now) same_settings
     ∙ ap (run_all after now) same_wave) in
     let checked = c.as_slice.result.now in
     let settings = c.settings-settings.result in
     let all : All (IsReady checked settings.staging settings.chunk) waves =
-    subst (All (IsReady checked settings.staging settings.chunk)) (sym c.deref-wave-items.ensures.value) c.in-Ok-find_waves.ensures.ready in
+    subst (All (IsReady checked settings.staging settings.chunk)) (sym c.deref-wave-items.ensures.value) c.in-Ok-plan_waves.ensures.ready in
     let ready : IsReady checked settings.staging settings.chunk wave =
     subst (IsReady checked settings.staging settings.chunk) (sym c.wave-item.is) (all at wave below) in
     let size : length checked ≡ length jobs =
@@ -37,7 +37,8 @@ loop-wave-preserved g c =
     let places = subst (λ n. All (λ i. i < n) wave) size ready.places in (
       wave_done after waves at wave now next (begun c.args.self.now.image c.open_all.new.records) below c.wave-item.is done c.loop-wave.invariant.0,
       subst (λ (state : Progress). AreOpened jobs staging state.records) (sym done) (opened_after jobs staging wave now c.loop-wave.invariant.1 places),
-      c.carry_out_wave.ensures.settings ∙ same_settings,
+      c.next_wave-alone.ensures.settings ∙ same_settings,
+      c.next_wave-alone.ensures.watched ∙ c.loop-wave.invariant.3,
     )
 
 pub returns-clause-image : goal.returns-clause-image
@@ -54,9 +55,9 @@ returns-clause-image g c =
     ∙ (c.in-Ok.ensures.checked
     ∙ ap (λ (settings : Settings). map (unless_refused settings.staging) jobs) c.settings-settings.ensures.value) in
     let given =
-    waves_give c.law_of_waves.ensures.in_order c.law_of_conflicts.ensures.without_refused memory jobs checked staging settings.staging
+    waves_give c.law_of_waves.ensures.in_order c.law_of_conflicts.ensures.without_refused c.law_of_fences.ensures.only_add memory jobs checked staging settings.staging
     settings.chunk c.open_all.new.records waves whole c.in-Ok.ensures.opened.size same
-    (c.deref-wave-items.ensures.value ∙ c.in-Ok-find_waves.ensures.cut) in
+    (c.deref-wave-items.ensures.value ∙ c.in-Ok-plan_waves.ensures.cut) in
     let past : length waves ≤ c.loop-wave.wave-index = omega arith in
     let end : begun c.loop-wave.self.image c.loop-wave.records ≡ in_list_order memory jobs staging =
     waves_done (carried jobs staging) waves c.loop-wave.wave-index (begun c.loop-wave.self.image c.loop-wave.records)
@@ -77,9 +78,9 @@ returns-clause-records g c =
     ∙ (c.in-Ok.ensures.checked
     ∙ ap (λ (settings : Settings). map (unless_refused settings.staging) jobs) c.settings-settings.ensures.value) in
     let given =
-    waves_give c.law_of_waves.ensures.in_order c.law_of_conflicts.ensures.without_refused memory jobs checked staging settings.staging
+    waves_give c.law_of_waves.ensures.in_order c.law_of_conflicts.ensures.without_refused c.law_of_fences.ensures.only_add memory jobs checked staging settings.staging
     settings.chunk c.open_all.new.records waves whole c.in-Ok.ensures.opened.size same
-    (c.deref-wave-items.ensures.value ∙ c.in-Ok-find_waves.ensures.cut) in
+    (c.deref-wave-items.ensures.value ∙ c.in-Ok-plan_waves.ensures.cut) in
     let past : length waves ≤ c.loop-wave.wave-index = omega arith in
     let end : begun c.loop-wave.self.image c.loop-wave.records ≡ in_list_order memory jobs staging =
     waves_done (carried jobs staging) waves c.loop-wave.wave-index (begun c.loop-wave.self.image c.loop-wave.records)

@@ -13,3 +13,4 @@ invariant-loop-wave g l =
     ≡ run_all after (begun l.initial.self.image l.initial.records) (joined l.wave-items))
     × AreOpened l.jobs staging l.records
     × (l.self.settings ≡ l.initial.self.settings)
+    × (l.self.watched ≡ l.initial.self.watched)

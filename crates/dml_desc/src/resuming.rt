@@ -1,0 +1,82 @@
+ghost use Rattle.std.specs.Prelude.{◌≡◌, ◌+◌, ◌^◌, nat_lt, if◌then◌else◌, None, Some};
+ghost use Rattle.dml_types.specs.Step as equation;
+
+use dml_types::{Job, Op, Record, Status};
+
+/// The address `k` bytes further on, or None where it is above 2^64 - 1.
+fn advanced(address: u64, k: u32) -> Option<u64>
+    ensures { result ≡ (if nat_lt (address + k) (2 ^ 64) then Some (address + k) else None) }
+{
+    address.checked_add(u64::from(k))
+}
+
+/// The pattern whose byte `k mod 8` comes first.
+fn turned(pattern: u64, k: u32) -> u64
+    ensures { result ≡ equation.turned pattern k }
+{
+    pattern.rotate_right(8 * (k % 8))
+}
+
+/// The job that is left of `job` after a page fault, by the completion record that answered it: what it has still to
+/// do once the page is there. None where the status is another, where all bytes are done, for a no-op, a create, an
+/// apply and an unsupported opcode, and where an address further on would be above 2^64 - 1.
+///
+/// A move with result 1 went backward and keeps its addresses; elsewhere the addresses go on behind the bytes done, and
+/// a pattern is turned to its next byte.
+pub fn rest(job: &Job, answer: &Record) -> Option<Job>
+    ensures { result ≡ equation.rest job.now answer.now }
+{
+    match answer.status {
+        Status::ReadFault | Status::WriteFault => {}
+        _ => return None,
+    }
+    let k = answer.completed;
+    if k >= job.size {
+        return None;
+    }
+    let size = job.size - k;
+    match job.op()? {
+        Op::Move if answer.result == 1 => Some(Job { size, ..*job }),
+        Op::Move | Op::Compare => {
+            let source = advanced(job.source, k)?;
+            let target = advanced(job.target, k)?;
+            Some(Job {
+                source,
+                target,
+                size,
+                ..*job
+            })
+        }
+        Op::Fill => {
+            let target = advanced(job.target, k)?;
+            Some(Job {
+                source: turned(job.source, k),
+                target,
+                size,
+                ..*job
+            })
+        }
+        Op::ComparePattern => {
+            let source = advanced(job.source, k)?;
+            Some(Job {
+                source,
+                target: turned(job.target, k),
+                size,
+                ..*job
+            })
+        }
+        Op::Dualcast => {
+            let source = advanced(job.source, k)?;
+            let target = advanced(job.target, k)?;
+            let extra = advanced(job.extra, k)?;
+            Some(Job {
+                source,
+                target,
+                extra,
+                size,
+                ..*job
+            })
+        }
+        Op::NoOp | Op::CreateDelta | Op::ApplyDelta => None,
+    }
+}

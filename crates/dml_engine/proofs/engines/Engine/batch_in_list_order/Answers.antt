@@ -1,0 +1,35 @@
+use Rattle.std.proofs.Common.{◌≡◌, ◌+◌, ◌<◌, ◌⊎◌, inl, inr, true, false, length, get_or, ap, sym, ◌∙◌, subst, arith, take}
+use Rattle.std.proofs.lemmas.List.{length-set}
+use Rattle.dml_types.specs.declared.jobs.Job.{Job}
+use Rattle.dml_types.specs.declared.limits.Settings.{Settings}
+use Rattle.dml_types.specs.Job.{is_fenced, no_op_job, unfenced}
+use Rattle.dml_types.specs.Step.{have_succeeded, step}
+use Rattle.dml_engine.proofs.BatchLemmas.{carried_one}
+use Rattle.dml_engine.proofs.engines.Engine.batch_in_list_order.Goals as goal
+use Rattle.dml_engine.proofs.engines.Engine.batch_in_list_order.Goals.{else-is_fenced-via-then-is_fenced+else-not-have_succeeded, else-is_fenced-via-else-is_fenced}
+
+pub loop-i-preserved : goal.loop-i-preserved
+loop-i-preserved g c =
+    let jobs = c.args.jobs.now in
+    let i = c.loop-i.i in
+    let now = c.loop-i.self in
+    let records = c.loop-i.records in
+    let known = c.loop-i.invariant in
+    let below : i < length jobs = omega arith in
+    let tested : (is_fenced (get_or jobs i no_op_job) ≡ false) ⊎ (have_succeeded (take i records) ≡ true) =
+    elim c.else-is_fenced.branch [
+      | else-is_fenced-via-then-is_fenced+else-not-have_succeeded w ↦ inr (sym w.have_succeeded.ensures ∙ w.if-not-have_succeeded.false)
+      | else-is_fenced-via-else-is_fenced w ↦ inl (sym c.is_fenced.ensures ∙ w.if-is_fenced.false)
+    ] in
+    let job : c.unfenced.result ≡ unfenced (get_or jobs i no_op_job) = c.unfenced.ensures.job in
+    let image : c.carry_out_alone.new.self.image ≡ (step now.image (unfenced (get_or jobs i no_op_job)) c.args.self.now.settings.staging).0 =
+    c.carry_out_alone.ensures.image
+    ∙ (ap (λ (s : Settings). (step now.image c.unfenced.result s.staging).0) known.2 ∙ ap (λ (j : Job). (step now.image j c.args.self.now.settings.staging).0) job) in
+    let answer : c.carry_out_alone.result ≡ (step now.image (unfenced (get_or jobs i no_op_job)) c.args.self.now.settings.staging).1 =
+    c.carry_out_alone.ensures.answer
+    ∙ (ap (λ (s : Settings). (step now.image c.unfenced.result s.staging).1) known.2 ∙ ap (λ (j : Job). (step now.image j c.args.self.now.settings.staging).1) job) in (
+      carried_one c.args.self.now.image jobs c.args.self.now.settings.staging c.args.records.now c.requires.size i now.image c.carry_out_alone.new.self.image records c.carry_out_alone.result known.0 below tested image answer,
+      length-set records i c.carry_out_alone.result ∙ known.1,
+      c.carry_out_alone.ensures.settings ∙ known.2,
+      c.carry_out_alone.ensures.watched ∙ known.3,
+    )

@@ -1,0 +1,20 @@
+-- How far a batch is carried out.
+use Rattle.std.specs.Prelude.{◌≡◌, ℕ, ◌<◌, ◌≤◌, true, false, List, ◌++◌, length, map, take, drop, slice_index_or}
+use Rattle.dml_types.specs.declared.jobs.Job.{Job}
+use Rattle.dml_types.specs.declared.records.Record.{Record}
+use Rattle.dml_types.specs.Job.{is_fenced, no_op_job, unfenced}
+use Rattle.dml_types.specs.Memory.{Memory}
+use Rattle.dml_types.specs.Step.{ends_before, have_succeeded, memory_after, records_of}
+
+-- the first jobs of a batch are carried out: it ends before none of them, and the other records are as they were
+pub record IsCarried (memory : Memory) (jobs : List Job) (staging : ℕ) (blank : List Record) (done : ℕ) (now : Memory) (written : List Record) : Type 0 where
+  pub within : done ≤ length jobs
+  pub image : now ≡ memory_after memory (take done (map unfenced jobs)) staging
+  pub records : written ≡ records_of memory (take done (map unfenced jobs)) staging ++ drop done blank
+  pub passed : (i : ℕ) → i < done → ends_before jobs (records_of memory (map unfenced jobs) staging) i ≡ false
+
+-- the next job, if there is one, is fenced, and one of those before it has not succeeded
+abbrev pub EndsAt : List Job → ℕ → List Record → Type 0
+EndsAt jobs done records =
+    done < length jobs
+    → (is_fenced (slice_index_or jobs done no_op_job) ≡ true) × (have_succeeded (take done records) ≡ false)

@@ -1,0 +1,236 @@
+//! Fences in batches, at many settings with the same answers. In a list, and in a job by itself, a fence is refused.
+
+use super::rows::settings;
+use super::{USUAL, answer};
+use crate::Engine;
+use dml_image::Image;
+use dml_pool::{Free, Gate};
+use dml_types::{Job, Record, Status};
+use std::alloc::Global;
+use std::process::Abort;
+use std::sync::Wait;
+use std::test::Fail;
+use std::thread::Threads;
+
+/// An image of one page that begins with these bytes, the others being 0.
+fn image(alloc: Global, opening: &[u8]) -> Option<Image<'static>> {
+    let mut page = [0; 4096];
+    for (byte, first) in page.iter_mut().zip(opening) {
+        *byte = *first;
+    }
+    let mut image = Image::new(alloc, 1).ok()?;
+    image.bring(0, &page).ok()?;
+    Some(image)
+}
+
+/// A batch on a page of zeros, what its jobs answer, its own status, how many jobs are carried out, and the first bytes
+/// that it leaves.
+#[derive(Clone, Copy)]
+struct Row<'a> {
+    name: &'a str,
+    jobs: &'a [Job],
+    records: &'a [Record],
+    status: Status,
+    completed: u32,
+    left: &'a [u8],
+}
+
+/// An unsupported opcode with the fence.
+const FENCED_STRANGER: Job = Job {
+    opcode: 0x10,
+    flags: 1,
+    source: 0,
+    target: 0,
+    size: 0,
+    extra: 0,
+    delta_size: 0,
+    expected: 0,
+};
+
+/// The record of an abandoned job.
+fn abandoned() -> Record {
+    answer(Status::Abandoned, 0, 0, 0)
+}
+
+/// Submits a row's batch to an engine.
+fn expect_row<R: Abort + Threads + Wait + Sync, G: Gate + Sync>(
+    rt: &R,
+    alloc: Global,
+    row: &Row,
+    engine: &mut Engine<G>,
+) -> Option<()> {
+    let (own, records) = engine.submit_batch(rt, alloc, row.jobs).ok()?;
+    assert_eq!(rt; records.as_slice(), row.records, "{}", row.name);
+    assert_eq!(rt;
+        (own.status, own.completed),
+        (row.status, row.completed),
+        "{}",
+        row.name
+    );
+    for (place, byte) in row.left.iter().enumerate() {
+        assert_eq!(rt;
+            engine.image().byte(place as u64),
+            Some(*byte),
+            "{}",
+            row.name
+        );
+    }
+    Some(())
+}
+
+/// Expects a row's answers at all settings, with the engine's own gate and with one given.
+fn expect<R: Abort + Threads + Wait + Sync>(rt: &R, alloc: Global, row: &Row) -> Result<(), Fail> {
+    for settings in settings(USUAL.staging) {
+        let Ok(mut own) = Engine::new(alloc, image(alloc, &[]).ok_or("no memory")?, settings) else {
+            return Err("no memory".into());
+        };
+        expect_row(rt, alloc, row, &mut own).ok_or("no memory")?;
+        let Ok(given) = Engine::new(alloc, image(alloc, &[]).ok_or("no memory")?, settings) else {
+            return Err("no memory".into());
+        };
+        expect_row(rt, alloc, row, &mut given.with_gate(Free)).ok_or("no memory")?;
+    }
+    Ok(())
+}
+
+#[test]
+fn fence_in_batch(rt: HostRuntime) -> Result<(), Fail> {
+    let row = Row {
+        name: "fence_in_batch",
+        jobs: &[Job::no_op().with_flags(1)],
+        records: &[answer(Status::Success, 0, 0, 0)],
+        status: Status::Success,
+        completed: 1,
+        left: &[0],
+    };
+    expect(&rt, rt.alloc(), &row)
+}
+
+#[test]
+fn fence_orders(rt: HostRuntime) -> Result<(), Fail> {
+    let row = Row {
+        name: "fence_orders",
+        jobs: &[Job::fill(1, 0, 8), Job::fill(2, 0, 8).with_flags(1)],
+        records: &[answer(Status::Success, 0, 8, 0); 2],
+        status: Status::Success,
+        completed: 2,
+        left: &[2, 0, 0, 0, 0, 0, 0, 0],
+    };
+    expect(&rt, rt.alloc(), &row)
+}
+
+#[test]
+fn fence_abandons(rt: HostRuntime) -> Result<(), Fail> {
+    let mut left = [0; 24];
+    left[0] = 1;
+    let row = Row {
+        name: "fence_abandons",
+        jobs: &[
+            Job::fill(1, 0, 8),
+            Job::fill(1, 4096, 8),
+            Job::fill(2, 8, 8).with_flags(1),
+            Job::fill(3, 16, 8),
+        ],
+        records: &[
+            answer(Status::Success, 0, 8, 0),
+            answer(Status::WriteFault, 0, 0, 4096),
+            abandoned(),
+            abandoned(),
+        ],
+        status: Status::BatchFailed,
+        completed: 2,
+        left: &left,
+    };
+    expect(&rt, rt.alloc(), &row)
+}
+
+#[test]
+fn fence_after_false_predicate(rt: HostRuntime) -> Result<(), Fail> {
+    let row = Row {
+        name: "fence_after_false_predicate",
+        jobs: &[
+            Job::compare(0, 0, 8).with_check(1),
+            Job::no_op().with_flags(1),
+        ],
+        records: &[answer(Status::FalsePredicate, 0, 8, 0), abandoned()],
+        status: Status::BatchFailed,
+        completed: 1,
+        left: &[0],
+    };
+    expect(&rt, rt.alloc(), &row)
+}
+
+#[test]
+fn fence_of_a_bad_job(rt: HostRuntime) -> Result<(), Fail> {
+    let row = Row {
+        name: "refused_fenced_job",
+        jobs: &[Job::fill(1, 0, 8), FENCED_STRANGER, Job::fill(2, 8, 8)],
+        records: &[
+            answer(Status::Success, 0, 8, 0),
+            answer(Status::BadOpcode, 0, 0, 0),
+            answer(Status::Success, 0, 8, 0),
+        ],
+        status: Status::BatchFailed,
+        completed: 3,
+        left: &[1, 0, 0, 0, 0, 0, 0, 0, 2],
+    };
+    expect(&rt, rt.alloc(), &row)
+}
+
+#[test]
+fn fence_of_a_bad_job_after_a_fault(rt: HostRuntime) -> Result<(), Fail> {
+    let row = Row {
+        name: "refused_fenced_job_after_fault",
+        jobs: &[Job::fill(1, 4096, 8), FENCED_STRANGER, Job::fill(2, 8, 8)],
+        records: &[
+            answer(Status::WriteFault, 0, 0, 4096),
+            abandoned(),
+            abandoned(),
+        ],
+        status: Status::BatchFailed,
+        completed: 1,
+        left: &[0; 16],
+    };
+    expect(&rt, rt.alloc(), &row)
+}
+
+/// A fault two fences ago would have ended the batch there; one behind the last fence ends nothing.
+#[test]
+fn fences_one_after_another(rt: HostRuntime) -> Result<(), Fail> {
+    let row = Row {
+        name: "fences_one_after_another",
+        jobs: &[
+            Job::fill(1, 0, 8).with_flags(1),
+            Job::fill(2, 0, 8).with_flags(1),
+            Job::fill(3, 4096, 8),
+            Job::fill(4, 8, 8),
+        ],
+        records: &[
+            answer(Status::Success, 0, 8, 0),
+            answer(Status::Success, 0, 8, 0),
+            answer(Status::WriteFault, 0, 0, 4096),
+            answer(Status::Success, 0, 8, 0),
+        ],
+        status: Status::BatchFailed,
+        completed: 4,
+        left: &[2, 0, 0, 0, 0, 0, 0, 0, 4],
+    };
+    expect(&rt, rt.alloc(), &row)
+}
+
+/// Outside a batch a fence is refused.
+#[test]
+fn fence_in_list(rt: HostRuntime) -> Result<(), Fail> {
+    let alloc = rt.alloc();
+    let Ok(mut engine) = Engine::new(alloc, image(alloc, &[]).ok_or("no memory")?, USUAL) else {
+        return Err("no memory".into());
+    };
+    let fenced = Job::fill(1, 0, 8).with_flags(1);
+    let refused = answer(Status::BadFlags, 0, 0, 0);
+    assert_eq!(rt; engine.submit(&rt, alloc, fenced), refused);
+    let records = engine.submit_list(&rt, alloc, &[fenced, Job::fill(2, 8, 8)])?;
+    let want = [refused, answer(Status::Success, 0, 8, 0)];
+    assert_eq!(rt; records.as_slice(), want.as_slice());
+    assert_eq!(rt; engine.image().byte(0), Some(0));
+    Ok(())
+}

@@ -1,0 +1,155 @@
+//! Rows: an image, jobs on it, what they answer and what they leave. Each is submitted as a list and as a batch, at
+//! many settings, all with the same answers.
+
+use super::{USUAL, answer};
+use crate::{Engine, SubmitError};
+use dml_image::Image;
+use dml_pool::{Free, Gate};
+use dml_types::{Job, Record, Settings, Status};
+use std::alloc::Global;
+use std::process::Abort;
+use std::sync::Wait;
+use std::test::Fail;
+use std::thread::Threads;
+
+/// A list of jobs on an image of so many pages, with those that are present and bytes that are put into them; what the
+/// jobs and their batch answer, and bytes that they leave.
+#[derive(Clone, Copy)]
+pub(super) struct Row<'a> {
+    pub name: &'a str,
+    pub staging: u32,
+    pub pages: u32,
+    pub present: &'a [u32],
+    pub bytes: &'a [(u64, &'a [u8])],
+    pub jobs: &'a [Job],
+    pub records: &'a [Record],
+    pub status: Status,
+    pub left: &'a [(u64, &'a [u8])],
+}
+
+/// No job on an image of one page of zeros.
+pub(super) fn plain_row(name: &str) -> Row<'_> {
+    Row {
+        name,
+        staging: USUAL.staging,
+        pages: 1,
+        present: &[0],
+        bytes: &[],
+        jobs: &[],
+        records: &[],
+        status: Status::Success,
+        left: &[],
+    }
+}
+
+/// The record of a create or an apply.
+pub(super) fn delta_answer(
+    status: Status,
+    outcome: u8,
+    completed: u32,
+    fault: u64,
+    delta_size: u32,
+) -> Record {
+    Record {
+        delta_size,
+        ..answer(status, outcome, completed, fault)
+    }
+}
+
+/// A page of a row's image.
+fn page_of(row: &Row, page: u32) -> [u8; 4096] {
+    let mut content = [0; 4096];
+    for (addr, bytes) in row.bytes {
+        if *addr / 4096 == u64::from(page) {
+            let at = (*addr % 4096) as usize;
+            for (byte, first) in content[at..].iter_mut().zip(*bytes) {
+                *byte = *first;
+            }
+        }
+    }
+    content
+}
+
+/// A row's image.
+fn image_of(alloc: Global, row: &Row) -> Option<Image<'static>> {
+    let mut image = Image::new(alloc, row.pages).ok()?;
+    for page in row.present {
+        image.bring(*page, &page_of(row, *page)).ok()?;
+    }
+    Some(image)
+}
+
+/// The settings of the rows.
+pub(super) fn settings(staging: u32) -> [Settings; 12] {
+    let mut all = [Settings { staging, ..USUAL }; 12];
+    for (i, settings) in all.iter_mut().enumerate() {
+        settings.chunk = [8, 16, 4096, 1_048_576][i / 3];
+        settings.workers = [1, 2, 16][i % 3];
+    }
+    all
+}
+
+/// Submits the jobs as a list and as a batch, and expects the row's answers.
+fn expect_row<R: Abort + Threads + Wait + Sync, G: Gate + Sync>(
+    rt: &R,
+    alloc: Global,
+    row: &Row,
+    list: &mut Engine<G>,
+    batch: &mut Engine<G>,
+) -> Result<(), SubmitError> {
+    let records = list.submit_list(rt, alloc, row.jobs)?;
+    assert_eq!(rt; records.as_slice(), row.records, "{}", row.name);
+    let (answer, records) = batch.submit_batch(rt, alloc, row.jobs)?;
+    assert_eq!(rt; records.as_slice(), row.records, "{}", row.name);
+    assert_eq!(rt;
+        (answer.status, answer.completed),
+        (row.status, row.jobs.len() as u32),
+        "{}",
+        row.name
+    );
+    expect_left(rt, row, list.image());
+    expect_left(rt, row, batch.image());
+    Ok(())
+}
+
+/// Expects the bytes that a row leaves.
+fn expect_left(rt: &impl Abort, row: &Row, image: &Image) {
+    for (addr, bytes) in row.left {
+        for (i, byte) in bytes.iter().enumerate() {
+            let at = addr.saturating_add(i as u64);
+            assert_eq!(rt; image.byte(at), Some(*byte), "{}: byte {at}", row.name);
+        }
+    }
+}
+
+/// An engine over a row's image.
+fn engine_of(alloc: Global, row: &Row, settings: Settings) -> Option<Engine> {
+    Engine::new(alloc, image_of(alloc, row)?, settings).ok()
+}
+
+/// Expects a row's answers at all settings, with its own gate and with one given.
+fn expect_everywhere<R: Abort + Threads + Wait + Sync>(
+    rt: &R,
+    alloc: Global,
+    row: &Row,
+) -> Option<()> {
+    for settings in settings(row.staging) {
+        let mut list = engine_of(alloc, row, settings)?;
+        let mut batch = engine_of(alloc, row, settings)?;
+        expect_row(rt, alloc, row, &mut list, &mut batch).ok()?;
+        let mut list = engine_of(alloc, row, settings)?.with_gate(Free);
+        let mut batch = engine_of(alloc, row, settings)?.with_gate(Free);
+        expect_row(rt, alloc, row, &mut list, &mut batch).ok()?;
+    }
+    Some(())
+}
+
+/// Expects a row's answers at all settings, as a list and as a batch.
+pub(super) fn expect<R: Abort + Threads + Wait + Sync>(
+    rt: &R,
+    alloc: Global,
+    row: &Row,
+) -> Result<(), Fail> {
+    expect_everywhere(rt, alloc, row).ok_or("no memory")?;
+    Ok(())
+}

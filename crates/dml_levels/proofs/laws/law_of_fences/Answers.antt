@@ -1,0 +1,14 @@
+use Rattle.dml_levels.proofs.FenceLaws.{fences_only_add, fences_part, front_is_fold, waves_before_fence}
+use Rattle.dml_levels.proofs.laws.law_of_fences.Goals as goal
+
+pub returns-clause-only_add : goal.returns-clause-only_add
+returns-clause-only_add c = fences_only_add
+
+pub returns-clause-part : goal.returns-clause-part
+returns-clause-part c = fences_part
+
+pub returns-clause-before : goal.returns-clause-before
+returns-clause-before c = waves_before_fence
+
+pub returns-clause-fold : goal.returns-clause-fold
+returns-clause-fold c = front_is_fold

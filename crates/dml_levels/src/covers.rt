@@ -1,0 +1,129 @@
+ghost use Rattle.std.specs.Prelude.{◌≡◌, ◌≤◌, All, IfOk, false, length, map, min};
+ghost use Rattle.std.specs.List.{list_any, sum_by};
+ghost use Rattle.std.specs.List.Sorted.{IsNonDecreasing};
+ghost use Rattle.dml_types.specs.Job.{is_past};
+ghost use Rattle.dml_levels.specs.Cells.{IsCovered, IsGreatest, IsRaised, cover_of, cover_size, footprint_of, footprint_size, most_counted};
+
+use crate::cells::Cells;
+use crate::ranges::Spans;
+use crate::touching::touches;
+use arrayvec::ArrayVec;
+use dml_desc::Checked;
+use std::alloc::{AllocError, Global};
+use std::marker::Model;
+
+/// The cells of at most two ranges.
+#[derive(Debug, Drop)]
+pub struct Cover {
+    pub list: ArrayVec<Cells, 2>,
+}
+
+impl Model for Cover {
+    ghost use Rattle.std.specs.Prelude.{List};
+    ghost use Rattle.dml_levels.specs.declared.cells.Cells.{Cells};
+
+    ghost Value = { List Cells };
+
+    ghost view = { λ cover. cover.list.items };
+}
+
+impl Cover {
+    /// Of ranges.
+    #[tactic(auto, using(crate::proofs::CoverLemmas::not_past))]
+    fn of(starts: &[u64], spans: &Spans) -> Cover
+        requires sorted { IsNonDecreasing starts.now }
+        requires within { list_any is_past spans.now ≡ false }
+        ensures { result ≡ cover_of starts.now spans.now }
+    {
+        let mut list = ArrayVec::new();
+        for span in spans.list.as_slice() {
+            list.push(Cells::of(starts, span));
+        }
+        Cover { list }
+    }
+
+    /// How many there are, as far as that can be counted.
+    fn size(&self) -> u64
+        ensures { result ≡ min (cover_size self.now) most_counted }
+    {
+        let mut size: u64 = 0;
+        for cells in self.list.as_slice() {
+            size = size.saturating_add(cells.end.saturating_sub(cells.first) as u64);
+        }
+        size
+    }
+
+    /// The greatest height of these cells.
+    pub fn greatest(&self, heights: &[u32]) -> u32
+        requires { All (λ cells. cells.end ≤ length heights.now) self.now }
+        ensures { IsGreatest heights.now (IsCovered self.now) result }
+    {
+        let mut greatest = 0;
+        for cells in self.list.as_slice() {
+            greatest = greatest.max(cells.greatest(heights));
+        }
+        greatest
+    }
+
+    /// Raises these cells to a height, where they stand lower.
+    pub fn raise(&self, heights: &mut [u32], height: u32)
+        requires { All (λ cells. cells.end ≤ length heights.old) self.now }
+        ensures { IsRaised heights.old (IsCovered self.now) height heights.new }
+    {
+        for cells in self.list.as_slice() {
+            cells.raise(heights, height);
+        }
+    }
+}
+
+/// The cells of what a job reads, and of what it writes.
+#[derive(Debug, Drop)]
+pub struct Footprint {
+    pub reads: Cover,
+    pub writes: Cover,
+}
+
+impl Footprint {
+    /// Of a job.
+    pub fn of(starts: &[u64], job: &Checked) -> Footprint
+        requires { IsNonDecreasing starts.now }
+        ensures { result ≡ footprint_of starts.now job.now }
+    {
+        let touched = touches(job);
+        Footprint {
+            reads: Cover::of(starts, &touched.reads),
+            writes: Cover::of(starts, &touched.writes),
+        }
+    }
+}
+
+/// The cells of each job.
+pub fn find_footprints(
+    alloc: Global,
+    starts: &[u64],
+    jobs: &[Checked],
+) -> Result<Vec<Footprint>, AllocError>
+    requires { IsNonDecreasing starts.now }
+    ensures { IfOk result (λ list. list.items ≡ map (footprint_of starts.now) jobs.now) }
+{
+    let mut footprints = Vec::with_capacity(alloc, jobs.len())?;
+    for job in jobs {
+        footprints.push(Footprint::of(starts, job))?;
+    }
+    Ok(footprints)
+}
+
+/// How many cells these jobs cover, each counted as often as it is covered, as far as that can be counted.
+pub fn covered(footprints: &[Footprint]) -> u64
+    ensures { result ≡ min (sum_by footprint_size footprints.now) most_counted }
+{
+    let mut covered: u64 = 0;
+    for footprint in footprints {
+        let size = footprint
+            .reads
+            .size()
+            .saturating_add(footprint.writes.size());
+        covered = covered.saturating_add(size);
+    }
+    covered
+}

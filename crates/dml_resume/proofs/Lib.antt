@@ -1,0 +1,13 @@
+pub mod AcceptedLemmas
+pub mod BackwardLemmas
+pub mod BehindLemmas
+pub mod BroughtLemmas
+pub mod ForwardLemmas
+pub mod LeftLemmas
+pub mod OnwardLemmas
+pub mod PresentLemmas
+pub mod ResumeLemmas
+pub mod SplitLemmas
+pub mod StopLemmas
+pub mod TurnLemmas
+pub mod UpLemmas

@@ -1,0 +1,10 @@
+pub mod PlaceLemmas
+pub mod PlanLemmas
+pub mod FoldLemmas
+pub mod OrderedLemmas
+pub mod KeepsLemmas
+pub mod LoopLemmas
+pub mod PlanFacts
+pub mod StepFacts
+pub mod ReplayLemmas
+pub mod RoundLemmas

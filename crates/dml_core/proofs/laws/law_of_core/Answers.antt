@@ -1,0 +1,17 @@
+use Rattle.dml_core.proofs.KeepsLemmas.{core_keeps, each_has_its_values, kept_join_to_step, only_commit_writes, sent_is_submitted}
+use Rattle.dml_core.proofs.laws.law_of_core.Goals as goal
+
+pub returns-clause-keeps : goal.returns-clause-keeps
+returns-clause-keeps c = core_keeps
+
+pub returns-clause-sent : goal.returns-clause-sent
+returns-clause-sent c = sent_is_submitted
+
+pub returns-clause-only_commit_writes : goal.returns-clause-only_commit_writes
+returns-clause-only_commit_writes c = only_commit_writes
+
+pub returns-clause-values : goal.returns-clause-values
+returns-clause-values c = each_has_its_values
+
+pub returns-clause-joined : goal.returns-clause-joined
+returns-clause-joined c = kept_join_to_step

@@ -1,0 +1,27 @@
+use Rattle.std.proofs.Common.{◌≡◌, ◌<◌, ◌+◌, List, ℕ, [], length, get_or, map, drop, ap, ◌∙◌, arith}
+use Rattle.std.proofs.lemmas.List.{get_or_read}
+use Rattle.dml_core.specs.Types.{Fetched, Task, Commit}
+use Rattle.dml_core.specs.Plan.{jobs_of, tasks_of}
+use Rattle.dml_core.specs.World.{World, after, kept_by}
+use Rattle.dml_core.proofs.StepFacts.{commit_view, world}
+use Rattle.dml_core.proofs.worlds.World.commit.Goals as goal
+
+pub returns-clause-ok : goal.returns-clause-ok
+returns-clause-ok c =
+    let s = c.self.inside in
+    let image = c.carry_out_wave.new.image in
+    let fetched = c.carry_out_wave.new.fetched.items in
+    let waves = s.waves.items in
+    let below : s.committed < length waves = omega arith in
+    let own : c.as_slice-4.result.now ≡ get_or waves s.committed [] =
+    c.as_slice-4.ensures.value ∙ (c.behind-self.view_is ∙ get_or_read waves s.committed c.index.result.now below c.index.ensures []) in
+    let tasks : c.in-Ok.tasks.items ≡ tasks_of (jobs_of s.fetched.items) s.settings.staging s.settings.chunk (get_or waves (s.committed + 1) []) =
+    c.in-Ok.ensures
+    ∙ (ap (λ (list : List Fetched). tasks_of (jobs_of list) s.settings.staging s.settings.chunk (get_or c.as_slice-3.result.now (s.committed + 1) [])) c.as_slice-2.ensures.value
+    ∙ ap (λ (list : List (List ℕ)). tasks_of (jobs_of s.fetched.items) s.settings.staging s.settings.chunk (get_or list (s.committed + 1) [])) c.as_slice-3.ensures.value) in
+    let cleared =
+    ap (λ (list : List Task). world s.settings image s.sent.items fetched (drop (s.committed + 1) waves) c.in-Ok.tasks.items s.hands.items (map (kept_by fetched image) list)) c.clear.ensures.items in
+    let made =
+    commit_view s.settings s.image s.sent.items s.fetched.items waves s.committed (drop s.taken s.tasks.items) s.hands.items (map (kept_by s.fetched.items s.image) s.finished.items) image fetched c.in-Ok.tasks.items c.as_slice-4.result.now
+    c.carry_out_wave.ensures.done own tasks in
+    cleared ∙ (made ∙ ap (λ (w : World). after w Commit) c.self.view_is)

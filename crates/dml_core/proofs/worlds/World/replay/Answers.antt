@@ -1,0 +1,15 @@
+use Rattle.std.proofs.Common.{◌<◌, length, Err, ap, arith}
+use Rattle.dml_types.specs.Job.{no_op_job}
+use Rattle.dml_core.specs.Types.{Submit}
+use Rattle.dml_core.proofs.ReplayLemmas.{replay_more, replay_stop}
+use Rattle.dml_core.proofs.worlds.World.replay.Goals as goal
+
+pub returns-in-Err-NotAllowed-clause-err : goal.returns-in-Err-NotAllowed-clause-err
+returns-in-Err-NotAllowed-clause-err c =
+    let below : c.loop-i.i < length c.args.steps.now = omega arith in
+    replay_stop c.args.self c.loop-i.world c.take_step.new.self c.args.steps.now c.loop-i.i (Submit 0 no_op_job) below c.loop-i.invariant c.in-Err-NotAllowed.ensures.err (c.in-Err-NotAllowed.ensures.not_allowed (ap Err c.in-Err-NotAllowed.field-0-is))
+
+pub loop-i-preserved : goal.loop-i-preserved
+loop-i-preserved c =
+    let below : c.loop-i.i < length c.args.steps.now = omega arith in
+    replay_more c.args.self c.loop-i.world c.take_step.new.self c.args.steps.now c.loop-i.i (Submit 0 no_op_job) below c.loop-i.invariant c.in-Ok.ensures.allowed c.in-Ok.ensures.ok

@@ -1,0 +1,6 @@
+pub mod Types
+pub mod Plan
+pub mod World
+pub mod Replay
+pub mod Laws
+pub mod Rounds

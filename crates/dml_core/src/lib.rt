@@ -1,0 +1,20 @@
+//! The core: what clients send and workers carry out, one step at a time, with what each list of steps leaves.
+#![tactic(auto)]
+
+mod carrying;
+mod errors;
+mod laws;
+mod lists;
+mod planning;
+mod stepping;
+mod tasks;
+mod values;
+mod worlds;
+
+pub use errors::{StepFault, WorldError};
+pub use laws::{law_of_core, law_of_rounds};
+pub use values::{Fetched, Step, Task};
+pub use worlds::World;
+
+#[cfg(test)]
+mod tests;

@@ -1,0 +1,266 @@
+//! The steps of a world.
+ghost use Rattle.std.specs.Prelude.{◌≡◌, ◌≤◌, ◌<◌, All, IfOk, OnErr, OnOk, false, if◌then◌else◌, is_none, length, slice_get, slice_index_or, true, []};
+ghost use Rattle.std.specs.List.{list_all};
+ghost use Rattle.dml_types.specs.Limits.{IsValid};
+ghost use Rattle.dml_core.specs.Plan as word;
+ghost use Rattle.dml_core.specs.Plan.{jobs_of, open_places, plan_of};
+ghost use Rattle.dml_core.specs.Types.{Commit, Fetch, Finish, Submit, Take};
+ghost use Rattle.dml_core.specs.World.{after, is_allowed, part_of};
+
+use crate::carrying::carry_out_wave;
+use crate::lists::{Places, SentJobs};
+use crate::planning::{NoMemory, plan};
+use crate::tasks::tasks_of;
+use crate::values::{Fetched, Step, Task};
+use crate::worlds::World;
+use dml_types::{Job, Settings};
+use std::alloc::{AllocError, Global};
+
+/// The most fetched jobs that are not committed.
+const MAX_OPEN: usize = 1024;
+
+/// Why a step is not taken.
+#[derive(Clone, Copy, PartialEq, Eq)]
+pub(crate) enum Refusal {
+    NotAllowed,
+    NoMemory,
+}
+
+impl World {
+    /// Takes a step. Where it is refused, nothing is changed.
+    pub(crate) fn take_step(&mut self, alloc: Global, step: &Step) -> Result<(), Refusal>
+        ensures allowed { OnOk result (is_allowed self.old step.now ≡ true) }
+        ensures ok { OnOk result (self.new ≡ after self.old step.now) }
+        ensures err { OnErr result (self.new ≡ self.old) }
+        ensures not_allowed { result ≡ Err Refusal.NotAllowed → is_allowed self.old step.now ≡ false }
+    {
+        match *step {
+            Step::Submit { client, job } => self.submit(client, job),
+            Step::Fetch { client } => self.fetch(alloc, client),
+            Step::Take { worker } => self.take(worker),
+            Step::Finish { worker } => self.finish(worker),
+            Step::Commit => self.commit(alloc),
+        }
+    }
+
+    /// A client sends a job.
+    fn submit(&mut self, client: u32, job: Job) -> Result<(), Refusal>
+        ensures allowed { OnOk result (is_allowed self.old (Submit client job) ≡ true) }
+        ensures ok { OnOk result (self.new ≡ after self.old (Submit client job)) }
+        ensures err { OnErr result (self.new ≡ self.old) }
+        ensures not_allowed { result ≡ Err Refusal.NotAllowed → is_allowed self.old (Submit client job) ≡ false }
+    {
+        let client = client as usize;
+        if client >= self.sent.len() {
+            return Err(Refusal::NotAllowed);
+        }
+        match self.sent[client].push(job) {
+            Ok(()) => Ok(()),
+            Err(_) => Err(Refusal::NoMemory),
+        }
+    }
+
+    /// A client's next job is fetched, and the jobs that are not committed are planned anew.
+    #[tactic(auto, using(crate::proofs::StepFacts::few_open, std::proofs::lemmas::List::take_at))]
+    fn fetch(&mut self, alloc: Global, client: u32) -> Result<(), Refusal>
+        ensures allowed { OnOk result (is_allowed self.old (Fetch client) ≡ true) }
+        ensures ok { OnOk result (self.new ≡ after self.old (Fetch client)) }
+        ensures err { OnErr result (self.new ≡ self.old) }
+        ensures not_allowed { result ≡ Err Refusal.NotAllowed → is_allowed self.old (Fetch client) ≡ false }
+    {
+        let next = next_job(self.sent.as_slice(), self.fetched.as_slice(), client);
+        let Some(job) = next else {
+            return Err(Refusal::NotAllowed);
+        };
+        let open = count_open(self.fetched.as_slice());
+        let free = all_free(self.hands.as_slice());
+        if !free || !self.finished.is_empty() || open >= MAX_OPEN {
+            return Err(Refusal::NotAllowed);
+        }
+        let count = self.fetched.len();
+        let entry = Fetched {
+            client,
+            job,
+            answer: None,
+        };
+        if self.fetched.push(entry).is_err() {
+            return Err(Refusal::NoMemory);
+        }
+        match set_out(alloc, self.fetched.as_slice(), &self.settings) {
+            Ok(Outset { waves, tasks }) => {
+                self.waves = waves;
+                self.committed = 0;
+                self.tasks = tasks;
+                self.taken = 0;
+                Ok(())
+            }
+            Err(_) => {
+                self.fetched.truncate(count);
+                Err(Refusal::NoMemory)
+            }
+        }
+    }
+
+    /// A worker takes the first task to do.
+    fn take(&mut self, worker: u32) -> Result<(), Refusal>
+        ensures allowed { OnOk result (is_allowed self.old (Take worker) ≡ true) }
+        ensures ok { OnOk result (self.new ≡ after self.old (Take worker)) }
+        ensures err { OnErr result (self.new ≡ self.old) }
+        ensures not_allowed { result ≡ Err Refusal.NotAllowed → is_allowed self.old (Take worker) ≡ false }
+    {
+        let worker = worker as usize;
+        if worker >= self.hands.len()
+            || self.hands[worker].is_some()
+            || self.taken == self.tasks.len()
+        {
+            return Err(Refusal::NotAllowed);
+        }
+        self.hands[worker] = Some(self.tasks[self.taken]);
+        self.taken += 1;
+        Ok(())
+    }
+
+    /// A worker finishes the task in its hand.
+    fn finish(&mut self, worker: u32) -> Result<(), Refusal>
+        ensures allowed { OnOk result (is_allowed self.old (Finish worker) ≡ true) }
+        ensures ok { OnOk result (self.new ≡ after self.old (Finish worker)) }
+        ensures err { OnErr result (self.new ≡ self.old) }
+        ensures not_allowed { result ≡ Err Refusal.NotAllowed → is_allowed self.old (Finish worker) ≡ false }
+    {
+        let worker = worker as usize;
+        if worker >= self.hands.len() {
+            return Err(Refusal::NotAllowed);
+        }
+        let Some(task) = self.hands[worker] else {
+            return Err(Refusal::NotAllowed);
+        };
+        if self.finished.push(task).is_err() {
+            return Err(Refusal::NoMemory);
+        }
+        self.hands[worker] = None;
+        Ok(())
+    }
+
+    /// The jobs of the first wave are carried out in list order.
+    #[tactic(auto, using(crate::proofs::StepFacts::next_tasks, crate::proofs::StepFacts::waves_left))]
+    fn commit(&mut self, alloc: Global) -> Result<(), Refusal>
+        ensures allowed { OnOk result (is_allowed self.old Commit ≡ true) }
+        ensures ok { OnOk result (self.new ≡ after self.old Commit) }
+        ensures err { OnErr result (self.new ≡ self.old) }
+        ensures not_allowed { result ≡ Err Refusal.NotAllowed → is_allowed self.old Commit ≡ false }
+    {
+        let free = all_free(self.hands.as_slice());
+        if self.committed == self.waves.len() || self.taken < self.tasks.len() || !free {
+            return Err(Refusal::NotAllowed);
+        }
+        let next = self.committed + 1;
+        let set_out = wave_tasks(
+            alloc,
+            self.fetched.as_slice(),
+            &self.settings,
+            self.waves.as_slice(),
+            next,
+        );
+        let Ok(tasks) = set_out else {
+            return Err(Refusal::NoMemory);
+        };
+        carry_out_wave(
+            &mut self.image,
+            &mut self.arena,
+            &mut self.fetched,
+            self.waves[self.committed].list.as_slice(),
+            self.settings.staging,
+        );
+        self.committed = next;
+        self.tasks = tasks;
+        self.taken = 0;
+        self.finished.clear();
+        Ok(())
+    }
+}
+
+/// The waves of a plan, and the tasks of the first.
+#[derive(Drop)]
+struct Outset {
+    waves: Vec<Places>,
+    tasks: Vec<Task>,
+}
+
+/// The waves of the fetched jobs that are not committed, and the tasks of the first.
+fn set_out(alloc: Global, fetched: &[Fetched], settings: &Settings) -> Result<Outset, NoMemory>
+    requires valid { IsValid settings.now }
+    requires few { length (open_places fetched.now) ≤ 1024 }
+    ensures waves { IfOk result (λ outset. outset.waves.items ≡ plan_of fetched.now settings.now.staging settings.now.chunk) }
+    ensures inside { IfOk result (λ outset. All (All (λ i. i < length fetched.now)) outset.waves.items) }
+    ensures tasks { IfOk result (λ outset. outset.tasks.items ≡ word.tasks_of (jobs_of fetched.now) settings.now.staging settings.now.chunk (slice_index_or outset.waves.items 0 [])) }
+{
+    let waves = plan(alloc, fetched, settings)?;
+    let tasks = wave_tasks(alloc, fetched, settings, waves.as_slice(), 0)?;
+    Ok(Outset { waves, tasks })
+}
+
+/// The tasks of a wave of the plan; none behind the last.
+fn wave_tasks(
+    alloc: Global,
+    fetched: &[Fetched],
+    settings: &Settings,
+    waves: &[Places],
+    index: usize,
+) -> Result<Vec<Task>, AllocError>
+    requires valid { IsValid settings.now }
+    requires inside { All (All (λ i. i < length fetched.now)) waves.now }
+    ensures { IfOk result (λ tasks. tasks.items ≡ word.tasks_of (jobs_of fetched.now) settings.now.staging settings.now.chunk (slice_index_or waves.now index [])) }
+{
+    match waves.get(index) {
+        Some(wave) => tasks_of(alloc, fetched, settings, wave.list.as_slice()),
+        None => Ok(Vec::new(alloc)),
+    }
+}
+
+/// A client's next job to be fetched.
+fn next_job(sent: &[SentJobs], fetched: &[Fetched], client: u32) -> Option<Job>
+    ensures { result ≡ slice_get (slice_index_or sent.now client []) (length (part_of client fetched.now)) }
+{
+    match sent.get(client as usize) {
+        Some(list) => list.as_slice().get(count_part(fetched, client)).copied(),
+        None => None,
+    }
+}
+
+/// How many jobs of a client were fetched.
+#[tactic(auto, using(crate::proofs::StepFacts::part_counted, crate::proofs::StepFacts::part_all))]
+fn count_part(fetched: &[Fetched], client: u32) -> usize
+    ensures { result ≡ length (part_of client fetched.now) }
+{
+    let mut count = 0;
+    for entry in fetched {
+        count += one_if(entry.client == client);
+    }
+    count
+}
+
+/// How many jobs are not committed.
+#[tactic(auto, using(crate::proofs::StepFacts::open_counted))]
+fn count_open(fetched: &[Fetched]) -> usize
+    ensures { result ≡ length (open_places fetched.now) }
+{
+    let mut count = 0;
+    for i in 0..fetched.len() {
+        count += one_if(fetched[i].answer.is_none());
+    }
+    count
+}
+
+/// 1 or 0.
+fn one_if(holds: bool) -> usize
+    ensures { result ≡ (if holds then 1 else 0) }
+{
+    if holds { 1 } else { 0 }
+}
+
+/// Whether each hand is empty.
+fn all_free(hands: &[Option<Task>]) -> bool
+    ensures { result ≡ list_all is_none hands.now }
+{
+    hands.iter().all(|hand| hand.is_none())
+}

@@ -1,0 +1,17 @@
+//! The data mover for programs in C: descriptors and the caller's own buffers in, completion records out.
+//!
+//! The exports are those of `include/kazovuni.h`. None has a condition but what its types say: pointers are valid, and
+//! what is written is not passed a second time. Each tests what it needs, and answers a code.
+#![tactic(auto)]
+
+mod bases;
+mod lending;
+mod looking;
+mod values;
+
+pub use lending::{kazovuni_submit_at, kazovuni_submit_list_over, kazovuni_submit_over};
+pub use looking::{
+    kazovuni_check, kazovuni_decode, kazovuni_encode, kazovuni_need, kazovuni_record_decode,
+    kazovuni_record_encode, kazovuni_rest, kazovuni_version,
+};
+pub use values::{CJob, CRecord};

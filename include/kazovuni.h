@@ -1,0 +1,115 @@
+/*
+ * Kazovuni: the jobs of Intel's data streaming accelerator in software, over the caller's own memory.
+ *
+ * A job is a descriptor of 64 bytes and answers a completion record of 32, both laid out as linux/idxd.h has them; all
+ * numbers are little-endian. No function has a precondition but that its pointers are valid for the bytes named, and
+ * that memory which is written is passed once only. Each answers a code where something may be wrong with the call
+ * itself; what is wrong with a job stands in its completion record. docs/C.md says all of it.
+ */
+#ifndef KAZOVUNI_H
+#define KAZOVUNI_H
+
+#include <stdbool.h>
+#include <stddef.h>
+#include <stdint.h>
+
+#ifdef __cplusplus
+extern "C" {
+#endif
+
+/* This header's version: the major number in the upper 16 bits, the minor one in the lower. */
+#define KAZOVUNI_VERSION UINT32_C(0x00010000)
+
+#define KAZOVUNI_DESCRIPTOR_BYTES 64
+#define KAZOVUNI_RECORD_BYTES 32
+#define KAZOVUNI_PAGE_BYTES 4096
+#define KAZOVUNI_MOST_PAGES 4096
+
+/* What a call answers. Whatever is not KAZOVUNI_OK, nothing was changed. */
+enum {
+    KAZOVUNI_OK = 0,
+    KAZOVUNI_NOT_PAGES = 1,   /* the bytes are not 1 to 4,096 whole pages of 4,096 */
+    KAZOVUNI_NO_MEMORY = 2,   /* malloc gave no memory for the staging */
+    KAZOVUNI_NOT_AS_MANY = 3, /* there are not as many records as descriptors */
+};
+
+/*
+ * A job, with the fields of a descriptor. Decoded, a field has 0 where its operation's descriptor has no place for it;
+ * flags, source, target and size stand in every descriptor.
+ */
+typedef struct kazovuni_job {
+    uint8_t opcode;
+    uint8_t expected;
+    uint32_t flags;
+    uint64_t source;
+    uint64_t target;
+    uint64_t extra;
+    uint32_t size;
+    uint32_t delta_size;
+} kazovuni_job;
+
+/* A job's completion record, with the code of its status. */
+typedef struct kazovuni_record {
+    uint8_t status;
+    uint8_t result;
+    uint32_t completed;
+    uint64_t fault;
+    uint32_t delta_size;
+} kazovuni_record;
+
+/* The version of the library that is linked. */
+uint32_t kazovuni_version(void);
+
+/* 0 where the job is accepted with so many bytes of staging, else the status of the first rule that it breaks. */
+uint8_t kazovuni_check(const uint8_t descriptor[64], uint32_t staging);
+
+/* The bytes of staging that the job needs. */
+uint64_t kazovuni_need(const uint8_t descriptor[64]);
+
+/* The fields of a descriptor. */
+kazovuni_job kazovuni_decode(const uint8_t descriptor[64]);
+
+/* Writes the descriptor of a job: false, and nothing is written, where its flags do not fit 24 bits. */
+bool kazovuni_encode(const kazovuni_job *job, uint8_t descriptor[64]);
+
+/* Writes the bytes of a completion record: false, and nothing is written, where its status is the code of none. */
+bool kazovuni_record_encode(const kazovuni_record *fields, uint8_t record[32]);
+
+/* Reads a completion record: false, and nothing is written, where its first byte is the code of no status. */
+bool kazovuni_record_decode(const uint8_t record[32], kazovuni_record *fields);
+
+/*
+ * Writes the descriptor of what is left of a job after a page fault, by the record that answered it: false, and nothing
+ * is written, where nothing is left. Bytes of the descriptor without a meaning here, as PASID and the completion
+ * address, are written as 0.
+ */
+bool kazovuni_rest(const uint8_t descriptor[64], const uint8_t record[32], uint8_t left[64]);
+
+/*
+ * Carries out a job over the caller's bytes and writes its completion record. The descriptor's addresses are offsets:
+ * the bytes begin at address 0, all of their pages are present, and no other page is. A refused job changes no byte.
+ */
+uint8_t kazovuni_submit_over(
+    uint8_t *bytes, size_t length, const uint8_t descriptor[64], uint32_t staging, uint8_t record[32]);
+
+/* Carries out the jobs of some descriptors one after another, and writes the completion record of each. */
+uint8_t kazovuni_submit_list_over(
+    uint8_t *bytes, size_t length, const uint8_t (*descriptors)[64], size_t jobs, uint32_t staging,
+    uint8_t (*records)[32], size_t answers);
+
+/*
+ * As kazovuni_submit_over, with the caller's own pointers as addresses: `base` is the address of the first byte, and
+ * is taken off each address of the descriptor, and put back on the address of a page fault; both wrap at 2^64. Where
+ * base and length together are at most 2^64, as those of real memory, an address below the base is past the end of the
+ * pages: the job meets a page fault there as behind the end, or is refused with 0x7d where its range goes on over the
+ * base.
+ */
+uint8_t kazovuni_submit_at(
+    uint64_t base, uint8_t *bytes, size_t length, const uint8_t descriptor[64], uint32_t staging,
+    uint8_t record[32]);
+
+#ifdef __cplusplus
+}
+#endif
+
+#endif

@@ -1,0 +1,298 @@
+/*
+ * Worked rows through kazovuni.h, over the caller's own pages: each by offsets, by the caller's own pointers, and as a
+ * list of one. What the record and every byte have to be stands in the table.
+ */
+#include "kazovuni.h"
+
+#include <assert.h>
+#include <stdio.h>
+#include <stdlib.h>
+#include <string.h>
+
+static_assert(sizeof(kazovuni_job) == 40, "the fields of a job as the library has them");
+static_assert(offsetof(kazovuni_job, expected) == 1, "expected");
+static_assert(offsetof(kazovuni_job, flags) == 4, "flags");
+static_assert(offsetof(kazovuni_job, source) == 8, "source");
+static_assert(offsetof(kazovuni_job, target) == 16, "target");
+static_assert(offsetof(kazovuni_job, extra) == 24, "extra");
+static_assert(offsetof(kazovuni_job, size) == 32, "size");
+static_assert(offsetof(kazovuni_job, delta_size) == 36, "delta_size");
+
+static_assert(sizeof(kazovuni_record) == 24, "the fields of a record as the library has them");
+static_assert(offsetof(kazovuni_record, completed) == 4, "completed");
+static_assert(offsetof(kazovuni_record, fault) == 8, "fault");
+static_assert(offsetof(kazovuni_record, delta_size) == 16, "delta_size");
+
+enum { NO_OP = 0x00, MOVE = 0x03, FILL = 0x04, COMPARE = 0x05, CREATE = 0x07, APPLY = 0x08, DUALCAST = 0x09 };
+enum { STAGING = 4096, MOST = 2 * KAZOVUNI_PAGE_BYTES };
+
+/* What a job leaves from a place on. */
+typedef struct bytes_left {
+    size_t place, count;
+    uint8_t bytes[12];
+} bytes_left;
+
+typedef struct row {
+    const char *name;
+    size_t pages;
+    kazovuni_job job;
+    uint8_t status, result;
+    uint32_t completed;
+    uint64_t fault;
+    uint32_t delta_size;
+    bytes_left left[2];
+} row;
+
+#define PATTERN UINT64_C(0x0807060504030201)
+
+/* Before each job the bytes are 01, 02, 03, 04, 05 and then 0. */
+static const row rows[] = {
+    {"no-op", 1, {.opcode = NO_OP}, 0x01, 0, 0, 0, 0, {{0}}},
+    {"fill over a page edge", 2, {.opcode = FILL, .source = PATTERN, .target = 4092, .size = 12}, 0x01, 0, 12, 0, 0,
+     {{4092, 12, {1, 2, 3, 4, 5, 6, 7, 8, 1, 2, 3, 4}}}},
+    {"fill past the end", 1, {.opcode = FILL, .source = PATTERN, .target = 4090, .size = 12}, 0x83, 0, 6, 4096, 0,
+     {{4090, 6, {1, 2, 3, 4, 5, 6}}}},
+    {"move of a page", 2, {.opcode = MOVE, .source = 0, .target = 4096, .size = 4096}, 0x01, 0, 4096, 0, 0,
+     {{4096, 5, {1, 2, 3, 4, 5}}}},
+    {"backward move", 2, {.opcode = MOVE, .source = 0, .target = 2, .size = 14}, 0x01, 1, 14, 0, 0,
+     {{2, 5, {1, 2, 3, 4, 5}}}},
+    {"backward move past the end", 1, {.opcode = MOVE, .source = 0, .target = 4, .size = 4096}, 0x83, 1, 0, 4099, 0,
+     {{0}}},
+    {"more than the staging", 2, {.opcode = MOVE, .source = 0, .target = 4096, .size = 4097}, 0x7e, 0, 0, 0, 0, {{0}}},
+    {"opcode that is none", 1, {.opcode = 0x20, .size = 8}, 0x10, 0, 0, 0, 0, {{0}}},
+    {"dualcast", 2, {.opcode = DUALCAST, .source = 0, .target = 8180, .extra = 4084, .size = 5}, 0x01, 0, 5, 0, 0,
+     {{8180, 5, {1, 2, 3, 4, 5}}, {4084, 5, {1, 2, 3, 4, 5}}}},
+    {"dualcast past the end", 2, {.opcode = DUALCAST, .source = 0, .target = 4094, .extra = 8190, .size = 5}, 0x83, 0,
+     2, 8192, 0, {{4094, 2, {1, 2}}, {8190, 2, {1, 2}}}},
+    {"compare that differs", 2, {.opcode = COMPARE, .source = 0, .target = 4096, .size = 8}, 0x01, 1, 0, 0, 0, {{0}}},
+    {"create", 2,
+     {.opcode = CREATE, .source = 4096, .target = 0, .extra = 16, .size = 8, .delta_size = 10}, 0x01, 1, 8, 0, 10,
+     {{16, 10, {0, 0, 1, 2, 3, 4, 5, 0, 0, 0}}}},
+};
+
+static int failed;
+
+static void complain(const char *name, const char *form, const char *what)
+{
+    fprintf(stderr, "rows: %s, %s: %s\n", name, form, what);
+    failed = 1;
+}
+
+static void put(uint8_t *bytes, uint64_t number, int count)
+{
+    for (int i = 0; i < count; i++)
+        bytes[i] = (uint8_t)(number >> (8 * i));
+}
+
+/* The descriptor of a job whose addresses lie behind `base`. */
+static void describe(uint8_t descriptor[64], const kazovuni_job *job, uint64_t base)
+{
+    int is_create = job->opcode == CREATE;
+    int has_extra = is_create || job->opcode == DUALCAST;
+    int has_source = job->opcode != FILL && job->opcode != NO_OP;
+    memset(descriptor, 0, 64);
+    put(descriptor + 4, job->flags, 3);
+    descriptor[7] = job->opcode;
+    put(descriptor + 16, job->source + (has_source ? base : 0), 8);
+    put(descriptor + 24, job->target + (job->opcode != NO_OP ? base : 0), 8);
+    put(descriptor + 32, job->size, 4);
+    if (has_extra)
+        put(descriptor + 40, job->extra + base, 8);
+    if (is_create)
+        put(descriptor + 48, job->delta_size, 4);
+}
+
+/* The completion record that a row wants. */
+static void expect(uint8_t record[32], const row *row, uint64_t base)
+{
+    int is_fault = row->status == 0x03 || row->status == 0x83;
+    memset(record, 0, 32);
+    record[0] = row->status;
+    record[1] = row->result;
+    put(record + 4, row->completed, 4);
+    put(record + 8, row->fault + (is_fault ? base : 0), 8);
+    put(record + 16, row->delta_size, 4);
+}
+
+enum form { BY_OFFSETS, AS_A_LIST, BY_POINTERS };
+static const char *const form_names[] = {"by offsets", "as a list", "by pointers"};
+
+static void try_row(const row *row, enum form form)
+{
+    size_t length = row->pages * KAZOVUNI_PAGE_BYTES;
+    uint8_t *bytes = calloc(1, length), *after = calloc(1, length);
+    uint8_t descriptor[1][64], records[1][32], wanted[32], answer;
+    uint64_t base = form == BY_POINTERS ? (uint64_t)(uintptr_t)bytes : 0;
+    if (!bytes || !after)
+        exit(2);
+    memcpy(bytes, "\1\2\3\4\5", 5);
+    memcpy(after, bytes, length);
+    for (int i = 0; i < 2; i++)
+        memcpy(after + row->left[i].place, row->left[i].bytes, row->left[i].count);
+    describe(descriptor[0], &row->job, base);
+    expect(wanted, row, base);
+    memset(records, 0xcc, sizeof records);
+    switch (form) {
+    case BY_OFFSETS:
+        answer = kazovuni_submit_over(bytes, length, descriptor[0], STAGING, records[0]);
+        break;
+    case AS_A_LIST:
+        answer = kazovuni_submit_list_over(bytes, length, (const uint8_t (*)[64])descriptor, 1, STAGING, records, 1);
+        break;
+    default:
+        answer = kazovuni_submit_at(base, bytes, length, descriptor[0], STAGING, records[0]);
+    }
+    if (answer != KAZOVUNI_OK)
+        complain(row->name, form_names[form], "the answer");
+    if (memcmp(records[0], wanted, 32) != 0)
+        complain(row->name, form_names[form], "the record");
+    if (memcmp(bytes, after, length) != 0)
+        complain(row->name, form_names[form], "the bytes");
+    free(bytes);
+    free(after);
+}
+
+/* What is answered where the call itself is wrong; nothing is changed then. */
+static void try_codes(void)
+{
+    static uint8_t bytes[KAZOVUNI_PAGE_BYTES + 1];
+    uint8_t descriptors[2][64] = {{0}}, records[2][32], before[2][32];
+    const uint8_t(*list)[64] = (const uint8_t(*)[64])descriptors;
+    memset(records, 0xcc, sizeof records);
+    memcpy(before, records, sizeof records);
+    if (kazovuni_submit_over(bytes, sizeof bytes, descriptors[0], 0, records[0]) != KAZOVUNI_NOT_PAGES ||
+        kazovuni_submit_over(bytes, 0, descriptors[0], 0, records[0]) != KAZOVUNI_NOT_PAGES ||
+        kazovuni_submit_list_over(bytes, sizeof bytes, list, 2, 0, records, 2) != KAZOVUNI_NOT_PAGES ||
+        kazovuni_submit_at(0, bytes, sizeof bytes, descriptors[0], 0, records[0]) != KAZOVUNI_NOT_PAGES)
+        complain("bytes that are no pages", "all forms", "the answer");
+    if (kazovuni_submit_list_over(bytes, KAZOVUNI_PAGE_BYTES, list, 2, 0, records, 1) != KAZOVUNI_NOT_AS_MANY)
+        complain("a record too few", "as a list", "the answer");
+    if (memcmp(records, before, sizeof records) != 0)
+        complain("wrong calls", "all forms", "a record was written");
+    if (kazovuni_submit_list_over(bytes, KAZOVUNI_PAGE_BYTES, NULL, 0, 0, NULL, 0) != KAZOVUNI_OK)
+        complain("an empty list", "as a list", "the answer");
+    if (kazovuni_version() != KAZOVUNI_VERSION)
+        complain("the version", "of the library", "is not the header's");
+}
+
+/* An address below the base, and a range that goes on over it. */
+static void try_below(void)
+{
+    static uint8_t bytes[KAZOVUNI_PAGE_BYTES];
+    kazovuni_job job = {.opcode = COMPARE, .source = 0, .target = 0, .size = 8};
+    uint8_t descriptor[64], record[32], wanted[32];
+    uint64_t base = UINT64_C(1) << 32;
+    describe(descriptor, &job, base - 8);
+    row fault = {.status = 0x03, .fault = base - 8};
+    expect(wanted, &fault, 0);
+    if (kazovuni_submit_at(base, bytes, sizeof bytes, descriptor, 0, record) != KAZOVUNI_OK ||
+        memcmp(record, wanted, 32) != 0)
+        complain("an address below the base", "by pointers", "the record");
+    describe(descriptor, &job, base - 4);
+    row refused = {.status = 0x7d};
+    expect(wanted, &refused, 0);
+    if (kazovuni_submit_at(base, bytes, sizeof bytes, descriptor, 0, record) != KAZOVUNI_OK ||
+        memcmp(record, wanted, 32) != 0)
+        complain("a range over the base", "by pointers", "the record");
+}
+
+/* What looks at a descriptor alone. */
+static void try_looks(void)
+{
+    kazovuni_job job = {.opcode = DUALCAST, .flags = 0x100, .source = 1, .target = 2, .extra = 4098, .size = 3};
+    uint8_t descriptor[64];
+    describe(descriptor, &job, 0);
+    kazovuni_job seen = kazovuni_decode(descriptor);
+    if (seen.opcode != job.opcode || seen.flags != job.flags || seen.source != job.source ||
+        seen.target != job.target || seen.extra != job.extra || seen.size != job.size || seen.delta_size != 0 ||
+        seen.expected != 0)
+        complain("a dualcast", "decoded", "a field");
+    job.flags = 0;
+    describe(descriptor, &job, 0);
+    if (kazovuni_check(descriptor, 2) != 0x16)
+        complain("overlapping ranges", "checked", "the status");
+    job.source = 8192;
+    describe(descriptor, &job, 0);
+    if (kazovuni_need(descriptor) != 3 || kazovuni_check(descriptor, 2) != 0x7e || kazovuni_check(descriptor, 3) != 0)
+        complain("the staging of a dualcast", "checked", "the need");
+}
+
+/* A list of two jobs of which the second sees what the first left. */
+static void try_list(void)
+{
+    static uint8_t bytes[KAZOVUNI_PAGE_BYTES];
+    kazovuni_job jobs[2] = {{.opcode = FILL, .source = PATTERN, .target = 8, .size = 8},
+                            {.opcode = COMPARE, .flags = 0x80, .source = 8, .target = 16, .size = 8, .expected = 0}};
+    uint8_t descriptors[2][64], records[2][32], wanted[2][32];
+    row filled = {.status = 0x01, .completed = 8}, differs = {.status = 0x02, .result = 1};
+    for (int i = 0; i < 2; i++)
+        if (!kazovuni_encode(&jobs[i], descriptors[i]))
+            complain("a list of two", "encoded", "the answer");
+    expect(wanted[0], &filled, 0);
+    expect(wanted[1], &differs, 0);
+    if (kazovuni_submit_list_over(bytes, sizeof bytes, (const uint8_t (*)[64])descriptors, 2, 0, records, 2) !=
+            KAZOVUNI_OK ||
+        memcmp(records, wanted, sizeof wanted) != 0)
+        complain("a list of two", "as a list", "the records");
+}
+
+/* Descriptors and records from their fields and back, and what is left after a page fault. */
+static void try_fields(void)
+{
+    uint8_t descriptor[64], wanted[64], record[32], left[64];
+    memset(descriptor, 0xcc, 64);
+    for (size_t i = 0; i < sizeof rows / sizeof rows[0]; i++) {
+        describe(wanted, &rows[i].job, 0);
+        if (!kazovuni_encode(&rows[i].job, descriptor) || memcmp(descriptor, wanted, 64) != 0)
+            complain(rows[i].name, "encoded", "the descriptor");
+        kazovuni_record fields = {rows[i].status, rows[i].result, rows[i].completed, rows[i].fault, rows[i].delta_size};
+        kazovuni_record back = {0};
+        expect(wanted, &rows[i], 0);
+        if (!kazovuni_record_encode(&fields, record) || memcmp(record, wanted, 32) != 0)
+            complain(rows[i].name, "its record encoded", "the bytes");
+        if (!kazovuni_record_decode(record, &back) || back.status != fields.status || back.result != fields.result ||
+            back.completed != fields.completed || back.fault != fields.fault || back.delta_size != fields.delta_size)
+            complain(rows[i].name, "its record decoded", "a field");
+    }
+    kazovuni_job apply = {.opcode = APPLY, .source = 1, .target = 8, .size = 16, .delta_size = 20};
+    kazovuni_job masked = {.opcode = CREATE, .size = 8, .delta_size = 10, .extra = 80, .expected = 6};
+    kazovuni_job wide = {.opcode = NO_OP, .flags = 1 << 24}, seen;
+    kazovuni_record none = {.status = 0x42};
+    seen = kazovuni_encode(&apply, descriptor) ? kazovuni_decode(descriptor) : wide;
+    if (seen.delta_size != 20 || seen.source != 1 || seen.target != 8 || seen.size != 16 || descriptor[40] != 20)
+        complain("an apply", "encoded", "a field");
+    seen = kazovuni_encode(&masked, descriptor) ? kazovuni_decode(descriptor) : wide;
+    if (seen.expected != 6 || descriptor[56] != 6 || seen.extra != 80 || seen.delta_size != 10)
+        complain("a mask", "encoded", "a field");
+    memset(descriptor, 0xcc, 64);
+    memset(record, 0x42, 32);
+    if (kazovuni_encode(&wide, descriptor) || descriptor[7] != 0xcc || kazovuni_record_encode(&none, record) ||
+        record[1] != 0x42 || kazovuni_record_decode(record, &none) || none.completed != 0)
+        complain("what does not fit", "encoded", "the answer");
+    describe(descriptor, &rows[2].job, 0);
+    expect(record, &rows[2], 0);
+    kazovuni_job rest = {.opcode = FILL, .source = UINT64_C(0x0605040302010807), .target = 4096, .size = 6};
+    describe(wanted, &rest, 0);
+    if (!kazovuni_rest(descriptor, record, left) || memcmp(left, wanted, 64) != 0)
+        complain("a fill past the end", "its rest", "the descriptor");
+    expect(record, &rows[1], 0);
+    memset(left, 0xcc, 64);
+    if (kazovuni_rest(descriptor, record, left) || left[0] != 0xcc)
+        complain("a fill that is done", "its rest", "the answer");
+}
+
+int main(void)
+{
+    for (size_t i = 0; i < sizeof rows / sizeof rows[0]; i++)
+        for (enum form form = BY_OFFSETS; form <= BY_POINTERS; form++)
+            try_row(&rows[i], form);
+    try_codes();
+    try_below();
+    try_looks();
+    try_list();
+    try_fields();
+    if (failed)
+        return 1;
+    printf("rows: all as they have to be\n");
+    return 0;
+}

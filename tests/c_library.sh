@@ -1,0 +1,70 @@
+#!/bin/sh
+# Builds and installs the C library into a folder of its own, as both of the kit's compilers make it, holds it against
+# include/kazovuni.h, and runs the worked rows through it: in C under the address and undefined-behaviour sanitizers,
+# with each growth of memory refused in turn, and over the shared library. `check` calls it. Wants a C compiler as $CC
+# or cc, and nm; where c++ and python3 are there, they try the header and the shared library too.
+cd "$(dirname "$0")/.." || exit 2
+work=$(mktemp -d) || exit 2
+trap 'rm -rf "$work"' EXIT
+cc=${CC:-cc}
+failed=0
+
+complain() {
+    printf 'c_library: %s\n' "$*" >&2
+    failed=1
+}
+
+"$cc" -O2 -Wall -Wextra -Werror -shared -fPIC -o "$work/refuse.so" tests/refuse.c || exit 1
+
+# The names that the header declares, and those that the library has.
+grep -o '\bkazovuni_[a-z_]*(' include/kazovuni.h | tr -d '(' | sort -u >"$work/declared"
+
+# try COMPILER: the library as this compiler of the kit makes it
+try() {
+    prefix=$work/$1
+    tools/install_library.sh "$prefix" --backend "$1" >"$work/log" 2>&1 || {
+        cat "$work/log" >&2
+        complain "$1: not installed"
+        return
+    }
+    nm -g --defined-only "$prefix/lib/libkazovuni.a" | sed -n 's/.* T \(kazovuni_.*\)/\1/p' | sort -u >"$work/names"
+    cmp -s "$work/declared" "$work/names" || complain "$1: the header and the library have not the same names"
+    "$cc" -std=c11 -Wall -Wextra -Werror -O1 -g -fsanitize=address,undefined -I"$prefix/include" -o "$work/rows" \
+        tests/c/rows.c "$prefix/lib/libkazovuni.a" && "$work/rows" >"$work/log" || complain "$1: the rows"
+    "$cc" -std=c11 -O1 -I"$prefix/include" -o "$work/linked" tests/c/rows.c -L"$prefix/lib" -lkazovuni &&
+        LD_LIBRARY_PATH=$prefix/lib "$work/linked" >"$work/log" || complain "$1: the rows over the shared library"
+    "$cc" -std=c11 -Wall -Wextra -Werror -O1 -I"$prefix/include" -o "$work/refused" tests/c/refused.c \
+        "$prefix/lib/libkazovuni.a" || complain "$1: the program of refused growths is not built"
+    number=1
+    while [ "$number" -le 10 ]; do
+        rm -f "$work/met"
+        REFUSE=$number REFUSE_LOG=$work/met LD_PRELOAD=$work/refuse.so "$work/refused" "$number" ||
+            complain "$1: growth $number refused"
+        [ -f "$work/met" ] || break
+        number=$((number + 1))
+    done
+    [ "$number" = 4 ] || complain "$1: $((number - 1)) growths were met, and 3 are wanted"
+}
+
+try llvm
+try rattle
+if command -v c++ >/dev/null; then
+    printf '#include "kazovuni.h"\nint main() { return kazovuni_version() != KAZOVUNI_VERSION; }\n' >"$work/try.cpp"
+    c++ -Wall -Wextra -Werror -I"$work/llvm/include" -o "$work/plus" "$work/try.cpp" "$work/llvm/lib/libkazovuni.a" &&
+        "$work/plus" || complain "C++"
+fi
+if command -v python3 >/dev/null; then
+    python3 - "$work/llvm/lib/libkazovuni.so" <<'END' || complain "Python"
+import ctypes, sys
+library = ctypes.CDLL(sys.argv[1])
+pages = (ctypes.c_uint8 * 4096)(*range(1, 6))
+descriptor = (ctypes.c_uint8 * 64)()
+descriptor[7], descriptor[24], descriptor[32] = 3, 100, 5
+record = (ctypes.c_uint8 * 32)()
+answer = library.kazovuni_submit_over(pages, ctypes.c_size_t(4096), descriptor, 4096, record)
+assert answer == 0 and bytes(record[:8]) == bytes([1, 0, 0, 0, 5, 0, 0, 0]), (answer, bytes(record))
+assert bytes(pages[100:106]) == bytes([1, 2, 3, 4, 5, 0])
+END
+fi
+[ "$failed" = 0 ] && echo "c_library: passed"
+exit "$failed"

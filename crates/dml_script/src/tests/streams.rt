@@ -108,7 +108,7 @@ pub struct Paper {
 }
 
 impl Paper {
-    pub fn new(room: usize, fails: bool) -> Paper {
+    pub(super) fn new(room: usize, fails: bool) -> Paper {
         Paper {
             bytes: [0; 256],
             len: 0,
@@ -118,7 +118,7 @@ impl Paper {
     }
 
     /// Whether these bytes are written, and no other.
-    pub fn holds(&self, bytes: &[u8]) -> bool {
+    pub(super) fn holds(&self, bytes: &[u8]) -> bool {
         self.bytes.get(..self.len) == Some(bytes)
     }
 }

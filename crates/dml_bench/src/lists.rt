@@ -1,8 +1,11 @@
-//! Levels of lists of jobs.
-ghost use Rattle.std.specs.Prelude.{◌<◌, ◌≤◌};
+//! Levels and waves of lists of jobs.
+ghost use Rattle.std.specs.Prelude.{◌≡◌, ◌<◌, ◌≤◌, length};
+ghost use Rattle.std.specs.List.{All};
+ghost use Rattle.dml_types.specs.Refusal.{need};
+ghost use Rattle.dml_types.specs.Conflict.{fenced_levels};
 
-use dml_desc::{Checked, check};
-use dml_levels::levels;
+use dml_desc::{Checked, check, need};
+use dml_levels::{levels, waves};
 use dml_types::Job;
 use std::alloc::Global;
 use std::io;
@@ -24,6 +27,9 @@ enum Kind {
     Dualcasts,
     /// Moves from one page to pages of their own; none conflict.
     OneSource,
+    /// Moves of a page from addresses 8 bytes apart to pages of their own: they cover more than 262,144 cells; none
+    /// conflict.
+    ManyCells,
     /// Fills of one page: each conflicts with all before it.
     Chain,
 }
@@ -48,6 +54,7 @@ fn job_of(kind: Kind, place: u32, jobs: u32) -> Job
             64,
         ),
         Kind::OneSource => Job::move_bytes(0, PAGE + mixed * PAGE, 4096),
+        Kind::ManyCells => Job::move_bytes(mixed * 8, 4 * PAGE + mixed * PAGE, 4096),
         Kind::Chain => Job::fill(u64::from(place), 0, 4096),
     }
 }
@@ -76,7 +83,7 @@ fn greatest_level(alloc: Global, jobs: &[Checked]) -> Option<u32> {
     levels(alloc, jobs).ok()?.iter().copied().max()
 }
 
-/// Times the levels of lists of 64 and of 1,024 jobs.
+/// Times the levels of lists of 64 to 1,024 jobs, and the waves of 1,024.
 pub(crate) fn time_levels(rt: &HostRuntime, calls: u32) -> io::Result<()>
     requires { 0 < calls }
 {
@@ -84,16 +91,57 @@ pub(crate) fn time_levels(rt: &HostRuntime, calls: u32) -> io::Result<()>
         ("levels_in_order", Kind::InOrder, 64),
         ("levels_in_order", Kind::InOrder, 1024),
         ("levels_shuffled", Kind::Shuffled, 64),
+        ("levels_shuffled", Kind::Shuffled, 128),
+        ("levels_shuffled", Kind::Shuffled, 256),
+        ("levels_shuffled", Kind::Shuffled, 512),
         ("levels_shuffled", Kind::Shuffled, 1024),
         ("levels_dualcasts", Kind::Dualcasts, 64),
         ("levels_dualcasts", Kind::Dualcasts, 1024),
         ("levels_one_source", Kind::OneSource, 1024),
+        ("levels_many_cells", Kind::ManyCells, 1024),
         ("levels_chain", Kind::Chain, 1024),
     ];
     for (name, kind, jobs) in rows {
         time_list(rt, name, kind, jobs, calls)?;
     }
+    for (name, kind) in [
+        ("waves_in_order", Kind::InOrder),
+        ("waves_chain", Kind::Chain),
+    ] {
+        let list = list_of(rt.alloc(), kind, 1024)?;
+        time_cut(rt, name, list.as_slice(), calls)?;
+    }
     Ok(())
+}
+
+/// How many waves a list has, by a call that the compiler keeps; none where memory is wanting.
+#[inline(never)]
+fn wave_count(alloc: Global, jobs: &[Checked], levels: &[u32]) -> Option<usize>
+    requires few { length jobs.now ≤ 1024 }
+    requires needs { All (λ job. need job ≤ 1048576) jobs.now }
+    requires levels { levels.now ≡ fenced_levels jobs.now }
+{
+    Some(waves(alloc, jobs, levels, STAGING, 4096).ok()?.len())
+}
+
+/// Times the cut of a list into waves, its levels being known.
+fn time_cut(rt: &HostRuntime, name: &str, jobs: &[Checked], calls: u32) -> io::Result<()>
+    requires { 0 < calls }
+{
+    if jobs.len() > 1024 || !jobs.iter().all(|job| need(job.job()) <= 1_048_576) {
+        return Err(io::ErrorKind::InvalidData.into());
+    }
+    let Ok(found) = levels(rt.alloc(), jobs) else {
+        return Err(io::ErrorKind::OutOfMemory.into());
+    };
+    let start = Instant::now(rt)?;
+    for _ in 0..calls {
+        if wave_count(rt.alloc(), jobs, found.as_slice()).is_none() {
+            return Err(io::ErrorKind::OutOfMemory.into());
+        }
+    }
+    let nanoseconds = start.elapsed(rt)?.as_nanos() / u128::from(calls);
+    eprintln!(rt; "{name} {} {nanoseconds}", jobs.len())
 }
 
 /// Times the levels of one list.

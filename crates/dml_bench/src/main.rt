@@ -1,6 +1,6 @@
-//! Times `Engine::submit` with one worker: moves, fills, dualcasts, compares, creates and applies; the calls of an image
-//! that they stand on; jobs over the caller's own pages; scans of creates and applies; levels of lists; and
-//! `Engine::submit_list` with 1, 2 and 4 workers.
+//! Times `Engine::submit` with one worker: moves, fills, dualcasts, compares, creates and applies; the calls of an
+//! image that they stand on; jobs over the caller's own pages; scans of creates and applies; levels and waves of lists;
+//! and `Engine::submit_list` with 1, 2 and 4 workers.
 //!
 //! Each row of the standard error is a name, a number (a size in bytes, or the number of jobs, tasks or workers), and
 //! the nanoseconds of one call. Without arguments each job is timed once, and each list is one of two jobs, which shows

@@ -1,3 +1,5 @@
+mod growths;
+
 use crate::refusals::LineRefusal;
 use crate::requests::{Request, request_of};
 use crate::words::{Line, command_of};

@@ -8,3 +8,4 @@ pub mod PlanFacts
 pub mod StepFacts
 pub mod ReplayLemmas
 pub mod RoundLemmas
+pub mod JoinFacts

@@ -4,13 +4,12 @@ use Rattle.std.proofs.lemmas.Bool.{and_parts, or_left, or_right, ltb-true, eq-eq
 use Rattle.std.proofs.lemmas.List.{length-map, take_all}
 use Rattle.std.proofs.lemmas.List.Folds.{list_any-append}
 use Rattle.std.proofs.lemmas.List.Elements.{All-nil, All-cons, All-filter}
-use Rattle.std.proofs.lemmas.Nat.{and_assoc}
-use Rattle.std.specs.Int.Bits.{and_zero_r}
-use Rattle.std.specs.Prelude.{bit_and, is_some, nat_eq, nat_lt, slice_index}
+use Rattle.std.specs.Prelude.{is_some, nat_eq, nat_lt, slice_index}
 use Rattle.dml_types.specs.declared.statuses.Status.{Status}
 use Rattle.dml_types.specs.Job.{is_fenced, no_op_job, unfenced}
 use Rattle.dml_types.specs.Refusal.{refusal}
 use Rattle.dml_types.specs.Conflict.{fenced_levels, levels}
+use Rattle.dml_types.proofs.FenceLemmas.{unfenced_free}
 use Rattle.dml_desc.proofs.CheckedLemmas.{unfenced_where_accepted}
 use Rattle.dml_order.specs.Order.{is_in, IsOrder}
 use Rattle.dml_order.specs.Waves.{joined}
@@ -81,10 +80,7 @@ accepted_jobs jobs staging (i ∷ places) =
 
 -- no job is fenced as far as it does anything
 no_fence : (job : Job) → unfenced job ≡ job → is_fenced job ≡ false
-no_fence job free =
-    let same : bit_and job.flags 0xFFFFFFFE ≡ job.flags = ap (λ (j : Job). j.flags) free in
-    let cleared : bit_and job.flags 1 ≡ 0 = ap (λ (n : ℕ). bit_and n 1) (sym same) ∙ (and_assoc 1 job.flags 0xFFFFFFFE ∙ and_zero_r job.flags) in
-    ap (λ (n : ℕ). nat_eq n 1) cleared
+no_fence job free = ap is_fenced (sym free) ∙ unfenced_free job
 
 never_fenced : (staging : ℕ) (job : Job) → is_fenced (unless_refused staging job) ≡ false
 never_fenced staging job =

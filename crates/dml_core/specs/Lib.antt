@@ -4,3 +4,4 @@ pub mod World
 pub mod Replay
 pub mod Laws
 pub mod Rounds
+pub mod Joins

@@ -1,3 +1,4 @@
+ghost use Rattle.dml_core.specs.Joins.{KeptMeetJoins};
 ghost use Rattle.dml_core.specs.Laws.{CoreKeeps, EachHasItsValues, KeptJoinToStep, OnlyCommitWrites, SentIsSubmitted};
 ghost use Rattle.dml_core.specs.Rounds.{RoundHasRun, RoundsHaveRuns};
 
@@ -6,12 +7,14 @@ ghost use Rattle.dml_core.specs.Rounds.{RoundHasRun, RoundsHaveRuns};
 /// The image is the fold of the committed jobs in fetch order, each answer is the one of the fold at its place, and
 /// what was fetched of a client is the front of all that it sent. Only a commit changes the image. Each task of the
 /// first wave stands once among those to do, in hand and finished, with its value on the image as it stands; so at a
-/// commit each chunk of each job of the wave has its value, and these, joined as the chunks of a job are, are its step.
+/// commit each chunk of each job of the wave has its value, and these, joined as the chunks of a job are, are its step:
+/// pieces that carry them are what the joins of `dml_effect` ask for, and any other such join gives the same.
 pub fn law_of_core()
     ensures keeps { CoreKeeps }
     ensures sent { SentIsSubmitted }
     ensures only_commit_writes { OnlyCommitWrites }
     ensures values { EachHasItsValues }
+    ensures meet_joins { KeptMeetJoins }
     ensures joined { KeptJoinToStep }
 {}
 

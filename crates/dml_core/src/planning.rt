@@ -41,7 +41,8 @@ pub(crate) fn plan(
 ) -> Result<Vec<Places>, NoMemory>
     requires valid { IsValid settings.now }
     requires few { length (word.open_places fetched.now) ≤ 1024 }
-    ensures waves { IfOk result (λ plan. plan.items ≡ word.plan_of fetched.now settings.now.staging settings.now.chunk) }
+    ensures waves { IfOk result (λ plan. plan.items
+        ≡ word.plan_of fetched.now settings.now.staging settings.now.chunk) }
     ensures inside { IfOk result (λ plan. All (All (λ i. i < length fetched.now)) plan.items) }
 {
     let &Settings { staging, chunk, .. } = settings;
@@ -145,7 +146,8 @@ fn checked_jobs(
     staging: u32,
 ) -> Result<Vec<Checked>, AllocError>
     requires inside { All (λ i. i < length fetched.now) places.now }
-    ensures jobs { IfOk result (λ jobs. jobs.items ≡ map (λ i. unless_refused staging (job_at (jobs_of fetched.now) i)) places.now) }
+    ensures jobs { IfOk result (λ jobs. jobs.items
+        ≡ map (λ i. unless_refused staging (job_at (jobs_of fetched.now) i)) places.now) }
     ensures needs { IfOk result (λ jobs. All (λ job. need job ≤ staging) jobs.items) }
 {
     let mut jobs = Vec::new(alloc);

@@ -190,9 +190,12 @@ struct Outset {
 fn set_out(alloc: Global, fetched: &[Fetched], settings: &Settings) -> Result<Outset, NoMemory>
     requires valid { IsValid settings.now }
     requires few { length (open_places fetched.now) ≤ 1024 }
-    ensures waves { IfOk result (λ outset. outset.waves.items ≡ plan_of fetched.now settings.now.staging settings.now.chunk) }
+    ensures waves { IfOk result (λ outset. outset.waves.items
+        ≡ plan_of fetched.now settings.now.staging settings.now.chunk) }
     ensures inside { IfOk result (λ outset. All (All (λ i. i < length fetched.now)) outset.waves.items) }
-    ensures tasks { IfOk result (λ outset. outset.tasks.items ≡ word.tasks_of (jobs_of fetched.now) settings.now.staging settings.now.chunk (slice_index_or outset.waves.items 0 [])) }
+    ensures tasks { IfOk result (λ outset. outset.tasks.items
+        ≡ word.tasks_of (jobs_of fetched.now) settings.now.staging settings.now.chunk
+        (slice_index_or outset.waves.items 0 [])) }
 {
     let waves = plan(alloc, fetched, settings)?;
     let tasks = wave_tasks(alloc, fetched, settings, waves.as_slice(), 0)?;
@@ -209,7 +212,9 @@ fn wave_tasks(
 ) -> Result<Vec<Task>, AllocError>
     requires valid { IsValid settings.now }
     requires inside { All (All (λ i. i < length fetched.now)) waves.now }
-    ensures { IfOk result (λ tasks. tasks.items ≡ word.tasks_of (jobs_of fetched.now) settings.now.staging settings.now.chunk (slice_index_or waves.now index [])) }
+    ensures { IfOk result (λ tasks. tasks.items
+        ≡ word.tasks_of (jobs_of fetched.now) settings.now.staging settings.now.chunk
+        (slice_index_or waves.now index [])) }
 {
     match waves.get(index) {
         Some(wave) => tasks_of(alloc, fetched, settings, wave.list.as_slice()),

@@ -24,7 +24,8 @@ pub(crate) fn tasks_of(
 ) -> Result<Vec<Task>, AllocError>
     requires valid { IsValid settings.now }
     requires inside { All (λ i. i < length fetched.now) wave.now }
-    ensures { IfOk result (λ tasks. tasks.items ≡ word.tasks_of (jobs_of fetched.now) settings.now.staging settings.now.chunk wave.now) }
+    ensures { IfOk result (λ tasks. tasks.items
+        ≡ word.tasks_of (jobs_of fetched.now) settings.now.staging settings.now.chunk wave.now) }
 {
     let mut tasks = Vec::new(alloc);
     for place in wave {
@@ -66,7 +67,8 @@ fn push_chunks(
 ) -> Result<(), AllocError>
     requires size { size ≤ 1048576 }
     requires count { count ≤ 131072 }
-    ensures { OnOk result (tasks.new.items ≡ tasks.old.items ++ map (task_for place size last) (range_with_len 0 count)) }
+    ensures { OnOk result (tasks.new.items ≡ tasks.old.items
+        ++ map (task_for place size last) (range_with_len 0 count)) }
 {
     for k in 0..count {
         let from = u64::from(k) * size;

@@ -43,9 +43,20 @@ impl Model for World {
 
     ghost Value = { state.World };
 
-    ghost view = { λ w. record { settings = w.settings; image = w.image; sent = w.sent.items; fetched = w.fetched.items; waves = drop w.committed w.waves.items; to_do = drop w.taken w.tasks.items; hands = w.hands.items; finished = map (kept_by w.fetched.items w.image) w.finished.items } };
+    ghost view = { λ w. record {
+      settings = w.settings;
+      image = w.image;
+      sent = w.sent.items;
+      fetched = w.fetched.items;
+      waves = drop w.committed w.waves.items;
+      to_do = drop w.taken w.tasks.items;
+      hands = w.hands.items;
+      finished = map (kept_by w.fetched.items w.image) w.finished.items;
+    } };
 
-    ghost invariant = { λ w. IsValid w.settings × (w.arena.size ≡ w.settings.staging) × (w.committed ≤ length w.waves.items) × (w.taken ≤ length w.tasks.items) × All (All (λ i. i < length w.fetched.items)) w.waves.items };
+    ghost invariant = { λ w. IsValid w.settings × (w.arena.size ≡ w.settings.staging)
+        × (w.committed ≤ length w.waves.items) × (w.taken ≤ length w.tasks.items)
+        × All (All (λ i. i < length w.fetched.items)) w.waves.items };
 }
 
 /// What a world takes memory for before its first step.
@@ -119,8 +130,10 @@ impl World {
         ensures world { IfOk result (λ world. world ≡ new_world image.entry settings clients) }
         ensures handed_back { IfErr result (λ refused. refused.0 ≡ image.entry) }
         ensures bad_settings { IfErr result (λ refused. (refused.1 ≡ WorldError.BadSettings) ↔ (IsValid settings → ⊥)) }
-        ensures bad_clients { IfErr result (λ refused. refused.1 ≡ WorldError.BadClients → (clients < 1) ⊎ (8 < clients)) }
-        ensures no_memory { IfErr result (λ refused. refused.1 ≡ WorldError.NoMemory → IsValid settings × (1 ≤ clients) × (clients ≤ 8)) }
+        ensures bad_clients { IfErr result (λ refused. refused.1 ≡ WorldError.BadClients →
+            (clients < 1) ⊎ (8 < clients)) }
+        ensures no_memory { IfErr result (λ refused. refused.1 ≡ WorldError.NoMemory →
+            IsValid settings × (1 ≤ clients) × (clients ≤ 8)) }
         ensures limits { OnOk result (IsValid settings × (1 ≤ clients) × (clients ≤ 8)) }
     {
         if !settings.is_valid() {

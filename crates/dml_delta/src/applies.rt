@@ -1,4 +1,4 @@
-ghost use Rattle.std.specs.Prelude.{◌≡◌, ◌+◌, ◌-◌, ◌*◌, ◌/◌, ◌<◌, ◌≤◌, ◌==◌, ◌++◌, None, Some, [], length, option_map, if◌then◌else◌, IsTrue};
+ghost use Rattle.std.specs.Prelude.{◌≡◌, ◌+◌, ◌-◌, ◌*◌, ◌/◌, ◌<◌, ◌≤◌, ◌==◌, ◌++◌, None, Some, [], length, option_map, take, if◌then◌else◌, IsTrue};
 ghost use Rattle.dml_arena.specs.Piece.{SamePlace};
 ghost use Rattle.dml_types.specs.declared.operations.Op.TheVariants.{ApplyDelta};
 ghost use Rattle.dml_types.specs.Job.{op_of};
@@ -128,7 +128,9 @@ fn first_bad(image: &Image, job: &Checked, from: u32, entry: u32, to: u32) -> Op
     requires order { (from ≤ entry) × (entry ≤ to) }
     requires within { to ≤ job.now.delta_size / 10 }
     requires present { IsTrue (has_all image.now (job.now.source + 10 * from) (10 * (entry - from))) }
-    ensures { option_map bad_of result ≡ (if entry == to then None else option_map (λ fault. (entry, fault)) (entry_fault from image.now job.now entry)) }
+    ensures { option_map bad_of result
+        ≡ (if entry == to then None
+        else option_map (λ fault. (entry, fault)) (entry_fault from image.now job.now entry)) }
 {
     if entry == to {
         return None;
@@ -142,7 +144,8 @@ fn bad_entry(image: &Image, job: &Checked, behind: u32, entry: u32) -> Option<Ba
     requires operation { op_of job.now ≡ Some ApplyDelta }
     requires within { entry < job.now.delta_size / 10 }
     requires present { behind < entry → IsTrue (has_all image.now (job.now.source + 10 * (entry - 1)) 10) }
-    ensures { option_map bad_of result ≡ option_map (λ fault. (entry, fault)) (entry_fault behind image.now job.now entry) }
+    ensures { option_map bad_of result
+        ≡ option_map (λ fault. (entry, fault)) (entry_fault behind image.now job.now entry) }
 {
     let bad = |status, place| {
         Some(BadEntry {
@@ -202,7 +205,7 @@ fn stage_good(image: &Image, job: &Checked, from: u32, to: u32, room: &mut Regio
         let mut edge = [0; 10];
         let entries = entries_at(&*image, place, 10 * (readable - good), &mut edge);
         let run = judge(image, job, least, entries);
-        room.push(&entries[..10 * run.good as usize]);
+        push_good(entries, run.good, room);
         good += run.good;
         least = run.least;
         if (run.good as usize) < entries.len() / 10 {
@@ -210,4 +213,14 @@ fn stage_good(image: &Image, job: &Checked, from: u32, to: u32, room: &mut Regio
         }
     }
     good
+}
+
+/// Stages the good entries at the front of a run.
+fn push_good(entries: &[u8], good: u32, room: &mut Region<'_>)
+    requires good { 10 * good ≤ length entries.now }
+    requires fits { length room.old.bytes + 10 * good ≤ room.old.room }
+    ensures place { SamePlace room.old room.new }
+    ensures bytes { room.new.bytes ≡ room.old.bytes ++ take (10 * good) entries.now }
+{
+    room.push(&entries[..10 * good as usize]);
 }

@@ -108,7 +108,8 @@ fn stage_differing(image: &Image, job: &Checked, from: u32, count: u32, room: &m
     requires target { IsTrue (has_all image.now (job.now.target + 8 * from) (8 * count)) }
     requires fits { length room.old.bytes + 10 * count ≤ room.old.room }
     ensures place { SamePlace room.old room.new }
-    ensures bytes { room.new.bytes ≡ room.old.bytes ++ gathered (block_entry image.now job.now) (differs image.now job.now) from count }
+    ensures bytes { room.new.bytes ≡ room.old.bytes
+        ++ gathered (block_entry image.now job.now) (differs image.now job.now) from count }
 {
     let job = job.job();
     let mut entries = Entries::new();

@@ -23,7 +23,8 @@ pub fn add_differing(
     requires numbers { number + length one.now / 8 ≤ 65536 }
     requires fits { length room.old.bytes + length entries.old + 10 * (length one.now / 8) ≤ room.old.room }
     ensures place { SamePlace room.old room.new }
-    ensures bytes { room.new.bytes ++ entries.new ≡ (room.old.bytes ++ entries.old) ++ gathered (nth_entry number other.now) (nth_differs one.now other.now) 0 (length one.now / 8) }
+    ensures bytes { room.new.bytes ++ entries.new ≡ (room.old.bytes ++ entries.old)
+        ++ gathered (nth_entry number other.now) (nth_differs one.now other.now) 0 (length one.now / 8) }
 {
     let groups = one.len() / GROUP;
     for k in 0..groups {
@@ -80,7 +81,8 @@ fn add_marked(entries: &mut Entries, marks: u64, blocks: &[u8], number: u32, roo
     requires numbers { number + length blocks.now / 8 ≤ 65536 }
     requires fits { length room.old.bytes + length entries.old ≤ room.old.room }
     ensures place { SamePlace room.old room.new }
-    ensures bytes { room.new.bytes ++ entries.new ≡ (room.old.bytes ++ entries.old) ++ gathered (nth_entry number blocks.now) (is_marked marks) 0 (length blocks.now / 8) }
+    ensures bytes { room.new.bytes ++ entries.new ≡ (room.old.bytes ++ entries.old)
+        ++ gathered (nth_entry number blocks.now) (is_marked marks) 0 (length blocks.now / 8) }
 {
     if marks != 0 {
         entries.make_room(room);
@@ -94,7 +96,8 @@ fn add_entries(entries: &mut Entries, marks: u64, blocks: &[u8], number: u32)
     requires marks { (i : ℕ) → is_marked marks i ≡ true → 8 * i + 8 ≤ length blocks.now }
     requires numbers { number + length blocks.now / 8 ≤ 65536 }
     requires fits { length entries.old + 80 ≤ 640 }
-    ensures { entries.new ≡ entries.old ++ gathered (nth_entry number blocks.now) (is_marked marks) 0 (length blocks.now / 8) }
+    ensures { entries.new ≡ entries.old
+        ++ gathered (nth_entry number blocks.now) (is_marked marks) 0 (length blocks.now / 8) }
 {
     let mut marks = marks;
     let mut at = 0;

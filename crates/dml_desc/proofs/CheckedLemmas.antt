@@ -5,6 +5,7 @@ use Rattle.std.specs.List.{list_any}
 use Rattle.std.proofs.lemmas.Bool.{le-ltb, ltb-false, or_from, or_parts}
 use Rattle.std.proofs.lemmas.Bool.Decides.{nat_tests}
 use Rattle.std.proofs.lemmas.Nat.{and_assoc}
+use Rattle.std.specs.Int.Bits.{and_zero_r}
 use Rattle.dml_types.specs.declared.jobs.Job.{Job}
 use Rattle.dml_types.specs.declared.spans.Span.{Span}
 use Rattle.dml_types.specs.declared.operations.Op.{Op}
@@ -17,7 +18,7 @@ use Rattle.dml_types.specs.Refusal.{first_broken, has_bad_flags, refusal, refusa
 use Rattle.dml_types.specs.Memory.{Memory, puts_made}
 use Rattle.dml_types.specs.Effect.{Effect}
 use Rattle.dml_types.specs.Step.{effect, operation_effect}
-use Rattle.dml_types.proofs.FenceLemmas.{effect_by_unfenced}
+use Rattle.dml_types.proofs.FenceLemmas.{effect_by_unfenced, unfenced_free, unfenced_same}
 use Rattle.dml_types.proofs.StepLemmas.{effect_accepted}
 use Rattle.dml_desc.specs.RefusalLaws.{BreaksNone, IsKept}
 use Rattle.dml_desc.proofs.RefusalLemmas.{accepted_where_none_broken}
@@ -64,12 +65,12 @@ rules_of_accepted job staging op operation none =
 pub unfenced_where_flags : (job : Job) → has_bad_flags job ≡ false → unfenced job ≡ job
 unfenced_where_flags job flags =
     let own : bit_and job.flags 0x18E ≡ job.flags = grind (arith, nat_tests, flags) in
-    let cleared : bit_and job.flags 0xFFFFFFFE ≡ job.flags =
-    ap (λ (f : ℕ). bit_and f 0xFFFFFFFE) (sym own) ∙ (and_assoc 0xFFFFFFFE job.flags 0x18E ∙ own) in
-    ap (λ (f : ℕ). record job { flags = f }) cleared
+    let none : bit_and job.flags 1 ≡ 0 =
+    ap (λ (f : ℕ). bit_and f 1) (sym own) ∙ (and_assoc 1 job.flags 0x18E ∙ and_zero_r job.flags) in
+    unfenced_same job (ap (λ (n : ℕ). nat_eq n 1) none)
 
 pub unfenced_twice : (job : Job) → unfenced (unfenced job) ≡ unfenced job
-unfenced_twice job = ap (λ (f : ℕ). record job { flags = f }) (and_assoc 0xFFFFFFFE job.flags 0xFFFFFFFE)
+unfenced_twice job = unfenced_same (unfenced job) (unfenced_free job)
 
 pub unfenced_where_accepted : (job : Job) (staging : ℕ) → refusal job staging ≡ None → unfenced job ≡ job
 unfenced_where_accepted job staging accepted =

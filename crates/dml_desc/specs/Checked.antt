@@ -10,7 +10,8 @@ use Rattle.dml_types.specs.Step.{effect, step}
 use Rattle.dml_types.specs.Job.{op_of, span, shares, unfenced}
 use Rattle.dml_types.specs.Refusal.{refusal, need, has_bad_flags, has_bad_size, has_bad_delta_size, is_misaligned, has_dualcast_bits, has_overlap, has_range_past}
 
--- a job breaks no rule where there is as much staging as it needs, apart from its fence: that counts in a batch alone
+-- a job breaks no rule where there is as much staging as it needs, apart from its fence: that counts in a batch
+-- alone
 pub record IsChecked (job : Job) : Type 0 where
   pub accepted : refusal (unfenced job) (need job) ≡ None
 

@@ -35,7 +35,8 @@ IsRefusedBy job staging status = ((op_of job ≡ None) × (status ≡ BadOpcode)
 
 abbrev pub RefusedByFirstBroken : Type 0
 RefusedByFirstBroken =
-    (job : Job) (staging : ℕ) (status : Status) → (refusal job staging ≡ Some status) ↔ IsRefusedBy job staging status
+    (job : Job) (staging : ℕ) (status : Status)
+    → (refusal job staging ≡ Some status) ↔ IsRefusedBy job staging status
 
 abbrev pub AcceptedWhereNoneBroken : Type 0
 AcceptedWhereNoneBroken = (job : Job) (staging : ℕ) → (refusal job staging ≡ None) ↔ BreaksNone job staging

@@ -1,4 +1,4 @@
-ghost use Rattle.std.specs.Prelude.{◌≡◌, ◌+◌, ◌^◌, nat_lt, if◌then◌else◌, None, Some};
+ghost use Rattle.std.specs.Prelude.{◌≡◌, ◌≤◌, ◌+◌, ◌^◌, nat_lt, if◌then◌else◌, None, Some};
 ghost use Rattle.dml_types.specs.Step as equation;
 
 use dml_types::{Job, Op, Record, Status};
@@ -15,6 +15,43 @@ fn turned(pattern: u64, k: u32) -> u64
     ensures { result ≡ equation.turned pattern k }
 {
     pattern.rotate_right(8 * (k % 8))
+}
+
+/// A job without its first `k` bytes, for the operations that go on behind them; None for the others, and where an
+/// address further on would be above 2^64 - 1.
+fn without_front(op: Op, job: &Job, k: u32) -> Option<Job>
+    requires { k ≤ job.now.size }
+    ensures { result ≡ equation.fitting_rest op job.now k }
+{
+    let size = job.size - k;
+    match op {
+        Op::Move | Op::Compare => Some(Job {
+            source: advanced(job.source, k)?,
+            target: advanced(job.target, k)?,
+            size,
+            ..*job
+        }),
+        Op::Fill => Some(Job {
+            source: turned(job.source, k),
+            target: advanced(job.target, k)?,
+            size,
+            ..*job
+        }),
+        Op::ComparePattern => Some(Job {
+            source: advanced(job.source, k)?,
+            target: turned(job.target, k),
+            size,
+            ..*job
+        }),
+        Op::Dualcast => Some(Job {
+            source: advanced(job.source, k)?,
+            target: advanced(job.target, k)?,
+            extra: advanced(job.extra, k)?,
+            size,
+            ..*job
+        }),
+        Op::NoOp | Op::CreateDelta | Op::ApplyDelta => None,
+    }
 }
 
 /// The job that is left of `job` after a page fault, by the completion record that answered it: what it has still to
@@ -34,49 +71,11 @@ pub fn rest(job: &Job, answer: &Record) -> Option<Job>
     if k >= job.size {
         return None;
     }
-    let size = job.size - k;
     match job.op()? {
-        Op::Move if answer.result == 1 => Some(Job { size, ..*job }),
-        Op::Move | Op::Compare => {
-            let source = advanced(job.source, k)?;
-            let target = advanced(job.target, k)?;
-            Some(Job {
-                source,
-                target,
-                size,
-                ..*job
-            })
-        }
-        Op::Fill => {
-            let target = advanced(job.target, k)?;
-            Some(Job {
-                source: turned(job.source, k),
-                target,
-                size,
-                ..*job
-            })
-        }
-        Op::ComparePattern => {
-            let source = advanced(job.source, k)?;
-            Some(Job {
-                source,
-                target: turned(job.target, k),
-                size,
-                ..*job
-            })
-        }
-        Op::Dualcast => {
-            let source = advanced(job.source, k)?;
-            let target = advanced(job.target, k)?;
-            let extra = advanced(job.extra, k)?;
-            Some(Job {
-                source,
-                target,
-                extra,
-                size,
-                ..*job
-            })
-        }
-        Op::NoOp | Op::CreateDelta | Op::ApplyDelta => None,
+        Op::Move if answer.result == 1 => Some(Job {
+            size: job.size - k,
+            ..*job
+        }),
+        op => without_front(op, job, k),
     }
 }

@@ -1,5 +1,6 @@
 use crate::rest;
 use dml_types::{Job, Record, Status};
+use std::process::Abort;
 
 /// A completion record; no job of these has a delta record.
 fn record(status: Status, outcome: u8, completed: u32, fault: u64) -> Record {
@@ -22,6 +23,13 @@ fn write(completed: u32, fault: u64) -> Record {
     record(Status::WriteFault, 0, completed, fault)
 }
 
+/// Compares what is left of each job of a table after its record.
+fn expect_rests(rt: &impl Abort, rows: &[(Job, Record, Option<Job>)]) {
+    for (job, answer, want) in rows {
+        assert_eq!(rt; rest(job, answer), *want, "{job:?} {answer:?}");
+    }
+}
+
 /// The rests of moves, and what has none.
 #[test]
 fn rest_of_moves(rt: HostRuntime) {
@@ -39,9 +47,7 @@ fn rest_of_moves(rt: HostRuntime) {
         (forward, read(50, 4096), None),
         (forward, read(51, 4096), None),
     ];
-    for (job, answer, want) in table {
-        assert_eq!(rt; rest(&job, &answer), want, "{job:?} {answer:?}");
-    }
+    expect_rests(&rt, &table);
 }
 
 /// What is left of each operation, where there is something left.
@@ -82,9 +88,7 @@ fn each_operation(rt: HostRuntime) {
         (Job::apply_delta(4096, 10, 0, 8), read(0, 4096), None),
         (unsupported, read(0, 0), None),
     ];
-    for (job, answer, want) in table {
-        assert_eq!(rt; rest(&job, &answer), want, "{job:?} {answer:?}");
-    }
+    expect_rests(&rt, &table);
 }
 
 /// Only a move with result exactly 1 keeps its addresses, and no address further on is above 2^64 - 1.
@@ -120,7 +124,5 @@ fn results_and_addresses(rt: HostRuntime) {
         (Job::compare_pattern(u64::MAX - 15, 0, 17), past, None),
         (Job::dualcast(0, 0, u64::MAX - 15, 17), past, None),
     ];
-    for (job, answer, want) in table {
-        assert_eq!(rt; rest(&job, &answer), want, "{job:?} {answer:?}");
-    }
+    expect_rests(&rt, &table);
 }

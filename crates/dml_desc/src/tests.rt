@@ -1,4 +1,4 @@
-use crate::{batch_bytes, check, decode, need, record_bytes};
+use crate::{batch_bytes, check, check_in_batch, decode, need, record_bytes};
 use byteorder::{ByteOrder, LittleEndian};
 use dml_types::{BatchRecord, Job, Op, Record, Status};
 use hex::FromHex;
@@ -423,6 +423,72 @@ fn each_operation(rt: HostRuntime) {
         assert_eq!(rt; read, job, "{job:?}");
         let checked = check(&read, STAGING).map(|checked| (*checked.job(), checked.op()));
         assert_eq!(rt; checked, Ok((job, op)), "{job:?}");
+    }
+}
+
+/// The job of a batch's passed check, or its status.
+fn answer_in_batch(job: &Job) -> Result<Job, Status> {
+    check_in_batch(job, STAGING).map(|checked| *checked.job())
+}
+
+/// In a batch the fence is accepted, and takes no other rule's place.
+#[test]
+fn fences_in_a_batch(rt: HostRuntime) {
+    let unsupported = Job {
+        opcode: 0x10,
+        ..Job::no_op()
+    };
+    let long_move = Job::move_bytes(0, 0, 1_048_577);
+    let table = [
+        (Job::no_op(), None),
+        (Job::no_op().with_flags(0x01), None),
+        (Job::no_op().with_flags(0x18f), None),
+        (Job::no_op().with_flags(0x11), Some(Status::BadFlags)),
+        (Job::no_op().with_flags(0x10), Some(Status::BadFlags)),
+        (unsupported.with_flags(0x01), Some(Status::BadOpcode)),
+        (long_move.with_flags(0x01), Some(Status::BadSize)),
+        (long_move.with_flags(0x11), Some(Status::BadFlags)),
+        (
+            Job::dualcast(0, 8, 16, 100).with_flags(0x01),
+            Some(Status::DualcastBits),
+        ),
+    ];
+    for (job, status) in table {
+        let want = match status {
+            Some(status) => Err(status),
+            None => Ok(job),
+        };
+        assert_eq!(rt; answer_in_batch(&job), want, "{job:?}");
+    }
+}
+
+/// A fenced job of each operation is accepted in a batch, with its fence, and refused alone.
+#[test]
+fn fenced_operations(rt: HostRuntime) {
+    let table = [
+        (Job::no_op(), Op::NoOp),
+        (Job::move_bytes(1, 2, 3), Op::Move),
+        (Job::fill(0x0807_0605_0403_0201, 4090, 12), Op::Fill),
+        (Job::compare(0, 8192, 64), Op::Compare),
+        (Job::compare_pattern(5, 6, 7), Op::ComparePattern),
+        (Job::create_delta(0, 64, 32, 4076, 30), Op::CreateDelta),
+        (Job::apply_delta(16, 10, 256, 32), Op::ApplyDelta),
+        (Job::dualcast(0, 4096, 8192, 4), Op::Dualcast),
+    ];
+    for (job, op) in table {
+        for flags in [0x01, 0x0f, 0x101] {
+            let fenced = job.with_flags(flags);
+            let checked = check_in_batch(&fenced, STAGING).map(|checked| (
+                *checked.job(),
+                checked.op(),
+            ));
+            assert_eq!(rt; checked, Ok((fenced, op)), "{fenced:?}");
+            assert_eq!(rt;
+                answer(&fenced, STAGING),
+                Err(Status::BadFlags),
+                "{fenced:?}"
+            );
+        }
     }
 }
 

@@ -9,5 +9,6 @@ pub mod EntryLemmas
 pub mod JoinLemmas
 pub mod PageLemmas
 pub mod PutLemmas
+pub mod ScannedLemmas
 pub mod StraightLemmas
 pub mod WholeLemmas

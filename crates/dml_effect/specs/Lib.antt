@@ -3,3 +3,4 @@ pub mod Chunks
 pub mod Effects
 pub mod Joined
 pub mod Pages
+pub mod Straight

@@ -1,34 +1,37 @@
 //! Jobs carried out on an image, each as one chunk.
-ghost use Rattle.std.specs.Prelude.{◌≡◌, ◌≢◌, ◌⊎◌, ◌≤◌, [], Some, IsTrue};
-ghost use Rattle.dml_types.specs.declared.operations.Op.TheVariants.{ApplyDelta, Compare, ComparePattern, CreateDelta, Dualcast, Fill, Move, NoOp};
+ghost use Rattle.std.specs.Prelude.{◌≡◌, ◌↔◌, ◌⊎◌, ◌≤◌, ℕ, List, [], Some, IsTrue};
+ghost use Rattle.dml_types.specs.declared.operations.Op.TheVariants.{ApplyDelta, Compare, ComparePattern, CreateDelta, Dualcast, Fill, Move};
 ghost use Rattle.dml_types.specs.Job.{op_of};
 ghost use Rattle.dml_types.specs.Memory.{puts_made};
 ghost use Rattle.dml_types.specs.Refusal.{need};
 ghost use Rattle.dml_types.specs.Step.{step};
 ghost use Rattle.dml_desc.specs.Checked.{checked_step};
-ghost use Rattle.dml_effect.specs.Chunks.{IsWholeScan};
-ghost use Rattle.dml_effect.specs.Effects.{are_present};
+ghost use Rattle.dml_types.specs.declared.operations.Direction.TheVariants.{Forward};
+ghost use Rattle.dml_effect.specs.Chunks.{GoesByOffsets};
+ghost use Rattle.dml_effect.specs.Effects.{are_present, puts_of};
+ghost use Rattle.dml_effect.specs.Joined as joined;
+ghost use Rattle.dml_effect.specs.Straight.{IsDelta, IsScanned, IsWholeFound, TakesStaging};
 
 use crate::applying::join_apply;
 use crate::creating::join_create;
-use crate::effects::{Effect, commit};
-use crate::joining::join_found;
-use crate::records::{by_fields, copied_record, ended};
+use crate::effects::{Effect, Puts, commit};
+use crate::records::{by_fields, copied_record, ended, scanned_record};
 use dml_arena::{Arena, Region};
 use dml_delta::{scan_apply, scan_create};
 use dml_desc::{Checked, check};
 use dml_image::Image;
 use dml_scan::{
-    ScanPiece, dualcast_found, move_found, scan_compare, scan_compare_pattern, scan_fill,
-    work_direction,
+    compare_found, compare_pattern_found, dualcast_found, fill_found, move_found, work_direction,
 };
-use dml_types::{Direction, Job, Op, Record, Status};
+use dml_types::{Direction, Found, Job, Op, Record, Status};
 use std::iter;
 
 /// Checks a job and carries it out on an image, or answers its refusal. A refused job changes nothing.
+///
+/// Room is asked for where the job takes staging: [`takes_staging`] is the test.
 #[tactic(auto, using(dml_types::proofs::StepLemmas::effect_refused, crate::proofs::WholeLemmas::effect_at_need, crate::proofs::WholeLemmas::need_under))]
 pub fn submit_to(image: &mut Image, arena: &mut Arena, job: &Job, staging: u32) -> Record
-    requires staging { staging ≤ arena.old.size }
+    requires staging { TakesStaging job.now staging → need job.now ≤ arena.old.size }
     ensures image { image.new ≡ (step image.old job.now staging).0 }
     ensures answer { result ≡ (step image.old job.now staging).1 }
     ensures arena { arena.new ≡ arena.old }
@@ -39,22 +42,66 @@ pub fn submit_to(image: &mut Image, arena: &mut Arena, job: &Job, staging: u32) 
     }
 }
 
-/// Carries out a job as one chunk, and returns its completion record.
+/// The same for a job that takes no staging.
+#[tactic(auto, using(dml_types::proofs::StepLemmas::effect_refused, crate::proofs::WholeLemmas::effect_at_need, crate::proofs::WholeLemmas::need_under))]
+pub fn submit_straight_to(image: &mut Image, job: &Job, staging: u32) -> Record
+    requires staging { TakesStaging job.now staging → ⊥ }
+    ensures image { image.new ≡ (step image.old job.now staging).0 }
+    ensures answer { result ≡ (step image.old job.now staging).1 }
+{
+    match check(job, staging) {
+        Ok(checked) => by_fields(carry_out_straight(image, &checked)),
+        Err(refusal) => Record::refused(refusal),
+    }
+}
+
+/// Whether a job that is carried out as one chunk takes staging: it is a create or an apply, and its need is within the
+/// limit. Any other job goes straight within the image, or is refused.
+pub fn takes_staging(job: &Job, staging: u32) -> bool
+    ensures { IsTrue result ↔ TakesStaging job.now staging }
+{
+    match job.op() {
+        Some(Op::CreateDelta | Op::ApplyDelta) => dml_desc::need(job) <= u64::from(staging),
+        _ => false,
+    }
+}
+
+/// Carries out a job as one chunk, and returns its completion record. Nothing is allocated.
 ///
-/// A move and a dualcast go straight within the image, which has no other job. Nothing is allocated.
+/// A create and an apply stage their record in the arena; all else goes straight.
 pub fn carry_out(image: &mut Image, arena: &mut Arena, job: &Checked) -> Record
-    requires staging { need job.now ≤ arena.old.size }
+    requires staging { IsDelta job.now → need job.now ≤ arena.old.size }
     ensures image { image.new ≡ (checked_step image.old job.now).0 }
     ensures answer { result ≡ (checked_step image.old job.now).1 }
     ensures arena { arena.new ≡ arena.old }
+{
+    match job.op() {
+        Op::CreateDelta => {
+            let room = arena.open();
+            let effect = create_in(image, job, room);
+            by_fields(commit(image, effect))
+        }
+        Op::ApplyDelta => {
+            let room = arena.open();
+            let effect = apply_in(image, job, room);
+            by_fields(commit(image, effect))
+        }
+        _ => carry_out_straight(image, job),
+    }
+}
+
+/// Carries out a job that stages nothing as one chunk, within the image, and returns its completion record.
+pub fn carry_out_straight(image: &mut Image, job: &Checked) -> Record
+    requires operation { GoesByOffsets job.now }
+    ensures image { image.new ≡ (checked_step image.old job.now).0 }
+    ensures answer { result ≡ (checked_step image.old job.now).1 }
 {
     match job.op() {
         Op::NoOp => ended(Status::Success, 0, 0),
         Op::Move => by_fields(move_straight(image, job)),
         Op::Dualcast => by_fields(dualcast_straight(image, job)),
         _ => {
-            let room = arena.open();
-            let effect = whole_effect(image, job, room);
+            let effect = scan_in(image, job);
             by_fields(commit(image, effect))
         }
     }
@@ -109,45 +156,48 @@ fn dualcast_straight(image: &mut Image, job: &Checked) -> Record
     answer
 }
 
-/// The effect of a whole job that does not go straight.
-fn whole_effect<'a>(image: &Image, job: &Checked, room: Region<'a>) -> Effect<'a>
-    requires operation { (op_of job.now ≢ Some NoOp) × (op_of job.now ≢ Some Move) × (op_of job.now ≢ Some Dualcast) }
-    requires empty { room.bytes ≡ [] }
-    requires fits { need job.now ≤ room.room }
-    ensures answer { result.answer ≡ (checked_step image.now job.now).1 }
-    ensures image { puts_made image.now result.puts ≡ (checked_step image.now job.now).0 }
-    ensures present { IsTrue (are_present image.now result.puts) }
-{
-    match job.op() {
-        Op::CreateDelta => create_in(image, job, room),
-        Op::ApplyDelta => apply_in(image, job, room),
-        _ => scan_in(image, job, room),
-    }
-}
-
 /// The effect of a whole fill or compare, which stages nothing.
-fn scan_in<'a>(image: &Image, job: &Checked, room: Region<'a>) -> Effect<'a>
-    requires operation { (op_of job.now ≡ Some Fill) ⊎ (op_of job.now ≡ Some Compare) ⊎ (op_of job.now ≡ Some ComparePattern) }
-    requires empty { room.bytes ≡ [] }
+fn scan_in<'a>(image: &Image, job: &Checked) -> Effect<'a>
+    requires operation { IsScanned job.now }
     ensures answer { result.answer ≡ (checked_step image.now job.now).1 }
     ensures image { puts_made image.now result.puts ≡ (checked_step image.now job.now).0 }
     ensures present { IsTrue (are_present image.now result.puts) }
 {
-    let piece = scan_whole(image, job, room);
-    join_found(image, job, iter::once(piece))
+    let _pages = image.pages(); // says what every image keeps
+    let found = whole_found(image, job);
+    let op = job.op();
+    let job = job.job();
+    let answer = scanned_record(op, job, Direction::Forward, found);
+    let puts = scanned_puts(op, job, answer.completed);
+    Effect { answer, puts }
 }
 
-/// Scans a whole fill or compare as one chunk.
-fn scan_whole<'a>(image: &Image, job: &Checked, room: Region<'a>) -> ScanPiece<'a>
-    requires operation { (op_of job.now ≡ Some Fill) ⊎ (op_of job.now ≡ Some Compare) ⊎ (op_of job.now ≡ Some ComparePattern) }
-    requires empty { room.bytes ≡ [] }
-    ensures whole { IsWholeScan image.now job.now (Some result) }
+/// How the scan of a whole fill or compare ends.
+fn whole_found(image: &Image, job: &Checked) -> Found
+    requires operation { IsScanned job.now }
+    ensures { IsWholeFound image.now job.now result }
 {
     let size = job.job().size;
     match job.op() {
-        Op::Compare => scan_compare(image, job, 0, size, room),
-        Op::ComparePattern => scan_compare_pattern(image, job, 0, size, room),
-        _ => scan_fill(image, job, 0, size, room),
+        Op::Compare => compare_found(image, job, 0, size),
+        Op::ComparePattern => compare_pattern_found(image, job, 0, size),
+        _ => fill_found(image, job, 0, size),
+    }
+}
+
+/// The puts of a fill or a compare that did `done` bytes of its range.
+fn scanned_puts<'a>(op: Op, job: &Job, done: u32) -> Puts<'a>
+    requires { (op ≡ Fill) ⊎ (op ≡ Compare) ⊎ (op ≡ ComparePattern) }
+    ensures { (bytes : List ℕ) → puts_of result ≡ joined.scanned_puts op job.now Forward done bytes }
+{
+    if op == Op::Fill && done > 0 {
+        Puts::Pattern {
+            addr: job.target,
+            len: done,
+            pattern: job.source,
+        }
+    } else {
+        Puts::Nothing
     }
 }
 

@@ -1,7 +1,8 @@
 //! What a job does, as a value: its completion record and the bytes that it puts.
 //!
 //! The pieces of a job's chunks are joined to an [`Effect`] while the image is only read, and [`commit`]
-//! makes its puts. [`carry_out`] is a whole job as one chunk, and [`submit_to`] its check before.
+//! makes its puts. [`carry_out`] is a whole job as one chunk, and [`submit_to`] its check before. Jobs that stage
+//! nothing need no arena: [`carry_out_straight`] and [`submit_straight_to`].
 #![tactic(auto)]
 
 #[cfg(test)]
@@ -25,8 +26,8 @@ mod tests;
 mod uses;
 
 pub use applying::join_apply;
-pub use carrying::{carry_out, submit_to};
+pub use carrying::{carry_out, carry_out_straight, submit_straight_to, submit_to, takes_staging};
 pub use creating::join_create;
 pub use effects::{Effect, commit};
 pub use joining::join_found;
-pub use lending::{are_pages, submit_over};
+pub use lending::{are_pages, submit_over, submit_straight_over};

@@ -1,8 +1,13 @@
+ghost use Rattle.std.specs.Prelude.{◌≡◌, replicate};
+ghost use Rattle.dml_types.specs.Memory.{IsMemory};
+ghost use Rattle.dml_image.specs.Kept.{lent_memory};
+ghost use Rattle.dml_effect.specs.Straight.{TakesStaging};
+
 use crate::uses::moved_in_two;
-use crate::{are_pages, commit, submit_over, submit_to};
+use crate::{are_pages, commit, submit_over, submit_straight_to, submit_to, takes_staging};
 use dml_arena::Arena;
 use dml_desc::check;
-use dml_image::{Image, ImageError};
+use dml_image::{Image, ImageError, Lent};
 use dml_types::{Direction, Job, Op, Record, Status};
 use std::alloc::Global;
 use std::process::Abort;
@@ -249,8 +254,9 @@ pub fn write_over(rt: &impl Abort, bytes: &mut [u8], place: usize, new: &[u8]) {
 
 /// Carries out a job over bytes that are pages.
 pub fn carried_over(rt: &impl Abort, bytes: &mut [u8], arena: &mut Arena, job: &Job) -> Record {
-    assert!(rt; are_pages(bytes) && arena.size() >= 4096);
-    submit_over(bytes, arena, job, 4096)
+    let staging = arena.size();
+    assert!(rt; are_pages(bytes));
+    submit_over(bytes, arena, job, staging)
 }
 
 /// A job over so many whole pages of a caller's, which hold 01, 02, 03, 04, 05 and then 0; its answer, and what it leaves
@@ -408,6 +414,79 @@ fn fills_and_moves_over_lent_pages(rt: HostRuntime) -> Result<(), Fail> {
         row.expect(&rt, rt.alloc(), &mut arena)?;
     }
     Ok(())
+}
+
+/// Moves from and to addresses that no word begins at, over page edges and over one another.
+fn unaligned_moves() -> [LentRow; 3] {
+    [
+        changed(
+            3,
+            Job::move_bytes(1, 4093, 4099),
+            record(Status::Success, 1, 4099, 0),
+            4093,
+            [2, 3, 4, 5, 0, 0, 0, 0, 0, 0, 0, 0],
+        ),
+        changed(
+            2,
+            Job::move_bytes(0, 4091, 5),
+            record(Status::Success, 0, 5, 0),
+            4091,
+            [1, 2, 3, 4, 5, 0, 0, 0, 0, 0, 0, 0],
+        ),
+        changed(
+            1,
+            Job::move_bytes(3, 0, 4093),
+            record(Status::Success, 0, 4093, 0),
+            0,
+            [4, 5, 0, 0, 0, 0, 0, 0, 0, 0, 0, 0],
+        ),
+    ]
+}
+
+#[test]
+fn unaligned_moves_over_lent_pages(rt: HostRuntime) -> Result<(), Fail> {
+    let mut arena = Arena::new(rt.alloc(), 4099)?;
+    for row in unaligned_moves() {
+        row.expect(&rt, rt.alloc(), &mut arena)?;
+    }
+    Ok(())
+}
+
+/// Three pages of a caller's, full of 0; the one between the others is absent.
+fn outer_two_of_three(content: &mut [u8; 12_288]) -> Lent<'_>
+    requires blank { content.old ≡ replicate 12288 0 }
+    ensures memory { IsMemory (lent_memory result) }
+{
+    Lent::new(&[true, false, true], content)
+}
+
+/// Carries out a job on an image that stays where it is, as every image does.
+#[tactic(auto, using(dml_types::proofs::HomeLemmas::home_after_step))]
+fn submitted_at_home(image: &mut Image, job: &Job) -> Record
+    requires straight { TakesStaging job.now 12272 → ⊥ }
+    ensures home { image.new.home ≡ image.old.home }
+{
+    submit_straight_to(image, job, 12_272)
+}
+
+#[test]
+fn backward_move_stops_at_page_edge_of_lent_memory(rt: HostRuntime) {
+    let mut content = [0; 12_288];
+    let mut lent = outer_two_of_three(&mut content);
+    let mut image = lent.take();
+    let fill = Job::fill(0x0201, 8192, 2);
+    let job = Job::move_bytes(0, 8, 12_272);
+    assert!(rt; !takes_staging(&fill, 12_272) && !takes_staging(&job, 12_272));
+    let filled = submitted_at_home(&mut image, &fill);
+    let answer = submitted_at_home(&mut image, &job);
+    lent.put(image);
+    drop(lent);
+    assert_eq!(rt; filled, record(Status::Success, 0, 2, 0));
+    assert_eq!(rt; answer, record(Status::ReadFault, 1, 4080, 8191));
+    let mut expected = [0; 12_288];
+    expected[8192..8194].copy_from_slice(&[1, 2]);
+    expected[8200..8202].copy_from_slice(&[1, 2]);
+    assert!(rt; content == expected);
 }
 
 #[test]

@@ -6,8 +6,11 @@ use Rattle.dml_types.specs.Job.{is_fenced, no_op_job, unfenced}
 use Rattle.dml_types.specs.Memory.{Memory}
 use Rattle.dml_types.specs.Step.{ends_before, have_succeeded, memory_after, records_of}
 
--- the first jobs of a batch are carried out: it ends before none of them, and the other records are as they were
-pub record IsCarried (memory : Memory) (jobs : List Job) (staging : ℕ) (blank : List Record) (done : ℕ) (now : Memory) (written : List Record) : Type 0 where
+-- the first jobs of a batch are carried out: it ends before none of them, and the other records are as they
+-- were
+pub record IsCarried
+    (memory : Memory) (jobs : List Job) (staging : ℕ) (blank : List Record)
+    (done : ℕ) (now : Memory) (written : List Record) : Type 0 where
   pub within : done ≤ length jobs
   pub image : now ≡ memory_after memory (take done (map unfenced jobs)) staging
   pub records : written ≡ records_of memory (take done (map unfenced jobs)) staging ++ drop done blank

@@ -30,7 +30,8 @@ pub record AreOpened (jobs : List Job) (staging : ℕ) (records : List Record) :
       (i : ℕ) → i < length jobs → IsIdle staging (job_at jobs i)
       → slice_index_or records i no_op_record ≡ idle_record staging (job_at jobs i)
 
--- a wave that workers may carry out: places of the list whose jobs do not conflict, within the limits of a wave
+-- a wave that workers may carry out: places of the list whose jobs do not conflict, within the limits of a
+-- wave
 pub record IsReady (jobs : List Job) (staging chunk : ℕ) (wave : List ℕ) : Type 0 where
   pub places : All (λ i. i < length jobs) wave
   pub apart : AreApart jobs wave

@@ -30,7 +30,8 @@ impl<G: Gate + Sync> Engine<G> {
     ) -> Result<(BatchRecord, Vec<Record>), SubmitError>
         ensures image { OnOk result (self.new.image ≡ (batch self.old.image jobs.now self.old.settings.staging).0) }
         ensures answer { IfOk result (λ done. done.0 ≡ (batch self.old.image jobs.now self.old.settings.staging).1) }
-        ensures records { IfOk result (λ done. done.1.items ≡ (batch self.old.image jobs.now self.old.settings.staging).2) }
+        ensures records { IfOk result (λ done.
+            done.1.items ≡ (batch self.old.image jobs.now self.old.settings.staging).2) }
         ensures too_many { IsErrOf result SubmitError.TooMany ↔ (1024 < length jobs.now) }
         ensures unchanged { OnErr result (self.new.image ≡ self.old.image) }
         ensures settings { self.new.settings ≡ self.old.settings }
@@ -56,7 +57,8 @@ impl<G: Gate + Sync> Engine<G> {
     ) -> usize
         requires few { length jobs.now ≤ 1024 }
         requires size { length records.old ≡ length jobs.now }
-        ensures carried { IsCarried self.old.image jobs.now self.old.settings.staging records.old result self.new.image records.new }
+        ensures carried { IsCarried self.old.image jobs.now self.old.settings.staging records.old
+            result self.new.image records.new }
         ensures ends { EndsAt jobs.now result records.new }
         ensures settings { self.new.settings ≡ self.old.settings }
         ensures watched { self.new.watched ≡ self.old.watched }
@@ -83,7 +85,8 @@ impl<G: Gate + Sync> Engine<G> {
         requires few { length jobs.now ≤ 1024 }
         requires free { free.now ≡ map unfenced jobs.now }
         requires size { length records.old ≡ length jobs.now }
-        ensures carried { IsCarried self.old.image jobs.now self.old.settings.staging records.old result self.new.image records.new }
+        ensures carried { IsCarried self.old.image jobs.now self.old.settings.staging records.old
+            result self.new.image records.new }
         ensures ends { EndsAt jobs.now result records.new }
         ensures settings { self.new.settings ≡ self.old.settings }
         ensures watched { self.new.watched ≡ self.old.watched }
@@ -126,7 +129,8 @@ impl<G> Engine<G> {
     /// The same by this worker alone, in list order.
     fn batch_in_list_order(&mut self, jobs: &[Job], records: &mut [Record]) -> usize
         requires size { length records.old ≡ length jobs.now }
-        ensures carried { IsCarried self.old.image jobs.now self.old.settings.staging records.old result self.new.image records.new }
+        ensures carried { IsCarried self.old.image jobs.now self.old.settings.staging records.old
+            result self.new.image records.new }
         ensures ends { EndsAt jobs.now result records.new }
         ensures settings { self.new.settings ≡ self.old.settings }
         ensures watched { self.new.watched ≡ self.old.watched }
@@ -135,7 +139,8 @@ impl<G> Engine<G> {
             if jobs[i].is_fenced() && !have_succeeded(&records[..i]) {
                 return i;
             }
-            records[i] = self.carry_out_alone(&jobs[i].unfenced());
+            let free = jobs[i].unfenced();
+            records[i] = self.carry_out_alone(&free);
         }
         jobs.len()
     }

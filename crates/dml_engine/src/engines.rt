@@ -63,7 +63,8 @@ impl Engine<Free> {
         ensures valid { OnOk result (IsValid settings) }
         ensures watched { IfOk result (λ engine. engine.watched ≡ false) }
         ensures handed_back { IfErr result (λ refused. refused.0 ≡ image.entry) }
-        ensures bad_settings { IfErr result (λ refused. (refused.1 ≡ EngineError.BadSettings) ↔ (IsValid settings → ⊥)) }
+        ensures bad_settings { IfErr result (λ refused.
+            (refused.1 ≡ EngineError.BadSettings) ↔ (IsValid settings → ⊥)) }
     {
         if !settings.is_valid() {
             return Err((image, EngineError::BadSettings));
@@ -88,10 +89,22 @@ impl<G: Drop> Engine<G> {
         ensures settings { result.settings ≡ self.entry.settings }
         ensures watched { result.watched ≡ true }
     {
+        let mut engine = self.with_quiet_gate(gate);
+        engine.watched = true;
+        engine
+    }
+
+    /// The same with a gate that is to see no more than the work that pays for workers.
+    pub(crate) fn with_quiet_gate<H>(self, gate: H) -> Engine<H>
+        ensures image { result.image ≡ self.entry.image }
+        ensures settings { result.settings ≡ self.entry.settings }
+        ensures watched { result.watched ≡ self.entry.watched }
+    {
         let Engine {
             image,
             arena,
             settings,
+            watched,
             ..
         } = self;
         Engine {
@@ -99,7 +112,7 @@ impl<G: Drop> Engine<G> {
             arena,
             settings,
             gate,
-            watched: true,
+            watched,
         }
     }
 
@@ -147,7 +160,7 @@ impl<G> Engine<G> {
     }
 
     /// The settings, which are valid.
-    pub(crate) fn settings(&self) -> Settings
+    pub fn settings(&self) -> Settings
         ensures value { result ≡ self.now.settings }
         ensures valid { IsValid result }
     {
@@ -187,7 +200,8 @@ impl<G: Gate + Sync> Engine<G> {
         requires records { length records.old ≡ length jobs.now }
         requires ready { IsReady jobs.now self.old.settings.staging self.old.settings.chunk wave.now }
         ensures done { OnOk result (begun self.new.image records.new
-            ≡ run_all (carried (map unfenced jobs.now) self.old.settings.staging) (begun self.old.image records.old) (busy jobs.now wave.now)) }
+            ≡ run_all (carried (map unfenced jobs.now) self.old.settings.staging)
+            (begun self.old.image records.old) (busy jobs.now wave.now)) }
         ensures unchanged { OnErr result ((self.new.image ≡ self.old.image) × (records.new ≡ records.old)) }
         ensures settings { self.new.settings ≡ self.old.settings }
         ensures watched { self.new.watched ≡ self.old.watched }

@@ -67,6 +67,7 @@ impl<G: Gate + Sync> Engine<G> {
         let Ok(waves) = plan_waves(alloc, checked.as_slice(), settings) else {
             return self.in_list_order(jobs, records);
         };
+        // Its contract says that the image is whole, which the laws ask for.
         let _pages = self.image().pages();
         law_of_conflicts();
         law_of_fences();
@@ -122,7 +123,8 @@ impl<G: Gate + Sync> Engine<G> {
 impl<G> Engine<G> {
     /// Whether a list of jobs may be given more than one worker, by what the jobs name, before any of them is checked.
     pub(crate) fn may_pay(&self, jobs: &[Job]) -> bool
-        ensures { IsTrue result ↔ ((1 < self.now.settings.workers) × ((self.now.watched ≡ true) ⊎ (1572864 ≤ shareable jobs.now))) }
+        ensures { IsTrue result ↔ ((1 < self.now.settings.workers)
+            × ((self.now.watched ≡ true) ⊎ (1572864 ≤ shareable jobs.now))) }
     {
         self.settings().workers > 1 && (self.is_watched() || may_pay(jobs))
     }
@@ -170,7 +172,8 @@ fn plan_waves(alloc: Global, jobs: &[Checked], settings: Settings) -> Result<Vec
     requires few { length jobs.now ≤ 1024 }
     requires needs { All (λ job. need job ≤ settings.staging) jobs.now }
     requires valid { IsValid settings }
-    ensures cut { IfOk result (λ list. list.items ≡ word.waves jobs.now (table.fenced_levels jobs.now) settings.staging settings.chunk) }
+    ensures cut { IfOk result (λ list.
+        list.items ≡ word.waves jobs.now (table.fenced_levels jobs.now) settings.staging settings.chunk) }
     ensures ready { IfOk result (λ list. All (IsReady jobs.now settings.staging settings.chunk) list.items) }
 {
     let levels = levels(alloc, jobs)?;
@@ -188,7 +191,8 @@ fn cut_waves(
     requires needs { All (λ job. need job ≤ settings.staging) jobs.now }
     requires valid { IsValid settings }
     requires levels { levels.now ≡ table.fenced_levels jobs.now }
-    ensures cut { IfOk result (λ list. list.items ≡ word.waves jobs.now (table.fenced_levels jobs.now) settings.staging settings.chunk) }
+    ensures cut { IfOk result (λ list.
+        list.items ≡ word.waves jobs.now (table.fenced_levels jobs.now) settings.staging settings.chunk) }
     ensures ready { IfOk result (λ list. All (IsReady jobs.now settings.staging settings.chunk) list.items) }
 {
     match waves(alloc, jobs, levels, settings.staging, settings.chunk) {

@@ -44,7 +44,8 @@ impl<G: Gate + Sync> Engine<G> {
         jobs: &[Job],
     ) -> Result<Vec<Record>, SubmitError>
         ensures image { OnOk result (self.new.image ≡ memory_after self.old.image jobs.now self.old.settings.staging) }
-        ensures records { IfOk result (λ records. records.items ≡ records_of self.old.image jobs.now self.old.settings.staging) }
+        ensures records { IfOk result (λ records.
+            records.items ≡ records_of self.old.image jobs.now self.old.settings.staging) }
         ensures too_many { IsErrOf result SubmitError.TooMany ↔ (1024 < length jobs.now) }
         ensures unchanged { OnErr result (self.new.image ≡ self.old.image) }
         ensures settings { self.new.settings ≡ self.old.settings }

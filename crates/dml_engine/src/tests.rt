@@ -2,10 +2,12 @@
 
 mod fences;
 mod gates;
+mod growths;
 mod lists;
 mod loads;
 mod operations;
 mod refusals;
+mod resuming;
 mod rows;
 
 use crate::{Engine, EngineError};
@@ -50,28 +52,6 @@ fn settings_out_of_range(rt: HostRuntime) -> Result<(), Fail> {
             Ok(())
         }
     }
-}
-
-#[test]
-fn resume_a_fill(rt: HostRuntime) -> Result<(), Fail> {
-    let mut engine = engine(rt.alloc()).ok_or("no memory")?;
-    let stopped = engine.submit(&rt, rt.alloc(), Job::fill(0x0807_0605_0403_0201, 4091, 9));
-    assert_eq!(rt; stopped, answer(Status::WriteFault, 0, 5, 4096));
-    engine.bring(1, &[0; 4096])?;
-    let rest = engine.submit(&rt, rt.alloc(), Job::fill(0x0504_0302_0108_0706, 4096, 4));
-    assert_eq!(rt; rest, answer(Status::Success, 0, 4, 0));
-    let image = engine.image();
-    for (addr, byte) in [
-        (4091, 1),
-        (4095, 5),
-        (4096, 6),
-        (4097, 7),
-        (4098, 8),
-        (4099, 1),
-    ] {
-        assert_eq!(rt; image.byte(addr), Some(byte));
-    }
-    Ok(())
 }
 
 #[test]

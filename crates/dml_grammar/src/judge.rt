@@ -18,7 +18,7 @@ use dml_types::{Job, Op};
 use std::alloc::Global;
 
 /// The most jobs of a batch.
-const MOST_JOBS: u32 = 1024;
+pub const MOST_JOBS: u32 = 1024;
 
 /// The most bytes of a line.
 const LONGEST_LINE: usize = 16_384;
@@ -179,7 +179,8 @@ fn read_words(
     ensures fine { OnOk result (grammar.first_of (grammar.rest_faults word (words rest.now) progress.now) ≡ None) }
     ensures line { IfOk result (λ line. grammar.accepted (Some word) (words rest.now) ≡ grammar.Fine line) }
     ensures next { IfOk result (λ line. IsNext progress.now line) }
-    ensures err { IfErr result (λ e. Fails e (grammar.first_of (grammar.rest_faults word (words rest.now) progress.now))) }
+    ensures err { IfErr result (λ e. Fails e (grammar.first_of
+        (grammar.rest_faults word (words rest.now) progress.now))) }
 {
     let Some(entries) = fit(parts_of(word), rest) else {
         return Err(ReadError::Fault(Kind::WrongWords));
@@ -197,7 +198,8 @@ fn misplaced(word: Word, progress: &Progress) -> Option<Kind>
     ensures kind { result ≡ grammar.first_of (grammar.place_faults word progress.now) }
     ensures image { result ≡ None → grammar.is_image word ≡ true → progress.now ≡ [] }
     ensures others { result ≡ None → grammar.is_image word ≡ false → 0 < length progress.now }
-    ensures room { result ≡ None → grammar.is_job word ≡ true → unwrap_or (grammar.open_jobs progress.now) 0 < grammar.most_jobs }
+    ensures room { result ≡ None → grammar.is_job word ≡ true →
+        unwrap_or (grammar.open_jobs progress.now) 0 < grammar.most_jobs }
 {
     match (progress.is_empty(), word == Word::Image) {
         (true, false) => Some(Kind::MissingImage),
@@ -229,10 +231,12 @@ fn read_line(
     first: &[u8],
     rest: &[u8],
 ) -> Result<Line, ReadError>
-    ensures fine { let faults = grammar.faults_of text.now first.now (words rest.now) progress.now in OnOk result (grammar.first_of faults ≡ None) }
+    ensures fine { let faults = grammar.faults_of text.now first.now (words rest.now) progress.now in
+        OnOk result (grammar.first_of faults ≡ None) }
     ensures line { IfOk result (λ line. grammar.accepted (word_named first.now) (words rest.now) ≡ grammar.Fine line) }
     ensures next { IfOk result (λ line. IsNext progress.now line) }
-    ensures err { let faults = grammar.faults_of text.now first.now (words rest.now) progress.now in IfErr result (λ e. Fails e (grammar.first_of faults)) }
+    ensures err { let faults = grammar.faults_of text.now first.now (words rest.now) progress.now in
+        IfErr result (λ e. Fails e (grammar.first_of faults)) }
 {
     if text.len() > LONGEST_LINE {
         return Err(ReadError::Fault(Kind::LongLine));

@@ -25,7 +25,8 @@ impl Model for Progress {
 
     ghost view = { λ progress. progress_lines progress.present.items progress.jobs };
 
-    ghost invariant = { λ progress. (length progress.present.items ≤ 4096) × MayBeOpen progress.present.items progress.jobs };
+    ghost invariant = { λ progress. (length progress.present.items ≤ 4096)
+        × MayBeOpen progress.present.items progress.jobs };
 }
 
 impl Progress {

@@ -95,12 +95,14 @@ fn find_line<'a>(
     opened: u32,
 ) -> Result<Option<FoundLine<'a>>, ScriptError>
     requires { number + length text.now ≤ 4194305 }
-    ensures line { IfOk result (λ found. MatchOption found (left_from number opened progress.now (lines text.now) ≡ nothing_but None)
+    ensures line { IfOk result (λ found. MatchOption found (left_from number opened progress.now (lines text.now) ≡
+        nothing_but None)
         (λ f. left_from number opened progress.now (lines text.now)
         ≡ with_line f.line (left_from f.number f.opened (progress.now ++ f.line ∷ []) (lines f.rest.now)))) }
     ensures next { IfOk result (λ found. IfSome found (λ f. IsNext progress.now f.line)) }
     ensures count { IfOk result (λ found. IfSome found (λ f. f.number + length f.rest.now ≤ 4194305)) }
-    ensures fault { (fault : TheFault) → IsErrOf result (errors.Fault fault) → left_from number opened progress.now (lines text.now) ≡ nothing_but (Some fault) }
+    ensures fault { (fault : TheFault) → IsErrOf result (errors.Fault fault) →
+        left_from number opened progress.now (lines text.now) ≡ nothing_but (Some fault) }
 {
     let mut rest = text;
     let mut number = number;

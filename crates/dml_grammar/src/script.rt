@@ -66,7 +66,8 @@ impl<'a> ScriptLines<'a> {
 
     /// The next line; None behind the last one. Where memory is refused, the same line is still the next.
     pub fn next_line(&mut self, alloc: Global) -> Result<Option<Line>, AllocError>
-        ensures line { IfOk result (λ line. MatchOption line ((self.old ≡ []) × (self.new ≡ [])) (λ line. self.old ≡ line ∷ self.new)) }
+        ensures line { IfOk result (λ line. MatchOption line ((self.old ≡ []) × (self.new ≡ []))
+            (λ line. self.old ≡ line ∷ self.new)) }
         ensures unchanged { OnErr result (self.new ≡ self.old) }
     {
         match self.reader.next(alloc) {

@@ -1,5 +1,7 @@
 //! Scripts and their faults. The expected values are the format's.
 
+mod growths;
+
 use super::*;
 use std::alloc::{AllocError, Global};
 use std::process::Abort;
@@ -453,23 +455,35 @@ fn batch_of(
     Ok(text)
 }
 
+/// Compares the first fault of batches of a table: a front, a line, its copies and a back, and the fault.
+fn expect_faults(
+    rt: &impl Abort,
+    alloc: Global,
+    rows: &[(&str, &str, usize, &str, Option<(u32, Kind)>)],
+) -> Result<(), Fail> {
+    for (front, line, jobs, back, fault) in rows {
+        let text = batch_of(alloc, front, line, *jobs, back)?;
+        assert_eq!(rt;
+            first_fault(rt, alloc, text.as_slice()),
+            *fault,
+            "at {front:?} {jobs} {back:?}"
+        );
+    }
+    Ok(())
+}
+
 #[test]
 fn jobs_of_a_batch(rt: HostRuntime) -> Result<(), Fail> {
     let open = "image 1\nbatch\n";
     let again = "image 1\nnoop\nbatch\nnoop\nend\nbatch\n";
-    for (front, line, jobs, back, fault) in [
+    let too_many = |line| Some((line, Kind::TooManyJobs));
+    let table = [
         (open, "noop\n", 0, "end", None),
         (open, "noop\n", 1024, "end", None),
         (open, "#\n", 1025, "end", None),
         // too_many_jobs, and a fault of that line's own
-        (open, "noop\n", 1025, "end", Some((1027, Kind::TooManyJobs))),
-        (
-            open,
-            "noop\n",
-            1024,
-            "raw 0",
-            Some((1027, Kind::TooManyJobs)),
-        ),
+        (open, "noop\n", 1025, "end", too_many(1027)),
+        (open, "noop\n", 1024, "raw 0", too_many(1027)),
         (
             open,
             "noop\n",
@@ -480,24 +494,11 @@ fn jobs_of_a_batch(rt: HostRuntime) -> Result<(), Fail> {
         (open, "noop\n", 1024, "show", Some((1027, Kind::InBatch))),
         (open, "noop\n", 1024, "", Some((2, Kind::OpenBatch))),
         (again, "noop\n", 1024, "end", None),
-        (
-            again,
-            "noop\n",
-            1025,
-            "end",
-            Some((1031, Kind::TooManyJobs)),
-        ),
+        (again, "noop\n", 1025, "end", too_many(1031)),
         // more_lines_than_one_list
         ("image 1\n", "noop\n", 1025, "", None),
-    ] {
-        let text = batch_of(rt.alloc(), front, line, jobs, back)?;
-        assert_eq!(rt;
-            first_fault(&rt, rt.alloc(), text.as_slice()),
-            fault,
-            "at {front:?} {jobs} {back:?}"
-        );
-    }
-    Ok(())
+    ];
+    expect_faults(&rt, rt.alloc(), &table)
 }
 
 #[test]

@@ -78,7 +78,8 @@ fn word_len(text: &[u8]) -> usize
 /// The first word of a line, and what follows it; None where the line has no word.
 #[tactic(auto, using(crate::proofs::WordLemmas::words_none, crate::proofs::WordLemmas::words_split))]
 pub fn next_word(line: &[u8]) -> Option<(&[u8], &[u8])>
-    ensures { MatchOption result (text_spec.words line.now ≡ []) (λ r. text_spec.words line.now ≡ r.0.now ∷ text_spec.words r.1.now) }
+    ensures { MatchOption result (text_spec.words line.now ≡ [])
+        (λ r. text_spec.words line.now ≡ r.0.now ∷ text_spec.words r.1.now) }
 {
     let (_, text) = line.split_at(blank_len(line));
     if text.is_empty() {

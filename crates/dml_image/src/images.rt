@@ -149,7 +149,8 @@ impl Image<'_> {
         ensures no_such_page { (result ≡ Err ImageError.NoSuchPage) ↔ (length self.old.present ≤ page) }
         ensures never_bad_pages { result ≢ Err ImageError.BadPages }
         ensures again { IsTrue (has_page self.old page) → IsOk result }
-        ensures no_room { IsSome self.old.home → page < length self.old.present → has_page self.old page ≡ false → result ≡ Err ImageError.NoMemory }
+        ensures no_room { IsSome self.old.home → page < length self.old.present → has_page self.old page ≡ false →
+            result ≡ Err ImageError.NoMemory }
         ensures memory { IsMemory self.new }
     {
         if page >= self.pages() {
@@ -267,7 +268,8 @@ impl Image<'_> {
     /// `direction`; `None` where all are present.
     pub fn first_absent(&self, addr: u64, len: u32, direction: Direction) -> Option<u32>
         requires { addr + len ≤ 2 ^ 64 }
-        ensures count { MatchOption result (present_toward direction self.now addr len ≡ len) (λ k. (k < len) × (present_toward direction self.now addr len ≡ k)) }
+        ensures count { MatchOption result (present_toward direction self.now addr len ≡ len)
+            (λ k. (k < len) × (present_toward direction self.now addr len ≡ k)) }
         ensures memory { IsMemory self.now }
     {
         let done = self.present_toward(addr, len, direction);

@@ -18,3 +18,4 @@ pub mod TestLemmas
 pub mod WaveFacts
 pub mod FenceLaws
 pub mod FenceLemmas
+pub mod PartLaws

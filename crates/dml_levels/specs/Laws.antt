@@ -1,5 +1,5 @@
--- The law of order: in which orders the jobs of a list may be carried out. A job that is refused does nothing, as
--- a no-op does.
+-- The law of order: in which orders the jobs of a list may be carried out. A job that is refused does nothing,
+-- as a no-op does.
 use Rattle.std.specs.Prelude.{◌≡◌, ℕ, ◌<◌, Bool, false, List, ◌++◌, length, map, is_some, if◌then◌else◌, slice_set}
 use Rattle.dml_types.specs.declared.jobs.Job.{Job}
 use Rattle.dml_types.specs.declared.records.Record.{Record}
@@ -59,18 +59,21 @@ HoldsConflicts clash jobs staging =
     (i k : ℕ) → i < k → k < length jobs → clash i k ≡ false
     → conflict (unless_refused staging (job_at jobs i)) (unless_refused staging (job_at jobs k)) ≡ false
 
--- the clashes of the list itself hold its conflicts, and so do those of the list with a no-op for each refused job
+-- the clashes of the list itself hold its conflicts, and so do those of the list with a no-op for each refused
+-- job
 abbrev pub OwnClashesHold : Type 0
 OwnClashesHold = (jobs : List Job) (staging : ℕ) → HoldsConflicts (clash_of jobs) jobs staging
 
 abbrev pub ClashesWithoutRefusedHold : Type 0
 ClashesWithoutRefusedHold =
-    (jobs : List Job) (staging : ℕ) → HoldsConflicts (clash_of (map (unless_refused staging) jobs)) jobs staging
+    (jobs : List Job) (staging : ℕ)
+    → HoldsConflicts (clash_of (map (unless_refused staging) jobs)) jobs staging
 
 -- an order in which no job goes before an earlier one that clashes with it gives what the list gives
 abbrev pub AnyOrder : Type 0
 AnyOrder =
-    (memory : Memory) (jobs : List Job) (staging : ℕ) (blank : List Record) (clash : ℕ → ℕ → Bool) (order : List ℕ)
+    (memory : Memory) (jobs : List Job) (staging : ℕ) (blank : List Record) (clash : ℕ → ℕ → Bool)
+    (order : List ℕ)
     → IsWhole memory → length blank ≡ length jobs → HoldsConflicts clash jobs staging
     → IsOrder clash (length jobs) order
     → run_all (carried jobs staging) (begun memory blank) order ≡ in_list_order memory jobs staging
@@ -108,7 +111,9 @@ abbrev pub WavesThenLeft : Type 0
 WavesThenLeft =
     (memory : Memory) (jobs : List Job) (staging : ℕ) (blank : List Record) (clash : ℕ → ℕ → Bool)
     (fits : List ℕ → Bool)
-    (front behind : List (List ℕ)) → IsWhole memory → length blank ≡ length jobs → HoldsConflicts clash jobs staging
+    (front behind : List (List ℕ))
+    → IsWhole memory → length blank ≡ length jobs → HoldsConflicts clash jobs staging
     → waves_for fits clash (length jobs) ≡ front ++ behind
-    → run_all (carried jobs staging) (begun memory blank) (joined front ++ left_in_order (length jobs) (joined front))
+    → run_all (carried jobs staging) (begun memory blank)
+    (joined front ++ left_in_order (length jobs) (joined front))
     ≡ in_list_order memory jobs staging

@@ -12,7 +12,8 @@ use dml_desc::Checked;
 use std::alloc::{AllocError, Global};
 
 /// The level of each job: 0 where it conflicts with no earlier one, and else one more than the greatest level of an
-/// earlier job that it conflicts with. A job that is fenced, and each behind it, conflicts with all jobs before the fence.
+/// earlier job that it conflicts with. A job that is fenced, and each behind it, conflicts with all jobs before the
+/// fence.
 ///
 /// # Errors
 /// `NoMemory` where there is no room for the list.

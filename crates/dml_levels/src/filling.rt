@@ -61,10 +61,12 @@ impl Filling {
         requires small { need (job_at jobs.now place) ≤ staging }
         requires chunk { IsChunk chunk }
         requires filling { IsFilling jobs.now staging chunk self.old }
-        ensures cut { OnOk result ((rest : List ℕ) → waves.new.items ++ cut_behind (fits_wave jobs.now staging chunk) self.new.list.items rest
+        ensures cut { OnOk result ((rest : List ℕ) →
+            waves.new.items ++ cut_behind (fits_wave jobs.now staging chunk) self.new.list.items rest
             ≡ waves.old.items ++ cut_behind (fits_wave jobs.now staging chunk) self.old.list.items (place ∷ rest)) }
         ensures filling { OnOk result (IsFilling jobs.now staging chunk self.new) }
-        ensures small { OnOk result (All (IsSmall jobs.now staging chunk) waves.old.items → All (IsSmall jobs.now staging chunk) waves.new.items) }
+        ensures small { OnOk result (All (IsSmall jobs.now staging chunk) waves.old.items →
+            All (IsSmall jobs.now staging chunk) waves.new.items) }
     {
         let job = &jobs[place as usize];
         let own_needs = need(job.job());
@@ -85,8 +87,10 @@ impl Filling {
 
     /// Hands over the last wave, unless it has no job, and is empty again.
     pub fn finish(&mut self, alloc: Global, waves: &mut Vec<Wave>) -> Result<(), AllocError>
-        ensures cut { OnOk result ((fits : List ℕ → Bool) → waves.new.items ≡ waves.old.items ++ cut_behind fits self.old.list.items []) }
-        ensures pushed { OnOk result ((waves.new.items ≡ waves.old.items) ⊎ (waves.new.items ≡ waves.old.items ++ self.old.list.items ∷ [])) }
+        ensures cut { OnOk result ((fits : List ℕ → Bool) →
+            waves.new.items ≡ waves.old.items ++ cut_behind fits self.old.list.items []) }
+        ensures pushed { OnOk result ((waves.new.items ≡ waves.old.items) ⊎
+            (waves.new.items ≡ waves.old.items ++ self.old.list.items ∷ [])) }
         ensures empty { OnOk result (IsUnfilled self.new) }
     {
         if !self.list.is_empty() {

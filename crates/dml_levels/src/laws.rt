@@ -1,5 +1,5 @@
 ghost use Rattle.dml_levels.specs.Laws.{AnyOrder, ClashesWithoutRefusedHold, EffectStands, FrontByItself, FrontThenLeft, JobsCommute, OwnClashesHold, WavesInOrder, WavesThenLeft};
-ghost use Rattle.dml_levels.specs.Fences.{FencesOnlyAdd, FencesPart, FrontIsFold, WavesBeforeFence};
+ghost use Rattle.dml_levels.specs.Fences.{BatchesHoldConflicts, FencesOnlyAdd, FencesPart, FencesPartWaves, FrontIsFold, WavesBeforeFence};
 
 /// The law of conflicts: two jobs that do not conflict give the same image and the same two records in either order,
 /// and the effect of each, found before the other is carried out, stands afterwards. What a refused job names does not
@@ -28,12 +28,16 @@ pub fn law_of_waves()
     ensures then_left { WavesThenLeft }
 {}
 
-/// The law of fences: they only add clashes, every job before a fenced one stands in a lower level than it and all later ones, and the waves
-/// before the first with one of these hold every job before the fence. They give the image and the records of those jobs,
-/// carried out by themselves, and leave all other records.
+/// The law of fences: they only add clashes, every job before a fenced one stands in a lower level than it and all
+/// later ones, and the waves before the first with one of these hold every job before the fence. They give the image
+/// and the records of those jobs, carried out by themselves, and leave all other records. In one statement: each fence
+/// parts the waves into those of the jobs before it, which give their fold, and those of the jobs from it on, each
+/// found by themselves.
 pub fn law_of_fences()
     ensures only_add { FencesOnlyAdd }
     ensures part { FencesPart }
     ensures before { WavesBeforeFence }
     ensures fold { FrontIsFold }
+    ensures of_batches { BatchesHoldConflicts }
+    ensures waves { FencesPartWaves }
 {}

@@ -1,6 +1,8 @@
 ghost use Rattle.std.specs.Prelude.{◌≤◌, All, IfSome};
 ghost use Rattle.dml_types.specs.Refusal.{need};
 
+mod growths;
+
 use crate::{LevelError, conflict, levels, task_count, touches, waves};
 use dml_desc::{Checked, check, check_in_batch};
 use dml_types::{Job, Span, Status};
@@ -143,7 +145,8 @@ fn expect_fenced_levels(
     Ok(())
 }
 
-/// Behind a fence stand the levels that its jobs have by themselves, above all before it; one at place 0 raises nothing.
+/// Behind a fence stand the levels that its jobs have by themselves, above all before it; one at place 0 raises
+/// nothing.
 #[test]
 fn levels_behind_fences(rt: HostRuntime) -> Result<(), Fail> {
     let alloc = rt.alloc();

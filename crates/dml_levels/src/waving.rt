@@ -31,7 +31,8 @@ pub fn waves(
     ensures cut { IfOk result (λ list. list.items ≡ word.waves jobs.now levels.now staging chunk) }
 
     // In the subject's own words.
-    ensures each_once { IfOk result (λ list. IsOrder (table.fenced_clash jobs.now) (length jobs.now) (joined list.items)) }
+    ensures each_once { IfOk result (λ list.
+        IsOrder (table.fenced_clash jobs.now) (length jobs.now) (joined list.items)) }
     ensures level_by_level { IfOk result (λ list. Rises levels.now (joined list.items)) }
     ensures one_level { IfOk result (λ list. All (IsOfOneLevel levels.now) list.items) }
     ensures fit { IfOk result (λ list. All (IsSmall jobs.now staging chunk) list.items) }
@@ -103,7 +104,8 @@ fn cut_level(
     requires chunk { IsChunk chunk }
     requires empty { IsUnfilled filling.old }
     requires fit { All (IsSmall jobs.now staging chunk) waves.old.items }
-    ensures cut { OnOk result (waves.new.items ≡ waves.old.items ++ waves_at (fits_wave jobs.now staging chunk) levels.now level) }
+    ensures cut { OnOk result (waves.new.items
+        ≡ waves.old.items ++ waves_at (fits_wave jobs.now staging chunk) levels.now level) }
     ensures fit { OnOk result (All (IsSmall jobs.now staging chunk) waves.new.items) }
     ensures empty { OnOk result (IsUnfilled filling.new) }
 {

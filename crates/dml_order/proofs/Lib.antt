@@ -5,3 +5,4 @@ pub mod LevelLemmas
 pub mod WaveLemmas
 pub mod WaveSteps
 pub mod WaveFacts
+pub mod PartLemmas

@@ -47,6 +47,10 @@ waves_of fits levels = waves_from fits levels 0 (depth levels)
 abbrev pub waves_for : (List ℕ → Bool) → (ℕ → ℕ → Bool) → ℕ → List (List ℕ)
 waves_for fits clash n = waves_of fits (levels_of clash n)
 
+-- the same waves, of places that lie so much further on
+abbrev pub further : ℕ → List (List ℕ) → List (List ℕ)
+further by waves = map (map (λ i. by + i)) waves
+
 -- In the subject's own words. Of two places the one of the lower level comes first, and inside a level the lower
 abbrev pub ComesBefore : List ℕ → ℕ → ℕ → Type 0
 ComesBefore levels i k =

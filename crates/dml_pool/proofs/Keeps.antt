@@ -14,15 +14,9 @@ use Rattle.dml_pool.specs.declared.tasks.Task.{Task}
 use Rattle.dml_pool.specs.declared.rule.Hand.{Hand}
 use Rattle.dml_pool.specs.declared.rule.Numbered.{Numbered}
 use Rattle.dml_pool.specs.Numbers.{times, once_below}
-use Rattle.dml_pool.specs.Rule.{hand, all_parts, numbers_of, HasTakenAll, IsOf, Knows, Kept}
-use Rattle.dml_pool.proofs.Totals.{total_set, total_snoc, every_set, every_snoc, only_one, whole_total}
-
-pub times_append : (x : ℕ) (xs ys : List ℕ) → times x (xs ++ ys) ≡ times x xs + times x ys
-times_append x [] ys = omega arith
-times_append x (y ∷ xs) ys = let rest = times_append x xs ys in omega (arith, rest)
-
-pub once_more : (x n : ℕ) → once_below x (n + 1) ≡ once_below x n + times x (n ∷ [])
-once_more x n = grind (arith, nat_tests)
+use Rattle.dml_pool.specs.Rule.{hand, all_parts, numbers_of, HasTaken, HasTakenAll, IsOf, Knows, Kept}
+use Rattle.dml_pool.proofs.Counts.{few_below, once_more, times_append}
+use Rattle.dml_pool.proofs.Totals.{total_set, total_snoc, part_of_total, every_set, every_snoc, only_one, whole_total}
 
 module _ {X : Type 0} where
   pub all_front : (P : X → Type 0) (xs ys : List X) → All P (xs ++ ys) → All P xs
@@ -84,10 +78,18 @@ pushes port v item every number items views h at =
     )
 
 pub takes : (port : ℕ) (v : Hand) → 0 < v.parts
-    → Takes Kept port v 1 (λ items w. (w ≡ hand v.tasks v.parts (v.taken ++ numbers_of items)) × All (IsOf v.tasks) items)
+    → Takes Kept port v 1 (HasTaken v)
 takes port v part xs items views _ _ h at =
     let w = hand v.tasks v.parts (v.taken ++ numbers_of xs) in
     let mine : v.tasks ≡ h.0 = (h.2 port v at).0 part in
+    let few : length w.taken ≤ length h.0 =
+    few_below (length h.0) w.taken
+    (λ x.
+    let own = times_append x v.taken (numbers_of xs) in
+    let split : times x (numbers_of (xs ++ items)) ≡ times x (numbers_of xs) + times x (numbers_of items) =
+    ap (times x) (map-append (λ (y : Numbered). y.number) xs items) ∙ times_append x (numbers_of xs) (numbers_of items) in
+    let before = h.4 x in
+    omega (arith, part_of_total (λ u. times x u.taken) views port v at, own, split, before)) in
     let parts = total_set (λ u. u.parts) views port v w at in (
       w,
       (
@@ -103,7 +105,7 @@ takes port v part xs items views _ _ h at =
             let before = h.4 x in
             omega (arith, taken, own, split, before),
       ),
-      (refl, subst (λ tasks. All (IsOf tasks) xs) (sym mine) (all_front (IsOf h.0) xs items h.3)),
+      (refl, subst (λ tasks. All (IsOf tasks) xs) (sym mine) (all_front (IsOf h.0) xs items h.3), omega (arith, few, ap length mine)),
     )
 
 nothing : {X : Type 0} (xs : List X) → length xs ≤ 0 → xs ≡ []

@@ -1,3 +1,4 @@
+pub mod Counts
 pub mod Keeps
 pub mod Orders
 pub mod Totals

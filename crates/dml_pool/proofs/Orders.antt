@@ -1,19 +1,20 @@
 -- Outcomes put into slots, one for each task, and taken out again.
-use Rattle.std.proofs.Common.{◌≡◌, ◌≢◌, ℕ, suc, ◌+◌, ◌<◌, List, [], ◌∷◌, ◌++◌, map, set, get_or, length, replicate, drop, Option, None, Some, IsSome, IsSomeAnd, Result, Ok, Err, IfOk, refl, sym, ap, ap₂, ◌∙◌, subst, ⊎_elim, arith, length-append, append_assoc}
+use Rattle.std.proofs.Common.{◌≡◌, ◌≢◌, ℕ, suc, ◌+◌, ◌<◌, List, [], ◌∷◌, ◌++◌, map, set, get_or, length, replicate, drop, Option, None, Some, IsSome, IsSomeAnd, Result, Ok, Err, IfOk, unwrap_or, refl, sym, ap, ap₂, ◌∙◌, subst, ⊎_elim, arith, length-append, append_assoc}
 use Rattle.std.specs.List.{All, AllZip, Contains, range_with_len, slice_get}
 use Rattle.std.proofs.lemmas.Bool.Decides.{nat_tests}
 use Rattle.std.proofs.lemmas.List.{map-append, get_or-map, get_or-set_other, length-map, length-set}
 use Rattle.std.proofs.lemmas.Bool.{cases_eq}
-use Rattle.std.proofs.lemmas.List.Elements.{All-replicate, All-head, All-tail, All-weaker, All-contains, Contains-append_left, Contains-push}
+use Rattle.std.proofs.lemmas.List.Elements.{All-nil, All-cons, All-replicate, All-head, All-tail, All-weaker, All-contains, Contains-append_left, Contains-push}
 use Rattle.std.proofs.lemmas.Grind.{get_or-set_at}
 use Rattle.dml_types.specs.Memory.{Memory}
 use Rattle.dml_pool.specs.declared.tasks.Task.{Task}
 use Rattle.dml_pool.specs.declared.tasks.Outcome.{Outcome}
 use Rattle.dml_pool.specs.Tasks.{IsTaskValue}
 use Rattle.dml_pool.specs.Numbers.{times, once_below}
-use Rattle.dml_pool.specs.Rule.{tasks_done, IsDone}
-use Rattle.dml_pool.specs.Slots.{IsSlot, AreSlots}
-use Rattle.dml_pool.proofs.Keeps.{times_append, get_longer, get_last}
+use Rattle.dml_pool.specs.Rule.{tasks_done, AreTaskValues, IsDone}
+use Rattle.dml_pool.specs.Slots.{IsSlot, AreFilled, AreSlots}
+use Rattle.dml_pool.proofs.Counts.{times_append}
+use Rattle.dml_pool.proofs.Keeps.{get_longer, get_last}
 
 -- the task of an outcome is one of those counted
 pub within : (count : ℕ) (done before : List Outcome) (outcome : Outcome) (rest : List Outcome)
@@ -127,3 +128,43 @@ pub zipped : (memory : Memory) (tasks : List Task) (done all : List Outcome) →
 zipped memory tasks done all order known each =
     zipped_from memory [] tasks all order
     (All-weaker (Contains done) (IsDone memory tasks) (λ o has. All-contains (IsDone memory tasks) done o each has) all known)
+
+-- full slots are those of their outcomes
+unwrapped : (slots : List (Option Outcome)) → All IsSome slots → (all : List Outcome) × (map (λ o. Some o) all ≡ slots)
+unwrapped [] full = ([], refl)
+unwrapped (None ∷ slots) full = absurd (let none = All-head IsSome None slots full in cc)
+unwrapped (Some o ∷ slots) full =
+    let rest = unwrapped slots (All-tail IsSome (Some o) slots full) in
+    (o ∷ rest.0, ap (λ l. Some o ∷ l) rest.1)
+
+pub slots_filled : (memory : Memory) (tasks : List Task) (count : ℕ) (done : List Outcome) (slots : List (Option Outcome)) → count ≡ length tasks
+    → ((x : ℕ) → times x (tasks_done done) ≡ once_below x count) → All (IsDone memory tasks) done → length slots ≡ count → AreSlots done slots → AreFilled memory tasks slots
+slots_filled memory tasks count done slots same once each long are =
+    let all = unwrapped slots (full_slots count done slots once long are) in
+    let order = opened_order count done all.0 slots all.1 long are ∙ ap (range_with_len 0) same in record {
+      outcomes = all.0;
+      full = sym all.1;
+      order = order;
+      values = zipped memory tasks done all.0 order (opened_known done all.0 slots all.1 are) each;
+    }
+
+pub all_some : (slots : List (Option Outcome)) (outcomes : List Outcome) → slots ≡ map (λ o. Some o) outcomes → All IsSome slots
+all_some slots outcomes full = subst (λ l. All IsSome l) (sym full) (each outcomes)
+  where
+    each : (xs : List Outcome) → All IsSome (map (λ o. Some o) xs)
+    each [] = All-nil IsSome
+    each (x ∷ xs) = All-cons IsSome (Some x) (map (λ o. Some o) xs) refl (each xs)
+
+pub same_outcomes : (xs ys : List Outcome) → map (λ o. Some o) xs ≡ map (λ o. Some o) ys → xs ≡ ys
+same_outcomes [] [] same = refl
+same_outcomes [] (y ∷ ys) same = absurd (let long = ap length same in omega (arith, long))
+same_outcomes (x ∷ xs) [] same = absurd (let long = ap length same in omega (arith, long))
+same_outcomes (x ∷ xs) (y ∷ ys) same =
+    ap₂ (λ o l. o ∷ l) (ap (λ l. unwrap_or (get_or l 0 None) x) same) (same_outcomes xs ys (ap (drop 1) same))
+
+-- what is opened of filled slots
+pub opened_filled : (memory : Memory) (tasks : List Task) (slots : List (Option Outcome)) (all : List Outcome) → AreFilled memory tasks slots
+    → map (λ o. Some o) all ≡ slots → (tasks_done all ≡ range_with_len 0 (length tasks)) × AreTaskValues memory tasks all
+opened_filled memory tasks slots all filled same =
+    let is : filled.outcomes ≡ all = sym (same_outcomes all filled.outcomes (same ∙ filled.full)) in
+    (subst (λ l. tasks_done l ≡ range_with_len 0 (length tasks)) is filled.order, subst (AreTaskValues memory tasks) is filled.values)

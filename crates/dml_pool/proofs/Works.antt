@@ -1,8 +1,8 @@
 -- Outcomes account for what a pass took, as more are added and lists are joined.
-use Rattle.std.proofs.Common.{◌≡◌, ℕ, ◌+◌, List, [], ◌∷◌, ◌++◌, Some, Result, Ok, Err, IfOk, IsOkAnd, IsSomeAnd, min, sym, ap, ◌∙◌, subst, arith}
+use Rattle.std.proofs.Common.{◌≡◌, ℕ, ◌≤◌, List, [], ◌∷◌, ◌++◌, Some, Result, Ok, Err, IfOk, IsOkAnd, IsSomeAnd, min, refl, sym, ap, ◌∙◌, subst, arith}
 use Rattle.std.specs.List.{All, slice_get}
 use Rattle.std.proofs.lemmas.List.{map-append}
-use Rattle.std.proofs.lemmas.List.Elements.{All-append, All-head, All-push}
+use Rattle.std.proofs.lemmas.List.Elements.{All-append, All-head, All-nil, All-push}
 use Rattle.std.proofs.lemmas.Option.{slice_get_within, get_or_from_slice_get}
 use Rattle.dml_types.specs.Memory.{Memory}
 use Rattle.dml_pool.specs.declared.tasks.Task.{Task}
@@ -15,28 +15,37 @@ use Rattle.crossbeam_deque.specs.Tasks.{FindsFew}
 use Rattle.dml_pool.proofs.Keeps.{finds_few}
 
 -- two passes joined, and their outcomes
-pub accounts_joined : (memory : Memory) (v w x : Hand) (a b all : List Outcome) → x ≡ hand v.tasks (v.parts + w.parts) (v.taken ++ w.taken) → w.tasks ≡ v.tasks
+pub accounts_joined : (memory : Memory) (v w x : Hand) (a b all : List Outcome) → x.tasks ≡ v.tasks → x.taken ≡ v.taken ++ w.taken → w.tasks ≡ v.tasks
     → all ≡ a ++ b → Accounts memory v a → Accounts memory w b → Accounts memory x all
-accounts_joined memory v w x a b all is same both left right =
-    let known : x.tasks ≡ v.tasks = ap (λ (u : Hand). u.tasks) is in
+accounts_joined memory v w x a b all known both_taken same both left right =
     let done : All (IsDone memory v.tasks) (a ++ b) =
     All-append (IsDone memory v.tasks) a b left.done (subst (λ tasks. All (IsDone memory tasks) b) same right.done) in record {
       taken =
-          ap (λ (u : Hand). u.taken) is
+          both_taken
           ∙ (ap (λ l. l ++ w.taken) left.taken
           ∙ (ap (λ l. tasks_done a ++ l) right.taken
           ∙ (sym (map-append (λ (o : Outcome). o.task) a b) ∙ ap tasks_done (sym both))));
       done = subst (λ l. All (IsDone memory x.tasks) l) (sym both) (subst (λ tasks. All (IsDone memory tasks) (a ++ b)) (sym known) done);
     }
 
-module _ {V E : Type 0} (items : V → List Outcome) where
-  pub results_joined : (memory : Memory) (v w x : Hand) (others mine all : Result V E) → x ≡ hand v.tasks (v.parts + w.parts) (v.taken ++ w.taken) → w.tasks ≡ v.tasks
-      → IfOk all (λ l. IsOkAnd others (λ a. IsOkAnd mine (λ b. items l ≡ items a ++ items b)))
-      → IfOk others (λ a. Accounts memory v (items a)) → IfOk mine (λ b. Accounts memory w (items b)) → IfOk all (λ l. Accounts memory x (items l))
-  results_joined memory v w x (Ok a) (Ok b) (Ok l) is same both left right = accounts_joined memory v w x (items a) (items b) (items l) is same both left right
-  results_joined memory v w x (Ok a) (Err e) (Ok l) is same both left right = absurd both
-  results_joined memory v w x (Err e) mine (Ok l) is same both left right = absurd both
-  results_joined memory v w x others mine (Err e) is same both left right = tt
+-- a worker's pass joined to one that took nothing
+pub accounts_alone : (memory : Memory) (v w x : Hand) (done : List Outcome) → x.tasks ≡ v.tasks → x.taken ≡ v.taken ++ w.taken → w.tasks ≡ v.tasks
+    → v.taken ≡ [] → Accounts memory w done → Accounts memory x done
+accounts_alone memory v w x done known both same none right =
+    accounts_joined memory v w x [] done done known both same refl (record { taken = none; done = All-nil (IsDone memory v.tasks) }) right
+
+module _ {V E : Type 0} (items : V → List Outcome) (room : V → ℕ) where
+  pub results_joined : (memory : Memory) (v w x : Hand) (others all : Result V E) (mine : List Outcome) → x.tasks ≡ v.tasks → x.taken ≡ v.taken ++ w.taken → w.tasks ≡ v.tasks
+      → IfOk all (λ l. IsOkAnd others (λ a. items l ≡ items a ++ mine))
+      → IfOk others (λ a. Accounts memory v (items a)) → Accounts memory w mine → IfOk all (λ l. Accounts memory x (items l))
+  results_joined memory v w x (Ok a) (Ok l) mine known both same joined left right = accounts_joined memory v w x (items a) mine (items l) known both same joined left right
+  results_joined memory v w x (Err e) (Ok l) mine known both same joined left right = absurd joined
+  results_joined memory v w x others (Err e) mine known both same joined left right = tt
+
+  pub room_kept : (n : ℕ) (others all : Result V E) → IfOk all (λ l. IsOkAnd others (λ a. room a ≤ room l)) → IfOk others (λ a. n ≤ room a) → IfOk all (λ l. n ≤ room l)
+  room_kept n (Ok a) (Ok l) more enough = omega (arith, more, enough)
+  room_kept n (Err e) (Ok l) more enough = absurd more
+  room_kept n others (Err e) more enough = tt
 
 -- a thief of a FIFO deque finds it empty
 pub finds : (flavor port : ℕ) (v : Hand) → flavor ≡ 0 → FindsFew Kept (min flavor 1) port v (HasTakenAll v)

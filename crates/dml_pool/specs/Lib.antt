@@ -1,3 +1,4 @@
+pub mod Crews
 pub mod Numbers
 pub mod Rule
 pub mod Slots

@@ -1,8 +1,8 @@
 -- The rule of a wave's deque: which tasks it holds, and what its passes know. An item is a task with its
 -- number.
 -- And what a worker did, by what its pass knows at the end.
-use Rattle.std.specs.Prelude.{◌≡◌, ℕ, ◌+◌, ◌<◌, List, [], ◌∷◌, map, length, Some, IsSomeAnd}
-use Rattle.std.specs.List.{All, slice_get}
+use Rattle.std.specs.Prelude.{◌≡◌, ℕ, ◌+◌, ◌<◌, ◌≤◌, List, [], ◌∷◌, ◌++◌, map, length, Some, IsSomeAnd}
+use Rattle.std.specs.List.{All, AllZip, slice_get}
 use mathlib.Core.Option.{some}
 use lib.ListN.{get_elem?}
 use Rattle.dml_types.specs.Memory.{Memory}
@@ -46,12 +46,24 @@ Kept items views =
     × ((x : ℕ) → times x (numbers_of items) + total (λ v. times x v.taken) views
     ≡ once_below x (length tasks))
 
+-- a pass took these items, which are no more than the tasks
+abbrev pub HasTaken : Hand → List Numbered → Hand → Type 0
+HasTaken v items w =
+    (w ≡ hand v.tasks v.parts (v.taken ++ numbers_of items))
+    × All (IsOf v.tasks) items
+    × (length w.taken ≤ length v.tasks)
+
 -- a pass that has all parts took each of the tasks once
 abbrev pub HasTakenAll : Hand → Type 0
 HasTakenAll v = v.parts ≡ all_parts → (x : ℕ) → times x v.taken ≡ once_below x (length v.tasks)
 
 abbrev pub tasks_done : List Outcome → List ℕ
 tasks_done outcomes = map (λ outcome. outcome.task) outcomes
+
+-- outcome by outcome the values of the tasks
+abbrev pub AreTaskValues : Memory → List Task → List Outcome → Type 0
+AreTaskValues memory tasks outcomes =
+    AllZip (λ task outcome. IsTaskValue memory task outcome.piece) tasks outcomes
 
 -- an outcome has the value of the task with its number
 abbrev pub IsDone : Memory → List Task → Outcome → Type 0

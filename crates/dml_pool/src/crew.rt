@@ -1,10 +1,8 @@
 //! The workers of a wave: how they start and how they are joined.
-ghost use Rattle.std.specs.Prelude.{◌≡◌, ◌+◌, ◌-◌, ◌<◌, ◌++◌, [], IfOk, IsOkAnd};
-ghost use Rattle.std.specs.List.{All};
+ghost use Rattle.std.specs.Prelude.{◌≡◌, ◌+◌, ◌-◌, ◌<◌, ◌≤◌, ◌++◌, IfOk, IsOkAnd, vec_capacity};
 ghost use Rattle.std.specs.Thread.{IsSync};
-ghost use Rattle.crossbeam_deque.specs.Handles.{view, worker_view, worker_deque, IsPassOf, stealer_deque, stealer_flavor};
-ghost use Rattle.dml_types.specs.Memory.{Memory};
-ghost use Rattle.dml_pool.specs.Tasks.{IsRunnable};
+ghost use Rattle.crossbeam_deque.specs.Handles.{view, worker_view, worker_deque, IsPassOf};
+ghost use Rattle.dml_pool.specs.Crews.{AccountAlone, HasWorked, HaveWorked, IsBench, IsPost, JoinAccounts, KeepsRoom};
 ghost use Rattle.dml_pool.specs.Rule.{Accounts};
 
 use crate::rule::{Owner, Part, Place, Thief};
@@ -15,18 +13,20 @@ use std::alloc::{AllocError, Global};
 use std::sync::Wait;
 use std::thread::{Threads, join};
 
-/// Both ends of a deque.
+/// Both ends of a deque, and how many tasks were pushed.
 #[derive(Drop)]
 pub struct Bench<'t, 'a> {
     pub thief: &'t Thief<'a>,
     pub owner: Owner<'a>,
+    pub count: usize,
 }
 
-/// Starts a worker for each level but the last, which is the calling thread's own, and joins them all.
+/// Starts a worker for each level but the last, which is the calling thread's own, and joins them all. Before a worker
+/// starts, its list of outcomes is given room for all tasks, so that none takes memory while it works.
 ///
 /// # Errors
 ///
-/// Where the allocator has no memory left for the outcomes. Every worker is joined then, too.
+/// Where the allocator has no memory left for such a list. Every worker is joined then, too.
 #[cycle(levels)]
 #[tactic(auto, using(crate::proofs::Keeps::forks))]
 pub fn crew<'a, R: Threads + Wait + Sync, G: Gate + Sync>(
@@ -37,64 +37,92 @@ pub fn crew<'a, R: Threads + Wait + Sync, G: Gate + Sync>(
     workers: u32,
     bench: Bench<'_, 'a>,
 ) -> (Owner<'a>, Result<Vec<Outcome<'a>>, AllocError>)
-    requires table { (stealer_deque bench.thief.now ≡ worker_deque bench.owner) × (stealer_flavor bench.thief.now ≡ 0) }
-    requires workers { (0 < workers) × (workers < (worker_view bench.owner).parts) }
-    requires idle { (worker_view bench.owner).taken ≡ [] }
-    requires runnable { All IsRunnable (worker_view bench.owner).tasks }
+    requires { IsBench bench workers }
     ensures table { worker_deque result.0 ≡ worker_deque bench.entry.owner }
-    ensures same { ((worker_view result.0).tasks ≡ (worker_view bench.entry.owner).tasks) × ((worker_view result.0).parts ≡ (worker_view bench.entry.owner).parts) }
-    ensures done { IfOk result.1 (λ done. Accounts image.now (worker_view result.0) done.items) }
+    ensures tasks { (worker_view result.0).tasks ≡ (worker_view bench.entry.owner).tasks }
+    ensures parts { (worker_view result.0).parts ≡ (worker_view bench.entry.owner).parts }
+    ensures done { IfOk result.1 (λ list. Accounts image.now (worker_view result.0) list.items) }
+    ensures room { IfOk result.1 (λ list. bench.entry.count ≤ vec_capacity list) }
 {
-    let Bench { thief, mut owner } = bench;
+    let Bench {
+        thief,
+        mut owner,
+        count,
+    } = bench;
+    let done = match Vec::with_capacity(alloc, count) {
+        Ok(done) => done,
+        Err(refused) => return (owner, Err(refused)),
+    };
     let place = owner.another::<Part>();
-    let post = Post { thief, place };
+    let post = Post { thief, place, done };
     if workers == 1 {
-        let (place, mine) = work(rt, image, gate, post, Vec::new(alloc));
-        return gathered(owner, place, Ok(Vec::new(alloc)), mine);
+        let (place, mine) = work(rt, image, gate, post);
+        return (absorbed(owner, place), Ok(mine));
     }
-    let rest = Bench { thief, owner };
+    let rest = Bench {
+        thief,
+        owner,
+        count,
+    };
     let ((place, mine), (owner, others)) = join(
         rt,
-        || -> (Place, Result<Vec<Outcome>, AllocError>)
-            requires { IsSync R.row × IsSync G.row × IsPassOf (stealer_deque post.thief.now) post.place × (stealer_flavor post.thief.now ≡ 0) × (0 < (view post.place).parts) × All IsRunnable (view post.place).tasks × ((view post.place).taken ≡ []) }
-            ensures { IsPassOf (stealer_deque post.entry.thief.now) result.0 × ((view result.0).tasks ≡ (view post.entry.place).tasks) × ((view result.0).parts ≡ (view post.entry.place).parts) × IfOk result.1 (λ done. Accounts image.entry.now (view result.0) done.items) }
-        { work(rt, image, gate, post, Vec::new(alloc)) },
+        || -> (Place, Vec<Outcome>)
+            requires { IsSync R.row × IsSync G.row × IsPost image.now post }
+            ensures { HasWorked image.entry.now post.entry result.0 result.1.items }
+        { work(rt, image, gate, post) },
         || -> (Owner, Result<Vec<Outcome>, AllocError>)
-            requires { IsSync R.row × IsSync G.row × (stealer_deque rest.thief.now ≡ worker_deque rest.owner) × (stealer_flavor rest.thief.now ≡ 0) × (1 < workers) × (workers - 1 < (worker_view rest.owner).parts) × ((worker_view rest.owner).taken ≡ []) × All IsRunnable (worker_view rest.owner).tasks }
-            ensures { (worker_deque result.0 ≡ worker_deque rest.entry.owner) × ((worker_view result.0).tasks ≡ (worker_view rest.entry.owner).tasks) × ((worker_view result.0).parts ≡ (worker_view rest.entry.owner).parts) × IfOk result.1 (λ done. Accounts image.entry.now (worker_view result.0) done.items) }
+            requires { IsSync R.row × IsSync G.row × (1 < workers) × IsBench rest (workers - 1) }
+            ensures { HaveWorked image.entry.now rest.entry result.0 result.1 }
         { crew(rt, alloc, image, gate, workers - 1, rest) },
     );
     gathered(owner, place, others, mine)
 }
 
-/// Joins a worker's pass, and its outcomes behind the others.
-#[tactic(auto, using(crate::proofs::Keeps::merges, crate::proofs::Works::results_joined))]
+/// Joins a worker's pass.
+#[tactic(auto, using(crate::proofs::Keeps::merges))]
+fn absorbed<'a>(mut owner: Owner<'a>, place: Place<'a>) -> Owner<'a>
+    requires table { IsPassOf (worker_deque owner) place }
+    requires tasks { (view place).tasks ≡ (worker_view owner).tasks }
+    requires part { 0 < (worker_view owner).parts }
+    ensures table { worker_deque result ≡ worker_deque owner.entry }
+    ensures tasks { (worker_view result).tasks ≡ (worker_view owner.entry).tasks }
+    ensures parts { (worker_view result).parts ≡ (worker_view owner.entry).parts + (view place.entry).parts }
+    ensures taken { (worker_view result).taken ≡ (worker_view owner.entry).taken ++ (view place.entry).taken }
+    ensures alone { AccountAlone owner.entry place.entry result }
+{
+    owner.absorb::<Part>(place);
+    owner
+}
+
+/// Joins a worker's pass, and its outcomes behind the others, whose list has room for them.
+#[tactic(auto, using(crate::proofs::Works::results_joined, crate::proofs::Works::room_kept))]
 fn gathered<'a>(
-    mut owner: Owner<'a>,
+    owner: Owner<'a>,
     place: Place<'a>,
     others: Result<Vec<Outcome<'a>>, AllocError>,
-    mine: Result<Vec<Outcome<'a>>, AllocError>,
+    mine: Vec<Outcome<'a>>,
 ) -> (Owner<'a>, Result<Vec<Outcome<'a>>, AllocError>)
     requires table { IsPassOf (worker_deque owner) place }
     requires tasks { (view place).tasks ≡ (worker_view owner).tasks }
     requires part { 0 < (worker_view owner).parts }
     ensures table { worker_deque result.0 ≡ worker_deque owner.entry }
-    ensures same { ((worker_view result.0).tasks ≡ (worker_view owner.entry).tasks) × ((worker_view result.0).parts ≡ (worker_view owner.entry).parts + (view place.entry).parts) }
-    ensures done { (memory : Memory) → IfOk others.entry (λ done. Accounts memory (worker_view owner.entry) done.items) → IfOk mine.entry (λ done. Accounts memory (view place.entry) done.items) → IfOk result.1 (λ done. Accounts memory (worker_view result.0) done.items) }
+    ensures tasks { (worker_view result.0).tasks ≡ (worker_view owner.entry).tasks }
+    ensures parts { (worker_view result.0).parts ≡ (worker_view owner.entry).parts + (view place.entry).parts }
+    ensures done { JoinAccounts owner.entry place.entry result.0 others.entry mine.entry.items result.1 }
+    ensures room { KeepsRoom others.entry result.1 }
 {
-    owner.absorb::<Part>(place);
-    (owner, appended(others, mine))
+    (absorbed(owner, place), appended(others, mine))
 }
 
-/// One list of two.
+/// One list of two, with no less room than the first has.
 fn appended<'a>(
     others: Result<Vec<Outcome<'a>>, AllocError>,
-    mine: Result<Vec<Outcome<'a>>, AllocError>,
+    mut mine: Vec<Outcome<'a>>,
 ) -> Result<Vec<Outcome<'a>>, AllocError>
-    ensures { IfOk result (λ all. IsOkAnd others.entry (λ a. IsOkAnd mine.entry (λ b. all.items ≡ a.items ++ b.items))) }
+    ensures items { IfOk result (λ all. IsOkAnd others.entry (λ a. all.items ≡ a.items ++ mine.entry.items)) }
+    ensures room { IfOk result (λ all. IsOkAnd others.entry (λ a. vec_capacity a ≤ vec_capacity all)) }
 {
     let mut all = others?;
-    let mut more = mine?;
-    all.append(&mut more)?;
+    all.append(&mut mine)?;
     Ok(all)
 }

@@ -16,7 +16,7 @@ mod worker;
 
 pub use gate::{Free, Gate};
 pub use tasks::{Outcome, Piece, Task};
-pub use wave::{PoolError, run_wave};
+pub use wave::{PoolError, run_wave, run_wave_into_slots};
 
 #[cfg(test)]
 mod tests;

@@ -1,6 +1,6 @@
 //! Outcomes in the order of their tasks.
-ghost use Rattle.std.specs.Prelude.{◌≡◌, ℕ, IfOk, IsSome, Some, Contains, length, map};
-ghost use Rattle.std.specs.List.{All, range_with_len};
+ghost use Rattle.std.specs.Prelude.{◌≡◌, ℕ, IfOk, IsSome, Some, length, map};
+ghost use Rattle.std.specs.List.{All};
 ghost use Rattle.dml_pool.specs.Numbers.{times, once_below};
 ghost use Rattle.dml_pool.specs.Rule.{tasks_done};
 ghost use Rattle.dml_pool.specs.Slots.{AreSlots};
@@ -8,26 +8,12 @@ ghost use Rattle.dml_pool.specs.Slots.{AreSlots};
 use crate::Outcome;
 use std::alloc::{AllocError, Global};
 
-/// The outcomes of `count` tasks, in the order of the tasks.
+/// A slot for each of `count` tasks, with its outcome.
 ///
 /// # Errors
 ///
-/// Where the allocator has no memory left for a list of them.
-pub fn in_order<'a>(
-    alloc: Global,
-    count: usize,
-    done: Vec<Outcome<'a>>,
-) -> Result<Vec<Outcome<'a>>, AllocError>
-    requires once { (x : ℕ) → times x (tasks_done done.items) ≡ once_below x count }
-    ensures order { IfOk result (λ all. tasks_done all.items ≡ range_with_len 0 count) }
-    ensures same { IfOk result (λ all. All (Contains done.entry.items) all.items) }
-{
-    let slots = slots_of(alloc, count, done)?;
-    opened(alloc, slots)
-}
-
-/// A slot for each of `count` tasks, with its outcome.
-fn slots_of<'a>(
+/// Where the allocator has no memory left for the list.
+pub fn slots_of<'a>(
     alloc: Global,
     count: usize,
     done: Vec<Outcome<'a>>,
@@ -48,7 +34,11 @@ fn slots_of<'a>(
 }
 
 /// What full slots hold.
-fn opened<'a>(
+///
+/// # Errors
+///
+/// Where the allocator has no memory left for the list.
+pub fn opened<'a>(
     alloc: Global,
     slots: Vec<Option<Outcome<'a>>>,
 ) -> Result<Vec<Outcome<'a>>, AllocError>

@@ -49,11 +49,9 @@ impl<'a> Outcome<Numbered<'a>, Hand<'a>> for Pushed {
 pub struct Taken;
 
 impl<'a> Outcome<Numbered<'a>, Hand<'a>> for Taken {
-    ghost use Rattle.std.specs.Prelude.{◌≡◌, ◌++◌};
-    ghost use Rattle.std.specs.List.{All};
-    ghost use Rattle.dml_pool.specs.Rule.{hand, numbers_of, IsOf, HasTakenAll};
+    ghost use Rattle.dml_pool.specs.Rule.{HasTaken, HasTakenAll};
 
-    ghost then = { λ v items w. (w ≡ hand v.tasks v.parts (v.taken ++ numbers_of items)) × All (IsOf v.tasks) items };
+    ghost then = { HasTaken };
 
     ghost empty = { HasTakenAll };
 }

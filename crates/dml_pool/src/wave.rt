@@ -1,14 +1,16 @@
 //! A wave of tasks.
-ghost use Rattle.std.specs.Prelude.{◌≡◌, ℕ, ◌<◌, ◌≤◌, [], length, IfOk};
-ghost use Rattle.std.specs.List.{All, AllZip, range_with_len};
-ghost use Rattle.crossbeam_deque.specs.Handles.{worker_view, worker_deque, stealer_deque, stealer_flavor};
+ghost use Rattle.std.specs.Prelude.{◌≡◌, ℕ, ◌≤◌, length, IfOk};
+ghost use Rattle.std.specs.List.{All, range_with_len};
+ghost use Rattle.crossbeam_deque.specs.Handles.{worker_view};
+ghost use Rattle.dml_pool.specs.Crews.{IsBench};
 ghost use Rattle.dml_pool.specs.Numbers.{times, once_below};
-ghost use Rattle.dml_pool.specs.Rule.{all_parts, hand, tasks_done, IsDone};
-ghost use Rattle.dml_pool.specs.Tasks.{IsRunnable, IsTaskValue};
+ghost use Rattle.dml_pool.specs.Rule.{all_parts, tasks_done, AreTaskValues, IsDone};
+ghost use Rattle.dml_pool.specs.Slots.{AreFilled};
+ghost use Rattle.dml_pool.specs.Tasks.{IsRunnable};
 
 use crate::crew::{Bench, crew};
 use crate::filling::filled;
-use crate::order::in_order;
+use crate::order::{opened, slots_of};
 use crate::rule::Whole;
 use crate::worker::{Post, work};
 use crate::{Gate, Outcome, Task};
@@ -40,7 +42,7 @@ impl From<AllocError> for PoolError {
 ///
 /// # Errors
 ///
-/// `Refused` where the allocator has no memory left. Every worker was joined, and the tasks are gone with their regions.
+/// `Refused` where the allocator has no memory left. Every worker was joined; the tasks are gone with their regions.
 pub fn run_wave<'a, R: Threads + Wait + Sync, G: Gate + Sync>(
     rt: &R,
     alloc: Global,
@@ -54,7 +56,31 @@ pub fn run_wave<'a, R: Threads + Wait + Sync, G: Gate + Sync>(
     requires most_tasks { length tasks.items ≤ 131072 }
     requires runnable { All IsRunnable tasks.items }
     ensures order { IfOk result (λ outcomes. tasks_done outcomes.items ≡ range_with_len 0 (length tasks.entry.items)) }
-    ensures values { IfOk result (λ outcomes. AllZip (λ task outcome. IsTaskValue image.now task outcome.piece) tasks.entry.items outcomes.items) }
+    ensures values { IfOk result (λ outcomes. AreTaskValues image.now tasks.entry.items outcomes.items) }
+{
+    let slots = run_wave_into_slots(rt, alloc, image, tasks, workers, gate)?;
+    Ok(opened(alloc, slots)?)
+}
+
+/// As `run_wave`, but each outcome stays in a slot of its own, so that it can be taken out where it is. No slot is
+/// empty.
+///
+/// # Errors
+///
+/// As of `run_wave`.
+pub fn run_wave_into_slots<'a, R: Threads + Wait + Sync, G: Gate + Sync>(
+    rt: &R,
+    alloc: Global,
+    image: &Image,
+    tasks: Vec<Task<'a>>,
+    workers: u32,
+    gate: &G,
+) -> Result<Vec<Option<Outcome<'a>>>, PoolError>
+    requires least_workers { 1 ≤ workers }
+    requires most_workers { workers ≤ 16 }
+    requires most_tasks { length tasks.items ≤ 131072 }
+    requires runnable { All IsRunnable tasks.items }
+    ensures { IfOk result (λ slots. AreFilled image.now tasks.entry.items slots.items) }
 {
     let count = tasks.len();
     let workers = workers.min(count as u32).max(1);
@@ -63,9 +89,10 @@ pub fn run_wave<'a, R: Threads + Wait + Sync, G: Gate + Sync>(
     let bench = Bench {
         thief: &thief,
         owner,
+        count,
     };
     let done = all_done(rt, alloc, image, gate, workers, bench)?;
-    Ok(in_order(alloc, count, done)?)
+    Ok(slots_of(alloc, count, done)?)
 }
 
 /// The outcomes of all tasks of a deque, in no order.
@@ -80,16 +107,15 @@ fn all_done<'a, R: Threads + Wait + Sync, G: Gate + Sync>(
     workers: u32,
     bench: Bench<'_, 'a>,
 ) -> Result<Vec<Outcome<'a>>, AllocError>
-    requires table { (stealer_deque bench.thief.now ≡ worker_deque bench.owner) × (stealer_flavor bench.thief.now ≡ 0) }
-    requires workers { (0 < workers) × (workers < all_parts) }
-    requires start { worker_view bench.owner ≡ hand (worker_view bench.owner).tasks all_parts [] }
-    requires runnable { All IsRunnable (worker_view bench.owner).tasks }
-    ensures once { IfOk result (λ done. (x : ℕ) → times x (tasks_done done.items) ≡ once_below x (length (worker_view bench.entry.owner).tasks)) }
+    requires bench { IsBench bench workers }
+    requires whole { (worker_view bench.owner).parts ≡ all_parts }
+    ensures once { IfOk result (λ done. (x : ℕ) → times x (tasks_done done.items) ≡ once_below x bench.entry.count) }
     ensures done { IfOk result (λ done. All (IsDone image.now (worker_view bench.entry.owner).tasks) done.items) }
 {
     let thief = bench.thief;
     let (mut owner, done) = crew(rt, alloc, image, gate, workers, bench);
+    let done = done?;
     let place = owner.another::<Whole>();
-    let (_, done) = work(rt, image, gate, Post { thief, place }, done?);
-    done
+    let (_, done) = work(rt, image, gate, Post { thief, place, done });
+    Ok(done)
 }

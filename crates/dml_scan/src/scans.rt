@@ -1,10 +1,11 @@
 ghost use Rattle.std.specs.Prelude.{◌≡◌, ◌+◌, ◌-◌, ◌^◌, ◌≤◌, ◌++◌, [], length, IsTrue};
 ghost use Rattle.dml_types.specs.declared.operations.Op.TheVariants.{Compare, ComparePattern, Dualcast, Fill, Move};
 ghost use Rattle.dml_types.specs.Job.{op_of};
-ghost use Rattle.dml_types.specs.Bytewise.{lowest_done};
+ghost use Rattle.dml_types.specs.Bytewise.{lowest_done, operation_direction};
 ghost use Rattle.dml_types.specs.Memory.{bytes_at, has_all};
 ghost use Rattle.dml_types.specs.Chunk.{scan_found, scan_staged};
 ghost use Rattle.dml_arena.specs.Piece.{SamePlace};
+ghost use Rattle.dml_scan.specs.Found.{done_count};
 
 use crate::compares::{compare_found, compare_pattern_found};
 use crate::reach::{direction_of, done_count, dualcast_found, fill_found, move_found};
@@ -50,8 +51,7 @@ pub fn scan_move<'a>(
 {
     let mut staged = room;
     let found = move_found(image, job, from, to);
-    let done = done_count(found, to - from);
-    let first = from + direction_of(Op::Move, job.job()).lowest_done(to - from, done);
+    let (first, done) = done_part(job.job(), from, to, found);
     stage_source(image, job.job(), first, done, &mut staged);
     ScanPiece {
         from,
@@ -176,6 +176,19 @@ pub fn scan_dualcast<'a>(
         found,
         staged,
     }
+}
+
+/// The offsets of a chunk of a move that were done, where its scan ended so: the first of them, and their number.
+fn done_part(job: &Job, from: u32, to: u32, found: Found) -> (u32, u32)
+    requires order { from ≤ to }
+    requires within { done_count (to - from) found ≤ to - from }
+    ensures first { result.0 ≡ from + lowest_done (operation_direction Move job.now) (to - from) result.1 }
+    ensures end { result.0 + result.1 ≤ to }
+    ensures count { result.1 ≡ done_count (to - from) found }
+{
+    let done = done_count(found, to - from);
+    let first = from + direction_of(Op::Move, job).lowest_done(to - from, done);
+    (first, done)
 }
 
 /// Stages `done` bytes of a job's source from the offset `first` on.

@@ -4,9 +4,10 @@ use Rattle.std.proofs.lemmas.List.{append-nil, get_or-map, get_or-replicate, len
 use Rattle.std.proofs.lemmas.List.FromFn.{get_or-map-range_with_len, length-map-range_with_len, map-range_with_len_more}
 use Rattle.dml_types.specs.Memory.{Memory, IsMemory, byte_at, bytes_at, has, has_all}
 use Rattle.dml_types.proofs.MemoryLemmas.{has_all_from, has_all_within, has_within, length_bytes_at}
-use Rattle.dml_script.specs.Run.{page_of, shown_at, shown_bytes}
+use Rattle.dml_image.specs.Brought.{padded}
+use Rattle.dml_script.specs.Run.{shown_at, shown_bytes}
 
-pub page_is : (bytes copied zeros : List ℕ) → copied ≡ bytes → zeros ≡ replicate (4096 - length bytes) 0 → copied ++ zeros ≡ page_of bytes
+pub page_is : (bytes copied zeros : List ℕ) → copied ≡ bytes → zeros ≡ replicate (4096 - length bytes) 0 → copied ++ zeros ≡ padded bytes
 page_is bytes copied zeros same none = ap (λ l. l ++ zeros) same ∙ ap (λ l. bytes ++ l) none
 
 shown_more : (memory : Memory) (address n : ℕ) → shown_bytes memory address (n + 1) ≡ shown_bytes memory address n ++ shown_at memory (address + n) ∷ []

@@ -1,5 +1,5 @@
 -- What a script's run writes: its lines change a memory, one after another, and jobs and shows add text.
-use Rattle.std.specs.Prelude.{◌≡◌, ◌≤◌, IsOk, ℕ, ◌+◌, ◌-◌, ◌%◌, if◌then◌else◌, List, [], ◌∷◌, ◌++◌, length, map, nat_le, option_map, replicate, slice_index_or, Option, None, Some, Result, Ok, Err}
+use Rattle.std.specs.Prelude.{◌≡◌, ◌≤◌, IsOk, ℕ, ◌+◌, ◌%◌, if◌then◌else◌, List, [], ◌∷◌, ◌++◌, length, map, nat_le, option_map, slice_index_or, Option, None, Some, Result, Ok, Err}
 use Rattle.std.specs.List.{range_with_len}
 use Rattle.dml_types.specs.Memory.{Memory, page_size, has, byte_at, put}
 use Rattle.dml_types.specs.declared.jobs.Job.{Job}
@@ -7,7 +7,7 @@ use Rattle.dml_types.specs.declared.records.Record.{Record}
 use Rattle.dml_types.specs.declared.statuses.Status.TheVariants.{Abandoned}
 use Rattle.dml_types.specs.Effect.{ended}
 use Rattle.dml_types.specs.Step.{batch, step}
-use Rattle.dml_image.specs.Brought.{all_absent, brought}
+use Rattle.dml_image.specs.Brought.{all_absent, brought, padded}
 use Rattle.dml_grammar.specs.declared.faults.ScriptError.{ScriptError}
 use Rattle.dml_grammar.specs.declared.faults.ScriptError.TheVariants as scripts
 use Rattle.dml_grammar.specs.declared.faults.ScriptFault.{ScriptFault}
@@ -42,10 +42,6 @@ outside memory jobs = record { memory = memory; jobs = jobs; batch = None }
 abbrev pub opening : Session
 opening = outside (all_absent 0) 0
 
--- a page of these bytes, and then zeros
-abbrev pub page_of : List ℕ → List ℕ
-page_of bytes = bytes ++ replicate (page_size - length bytes) 0
-
 -- what a job leaves: in a batch nothing yet
 abbrev pub memory_behind : ℕ → Memory → Option (List Job) → Job → Memory
 memory_behind staging memory None job = (step memory job staging).0
@@ -66,7 +62,7 @@ memory_closed staging memory (Some jobs) = (batch memory jobs staging).0
 abbrev pub after_line : ℕ → Session → Line → Session
 after_line staging session (line.Image pages) = record session { memory = all_absent pages }
 after_line staging session (line.Page page bytes) =
-    record session { memory = brought session.memory page (page_of bytes) }
+    record session { memory = brought session.memory page (padded bytes) }
 after_line staging session (line.Poke address bytes) =
     record session { memory = put session.memory address bytes }
 after_line staging session (line.Job job) =

@@ -19,7 +19,7 @@ use std::sync::Wait;
 use std::thread::Threads;
 
 /// The most jobs of a list or a batch.
-pub const MOST_JOBS: usize = 1024;
+pub const MOST_JOBS: usize = dml_grammar::MOST_JOBS as usize;
 
 /// Adds the jobs of job lines to a list that has room for them, until another line comes or the list has 1,024 jobs.
 /// Answers the line behind them, which is read ahead.
@@ -59,7 +59,8 @@ pub fn answer_jobs<T: Threads + Wait + Sync, W: Write>(
     requires few { length jobs.now ≤ most_jobs }
     requires counted { number + length jobs.now < 2 ^ 32 }
     requires writer { has_failed writer.old ≡ false }
-    ensures image { OnOk result (engine.new.image ≡ memory_after engine.old.image jobs.now engine.old.settings.staging) }
+    ensures image { OnOk result (engine.new.image
+        ≡ memory_after engine.old.image jobs.now engine.old.settings.staging) }
     ensures settings { engine.new.settings ≡ engine.old.settings }
     ensures ok { OnOk result (Writes W.contents writer.old writer.new
         (job_lines number (records_of engine.old.image jobs.now engine.old.settings.staging))) }

@@ -164,7 +164,8 @@ fn answer_script<T: Threads + Wait + Sync, W: Write>(
     requires valid { IsValid settings }
     requires runnable { IsRunnable settings.staging lines }
     requires writer { has_failed writer.old ≡ false }
-    ensures ok { OnOk result (Writes W.contents writer.old writer.new (answer_from settings.staging opening lines.entry)) }
+    ensures ok { OnOk result (Writes W.contents writer.old writer.new
+        (answer_from settings.staging opening lines.entry)) }
     ensures passed { result ≢ Err AnswerError.Write → has_failed writer.new ≡ false }
     ensures flushed { OnOk result (is_flushed writer.new ≡ true) }
     ensures front { OnErr result (WritesFront W.contents writer.old writer.new
@@ -181,7 +182,8 @@ fn answer_script<T: Threads + Wait + Sync, W: Write>(
 /// The session behind the first line of a script, which gives the image so many pages.
 fn begin(alloc: Global, pages: u32, settings: Settings) -> Result<Session, AnswerError>
     requires valid { IsValid settings }
-    ensures session { IfOk result (λ session. session.session ≡ after_line settings.staging opening (Line.Image pages)) }
+    ensures session { IfOk result (λ session. session.session
+        ≡ after_line settings.staging opening (Line.Image pages)) }
     ensures staging { IfOk result (λ session. session.staging ≡ settings.staging) }
     ensures err { IfErr result (λ e. e ≡ AnswerError.NoMemory) }
 {

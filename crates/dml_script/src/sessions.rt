@@ -1,8 +1,8 @@
 //! A script's lines carried out on an engine: successive jobs in lists, batches whole, other lines one by one.
 
 ghost use Rattle.std.specs.Prelude.{◌≡◌, ◌≢◌, ◌+◌, ◌-◌, ◌%◌, ◌^◌, ◌<◌, ◌≤◌, ◌∷◌, ◌++◌, false, true, length, map, replicate, Err, None, Some, IfOk, IsErrOf, OnOk, OnErr};
-ghost use Rattle.dml_image.specs.Brought.{brought};
-ghost use Rattle.dml_script.specs.Run.{IsInPage, after_line, answer_of, item_of, lines_from, outside, page_of, shown_bytes};
+ghost use Rattle.dml_image.specs.Brought.{brought, padded};
+ghost use Rattle.dml_script.specs.Run.{IsInPage, after_line, answer_of, item_of, lines_from, outside, shown_bytes};
 ghost use Rattle.dml_script.specs.Runnable.{Fits, IsAlone, MayCome};
 ghost use Rattle.dml_script.specs.Watching.{has_failed, WritesFront, WritesUpTo};
 
@@ -12,15 +12,13 @@ use crate::watching::Watched;
 use crate::writing::{AnswerError, write_item};
 use dml_engine::Engine;
 use dml_grammar::{Line, ScriptLines};
-use dml_image::Image;
+use dml_image::{Image, PAGE_SIZE};
 use dml_types::{Job, Record};
 use std::alloc::{AllocError, Global};
 use std::io::Write;
 use std::marker::Model;
 use std::sync::Wait;
 use std::thread::Threads;
-
-const PAGE_SIZE: usize = 4096;
 
 /// The engine of a script's run, and the number of jobs so far. A batch is carried out whole, so none is ever open.
 #[derive(Drop)]
@@ -53,8 +51,8 @@ impl Session {
         }
     }
 
-    /// Answers a line that is not the first: a job line with the job lines behind it, as many as go in one list, and the
-    /// first line of a batch with the whole batch. Answers the line behind these, which is read ahead.
+    /// Answers a line that is not the first: a job line with the job lines behind it, as many as go in one list, and
+    /// the first line of a batch with the whole batch. Answers the line behind these, which is read ahead.
     pub fn answer_line<T: Threads + Wait + Sync, W: Write>(
         &mut self,
         rt: &T,
@@ -197,7 +195,8 @@ impl Session {
     fn bring(&mut self, page: u32, bytes: &[u8]) -> Result<(), AllocError>
         requires inside { page < length self.old.session.memory.present }
         requires short { length bytes.now ≤ PAGE_SIZE }
-        ensures memory { OnOk result (self.new.session ≡ record self.old.session { memory = brought self.old.session.memory page (page_of bytes.now) }) }
+        ensures memory { OnOk result (self.new.session
+            ≡ record self.old.session { memory = brought self.old.session.memory page (padded bytes.now) }) }
         ensures staging { self.new.staging ≡ self.old.staging }
         ensures unchanged { OnErr result (self.new.session ≡ self.old.session) }
     {
@@ -210,7 +209,7 @@ impl Session {
 /// A page of these bytes, and then zeros.
 fn page_content(bytes: &[u8]) -> [u8; PAGE_SIZE]
     requires { length bytes.now ≤ PAGE_SIZE }
-    ensures { result ≡ page_of bytes.now }
+    ensures { result ≡ padded bytes.now }
 {
     let mut content = [0; PAGE_SIZE];
     content[..bytes.len()].copy_from_slice(bytes);

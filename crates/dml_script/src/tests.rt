@@ -1,7 +1,9 @@
 //! Runs of scripts over readers and writers. The expected answers are the format's.
 
+mod broken_streams;
 mod cuts;
 mod faults;
+mod growths;
 mod jobs;
 mod lists;
 mod refusals;

@@ -10,6 +10,7 @@ use Rattle.dml_types.specs.Job.{is_fenced, no_op_job, unfenced}
 use Rattle.dml_types.specs.Memory.{Memory, first}
 use Rattle.dml_types.specs.Effect.{ended}
 use Rattle.dml_types.specs.Step.{batch, batch_answer, batch_jobs, ends_before, memory_after, records_of, step}
+use Rattle.dml_types.proofs.FenceLemmas.{all_unfenced_same}
 use Rattle.dml_types.proofs.FirstLemmas.{first_is}
 use Rattle.dml_types.proofs.StepLemmas.{length_records_of}
 
@@ -32,8 +33,9 @@ batch_jobs_are memory jobs staging count within before here =
 abbrev zeros : ℕ → List Record
 zeros n = replicate n (ended Abandoned 0 0 0)
 
-pub batch_without_fences : (memory : Memory) (jobs : List Job) (staging : ℕ) → list_any is_fenced jobs ≡ false → map unfenced jobs ≡ jobs → batch memory jobs staging ≡ (memory_after memory jobs staging, batch_answer (records_of memory jobs staging), records_of memory jobs staging)
-batch_without_fences memory jobs staging none free =
+pub batch_without_fences : (memory : Memory) (jobs : List Job) (staging : ℕ) → list_any is_fenced jobs ≡ false → batch memory jobs staging ≡ (memory_after memory jobs staging, batch_answer (records_of memory jobs staging), records_of memory jobs staging)
+batch_without_fences memory jobs staging none =
+    let free = all_unfenced_same jobs none in
     let never : (i : ℕ) → i < length jobs → ends_before jobs (records_of memory (map unfenced jobs) staging) i ≡ false =
     λ i below. and_left _ _ (none_fenced jobs i none) in
     let all : batch_jobs memory jobs staging ≡ jobs =

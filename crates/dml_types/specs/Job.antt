@@ -1,6 +1,6 @@
 -- A job: its operation, flags, constructors, and the ranges that it names. Addresses are whole numbers:
 -- nothing wraps.
-use Rattle.std.specs.Prelude.{option_map, ℕ, ◌+◌, ◌^◌, max, min, Bool, List, [], ◌∷◌, Option, codes, nat_eq, nat_lt, bit_and, ◌==◌, find}
+use Rattle.std.specs.Prelude.{option_map, ℕ, ◌+◌, ◌-◌, ◌^◌, max, min, Bool, List, [], ◌∷◌, Option, codes, nat_eq, nat_lt, bit_and, ◌==◌, find}
 use Rattle.dml_types.specs.Types.{Job, Span, Op, NoOp, Move, Fill, Compare, ComparePattern, CreateDelta, ApplyDelta, Dualcast, list_any}
 
 -- the operations by their opcodes; every other opcode is unsupported
@@ -27,7 +27,7 @@ abbrev pub is_fenced : Job → Bool
 is_fenced job = bit_and job.flags 0x01 == 0x01
 
 abbrev pub unfenced : Job → Job
-unfenced job = record job { flags = bit_and job.flags 0xFFFFFFFE }
+unfenced job = record job { flags = job.flags - bit_and job.flags 0x01 }
 
 -- the jobs that the constructors make: a field that is not named is 0
 abbrev pub plain : ℕ → Job

@@ -166,7 +166,7 @@ impl Job {
     }
 
     /// The same job with the fence's bit cleared.
-    #[tactic(auto, using(crate::proofs::FenceLemmas::unfenced_same))]
+    #[tactic(auto, using(crate::proofs::FenceLemmas::cleared_by_mask, crate::proofs::FenceLemmas::unfenced_same))]
     pub fn unfenced(self) -> Job
         ensures job { result ≡ table.unfenced self }
         ensures same { table.is_fenced self ≡ false → result ≡ self }

@@ -1,8 +1,8 @@
 //! What the definitions mean, as laws of theirs: each is the contract of a function that does nothing.
 
-ghost use Rattle.std.specs.Prelude.{map, ◌≡◌, ℕ, ◌+◌, ◌<◌, ◌≤◌, ◌⊎◌, Bool, true, false, List, [], ◌∷◌, ◌++◌, length, Option, Some, None};
+ghost use Rattle.std.specs.Prelude.{◌≡◌, ℕ, ◌+◌, ◌<◌, ◌≤◌, ◌⊎◌, Bool, true, false, List, [], ◌∷◌, ◌++◌, length, Option, Some, None};
 ghost use Rattle.dml_types.specs.Types.{Job, Status, NoOp, Move, list_any};
-ghost use Rattle.dml_types.specs.Job.{is_fenced, op_of, unfenced};
+ghost use Rattle.dml_types.specs.Job.{is_fenced, op_of};
 ghost use Rattle.dml_types.specs.Memory.{first, Memory, IsWhole, at_home, bytes_at, put};
 ghost use Rattle.dml_types.specs.Refusal.{refusal};
 ghost use Rattle.dml_types.specs.Effect.{ended};
@@ -71,7 +71,7 @@ pub fn law_of_folds()
 
 /// Batches: without fences one is the fold of its jobs, and there is a record for each job.
 pub fn law_of_batches()
-    ensures without_fences { (memory : Memory) (jobs : List Job) (staging : ℕ) → list_any is_fenced jobs ≡ false → map unfenced jobs ≡ jobs →
+    ensures without_fences { (memory : Memory) (jobs : List Job) (staging : ℕ) → list_any is_fenced jobs ≡ false →
         batch memory jobs staging
         ≡ (memory_after memory jobs staging, batch_answer (records_of memory jobs staging), records_of memory jobs staging) }
     ensures as_many { (memory : Memory) (jobs : List Job) (staging : ℕ) → length (batch memory jobs staging).2 ≡ length jobs }

@@ -119,7 +119,7 @@ pub record IsCutUpTo (op : Op) (job : Job) (chunk number from whole : ℕ) (rest
   pub mine : List Task
   pub list : now ≡ old ++ mine
   pub count : length mine ≡ number
-  pub chunks : AreChunksFrom (IsTaskFrom job) task_end task_room from 0 mine
+  pub chunks : AreChunksFrom (IsTaskFrom job chunk) task_end task_room from 0 mine
   pub behind : LastIsBefore task_room mine rest
   pub runnable : All IsRunnable mine
   pub offset : from ≡ min (units op job) (number * chunk_units op chunk)
@@ -175,6 +175,8 @@ cut_more op job chunk number from whole n to rest front back old now rules valid
     let last : to ≤ units op job = omega (arith, end) in
     let same = operation_at op job rules in
     let enough = cut_fits op job chunk number from whole n to rest old now rules fits cut end room in
+    let ends : to ≡ min (units (operation_of job) job) (from + chunk_units (operation_of job) chunk) =
+    subst (λ (o : Op). to ≡ min (units o job) (from + chunk_units o chunk)) (sym same) end in
     let runnable : IsRunnable task = record {
       operation = subst (λ (o : Op). o ≢ NoOp) (sym same) (is_some_op op job chunk number some);
       order = first;
@@ -186,11 +188,11 @@ cut_more op job chunk number from whole n to rest front back old now rules valid
       list = ap (λ (list : List Task). list ++ task ∷ []) cut.list ∙ append_assoc old cut.mine (task ∷ []);
       count = omega (arith, length-append cut.mine (task ∷ []), cut.count);
       chunks =
-          chunks_pushed (IsTaskFrom job) task_end task_room 0 from cut.mine task cut.chunks
-          (record { of = refl; begins = refl; order = first })
+          chunks_pushed (IsTaskFrom job chunk) task_end task_room 0 from cut.mine task cut.chunks
+          (record { of = refl; begins = refl; order = first; ends = ends })
           (before rest front cut.mine cut.behind opening.0 ahead.0);
       behind =
-          last_pushed (IsTaskFrom job) task_end task_room cut.mine task back
+          last_pushed (IsTaskFrom job chunk) task_end task_room cut.mine task back
           (opening.1 ∙ sym opening.0, omega (arith, left.0, ahead.0, ahead.1));
       runnable = All-push IsRunnable cut.mine task cut.runnable runnable;
       offset = omega (arith, end, cut.offset, begins);
@@ -217,7 +219,7 @@ cut_all op job chunk number from whole rest old now rules valid all cut =
       list = cut.list;
       count = cut.count ∙ all;
       tasks =
-          subst (λ (last : ℕ). AreChunksFrom (IsTaskFrom job) task_end task_room last 0 cut.mine)
+          subst (λ (last : ℕ). AreChunksFrom (IsTaskFrom job chunk) task_end task_room last 0 cut.mine)
           (end ∙ ap (λ (o : Op). units o job) (sym same)) cut.chunks;
       runnable = cut.runnable;
     }

@@ -12,7 +12,7 @@ use Rattle.dml_pool.specs.Tasks.{IsRunnable}
 use Rattle.dml_wave.specs.Tasks.{AreWaveTasks, AreJobTasks, AddsTasks}
 
 pub tasks_pushed : (jobs : List Job) (chunk : ℕ) (places : List ℕ) (i : ℕ) (tasks mine : List Task) → AreWaveTasks jobs chunk places tasks
-    → length mine ≡ task_count (job_at jobs i) chunk → AreJobTasks (job_at jobs i) mine
+    → length mine ≡ task_count (job_at jobs i) chunk → AreJobTasks (job_at jobs i) chunk mine
     → AreWaveTasks jobs chunk (places ++ i ∷ []) (tasks ++ mine)
 tasks_pushed jobs chunk [] i tasks mine none count chunks =
     (mine, [], ap (λ (list : List Task). list ++ mine) none ∙ sym (append-nil mine), count, chunks, refl)

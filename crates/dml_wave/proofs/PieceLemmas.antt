@@ -22,26 +22,27 @@ use Rattle.dml_scan.specs.declared.scans.ScanPiece.{ScanPiece}
 use Rattle.dml_delta.specs.declared.applies.ApplyPiece.{ApplyPiece}
 use Rattle.dml_delta.specs.declared.creates.CreatePiece.{CreatePiece}
 use Rattle.dml_effect.specs.Chunks.{FirstIsBehind, AreChunksFrom, IsScanFrom, IsCreateFrom, IsApplyFrom, AreScans, scan_size}
+use Rattle.dml_pool.specs.declared.tasks.Outcome.{Outcome}
 use Rattle.dml_pool.specs.declared.tasks.Piece.{Piece}
 use Rattle.dml_pool.specs.declared.tasks.Piece.TheVariants.{Scan, Create, Apply}
 use Rattle.dml_pool.specs.declared.tasks.Task.{Task}
-use Rattle.dml_pool.specs.Tasks.{IsScanned, IsCreated, IsApplied, IsOperationValue, units}
+use Rattle.dml_pool.specs.Tasks.{IsScanned, IsCreated, IsApplied, IsOperationValue, IsTaskValue, units}
 use Rattle.dml_wave.specs.Tasks.{IsTaskFrom}
-use Rattle.dml_wave.specs.Effects.{IsValueIn, HoldJob, scan_in, create_in, apply_in}
+use Rattle.dml_wave.specs.Effects.{IsValueIn, HoldJob, scan_in, scan_of, create_in, create_of, apply_in, apply_of}
 
 -- for pieces of any kind, by what it means to be the value of a task
-module _ {P : Type 0} (memory : Memory) (job : Job) (pick : Option Piece → Option P) (IsValue : Task → P → Type 0) (IsValueFrom : ℕ → P → Type 0) (end : P → ℕ) (region : P → Room)
-    (held : (task : Task) (slot : Option Piece) → task.job ≡ job → IsValueIn memory task slot → (piece : P) × (pick slot ≡ Some piece) × IsValue task piece)
-    (value : (from : ℕ) (task : Task) (piece : P) → IsTaskFrom job from task → IsValue task piece → IsValueFrom from piece)
+module _ {P : Type 0} (memory : Memory) (job : Job) (chunk : ℕ) (pick : Option Outcome → Option P) (IsValue : Task → P → Type 0) (IsValueFrom : ℕ → P → Type 0) (end : P → ℕ) (region : P → Room)
+    (held : (task : Task) (slot : Option Outcome) → task.job ≡ job → IsValueIn memory task slot → (piece : P) × (pick slot ≡ Some piece) × IsValue task piece)
+    (value : (from : ℕ) (task : Task) (piece : P) → IsTaskFrom job chunk from task → IsValue task piece → IsValueFrom from piece)
     (ends : (task : Task) (piece : P) → IsValue task piece → end piece ≡ task.to)
     (place : (task : Task) (piece : P) → IsValue task piece → SamePlace task.room (region piece)) where
   abbrev ChunksFrom : ℕ → ℕ → List P → Type 0
   ChunksFrom last from pieces = AreChunksFrom IsValueFrom end region last from pieces
 
   abbrev TasksFrom : ℕ → ℕ → List Task → Type 0
-  TasksFrom last from tasks = AreChunksFrom (IsTaskFrom job) (λ task. task.to) (λ task. task.room) last from tasks
+  TasksFrom last from tasks = AreChunksFrom (IsTaskFrom job chunk) (λ task. task.to) (λ task. task.room) last from tasks
 
-  behind : (last : ℕ) (task : Task) (piece : P) (tasks : List Task) (slots : List (Option Piece)) → IsValue task piece → FirstIsBehind (λ t. t.room) task.room tasks
+  behind : (last : ℕ) (task : Task) (piece : P) (tasks : List Task) (slots : List (Option Outcome)) → IsValue task piece → FirstIsBehind (λ t. t.room) task.room tasks
       → TasksFrom last task.to tasks → AllZip (IsValueIn memory) tasks slots → FirstIsBehind region (region piece) (filter_map pick slots)
   behind last task piece [] [] is first all hold = tt
   behind last task piece [] (s ∷ slots) is first all hold = absurd hold
@@ -55,7 +56,7 @@ module _ {P : Type 0} (memory : Memory) (job : Job) (pick : Option Piece → Opt
         there.start ∙ (first.1 ∙ sym (ap₂ (λ (a b : ℕ). a + b) here.start here.room)),
       )
 
-  pub chunks_in : (last from : ℕ) (tasks : List Task) (slots : List (Option Piece)) → TasksFrom last from tasks → AllZip (IsValueIn memory) tasks slots → ChunksFrom last from (filter_map pick slots)
+  pub chunks_in : (last from : ℕ) (tasks : List Task) (slots : List (Option Outcome)) → TasksFrom last from tasks → AllZip (IsValueIn memory) tasks slots → ChunksFrom last from (filter_map pick slots)
   chunks_in last from [] [] all hold = all
   chunks_in last from [] (s ∷ slots) all hold = absurd hold
   chunks_in last from (t ∷ tasks) [] all hold = absurd hold
@@ -70,12 +71,12 @@ module _ {P : Type 0} (memory : Memory) (job : Job) (pick : Option Piece → Opt
 operation_at : (job : Job) (op : Op) → op_of job ≡ Some op → operation_of job ≡ op
 operation_at job op is = ap (λ (o : Option Op). unwrap_or o NoOp) is
 
-value_by : (memory : Memory) (job : Job) (op : Op) (task : Task) (piece : Piece) → op_of job ≡ Some op → task.job ≡ job → IsValueIn memory task (Some piece) → IsOperationValue op memory task piece
+value_by : (memory : Memory) (job : Job) (op : Op) (task : Task) (piece : Piece) → op_of job ≡ Some op → task.job ≡ job → IsTaskValue memory task piece → IsOperationValue op memory task piece
 value_by memory job op task piece is of value =
     subst (λ (o : Op). IsOperationValue o memory task piece) (ap operation_of of ∙ operation_at job op is) value
 
 -- Scans
-scan_held_by : (op : Op) (memory : Memory) (task : Task) (piece : Piece) → op ≢ CreateDelta → op ≢ ApplyDelta → IsOperationValue op memory task piece → (scan : ScanPiece) × (scan_in (Some piece) ≡ Some scan) × IsScanned op memory task scan
+scan_held_by : (op : Op) (memory : Memory) (task : Task) (piece : Piece) → op ≢ CreateDelta → op ≢ ApplyDelta → IsOperationValue op memory task piece → (scan : ScanPiece) × (scan_of piece ≡ Some scan) × IsScanned op memory task scan
 scan_held_by NoOp memory task piece no_create no_apply value = absurd value
 scan_held_by CreateDelta memory task piece no_create no_apply value = absurd (no_create refl)
 scan_held_by ApplyDelta memory task piece no_create no_apply value = absurd (no_apply refl)
@@ -95,13 +96,13 @@ scan_held_by Dualcast memory task (Scan piece) no_create no_apply value = (piece
 scan_held_by Dualcast memory task (Create piece) no_create no_apply value = absurd value
 scan_held_by Dualcast memory task (Apply piece) no_create no_apply value = absurd value
 
-scan_held : (memory : Memory) (job : Job) (op : Op) → op_of job ≡ Some op → op ≢ CreateDelta → op ≢ ApplyDelta → (task : Task) (slot : Option Piece) → task.job ≡ job → IsValueIn memory task slot → (scan : ScanPiece) × (scan_in slot ≡ Some scan) × IsScanned op memory task scan
+scan_held : (memory : Memory) (job : Job) (op : Op) → op_of job ≡ Some op → op ≢ CreateDelta → op ≢ ApplyDelta → (task : Task) (slot : Option Outcome) → task.job ≡ job → IsValueIn memory task slot → (scan : ScanPiece) × (scan_in slot ≡ Some scan) × IsScanned op memory task scan
 scan_held memory job op is no_create no_apply task None of value = absurd value
-scan_held memory job op is no_create no_apply task (Some piece) of value =
-    scan_held_by op memory task piece no_create no_apply (value_by memory job op task piece is of value)
+scan_held memory job op is no_create no_apply task (Some outcome) of value =
+    scan_held_by op memory task outcome.piece no_create no_apply (value_by memory job op task outcome.piece is of value)
 
-scan_value : (memory : Memory) (job : Job) (op : Op) (from : ℕ) (task : Task) (piece : ScanPiece) → IsTaskFrom job from task → IsScanned op memory task piece → IsScanFrom op memory job from piece
-scan_value memory job op from task piece is value = record {
+scan_value : (memory : Memory) (job : Job) (op : Op) (chunk from : ℕ) (task : Task) (piece : ScanPiece) → IsTaskFrom job chunk from task → IsScanned op memory task piece → IsScanFrom op memory job from piece
+scan_value memory job op chunk from task piece is value = record {
   begins = value.chunk.0 ∙ is.begins;
   order = omega (arith, is.order, value.chunk.1);
   found =
@@ -122,26 +123,26 @@ scan_units Compare job no_create no_apply = refl
 scan_units ComparePattern job no_create no_apply = refl
 scan_units Dualcast job no_create no_apply = refl
 
-pub scans_in : (memory : Memory) (job : Job) (op : Op) (slots : List (Option Piece)) → op_of job ≡ Some op → op ≢ CreateDelta → op ≢ ApplyDelta → HoldJob memory job slots → AreScans op memory job (filter_map scan_in slots)
+pub scans_in : (memory : Memory) (job : Job) (op : Op) (slots : List (Option Outcome)) → op_of job ≡ Some op → op ≢ CreateDelta → op ≢ ApplyDelta → HoldJob memory job slots → AreScans op memory job (filter_map scan_in slots)
 scans_in memory job op slots is no_create no_apply hold =
     subst (λ (last : ℕ). AreChunksFrom (IsScanFrom op memory job) (λ piece. piece.to) (λ piece. piece.staged) last 0 (filter_map scan_in slots))
     (ap (λ (o : Op). units o job) (operation_at job op is) ∙ scan_units op job no_create no_apply)
-    (chunks_in memory job scan_in (IsScanned op memory) (IsScanFrom op memory job) (λ piece. piece.to) (λ piece. piece.staged) (scan_held memory job op is no_create no_apply)
-    (scan_value memory job op) (λ task piece value. value.chunk.1) (λ task piece value. value.place) (units (operation_of job) job) 0 hold.0 slots hold.1 hold.2)
+    (chunks_in memory job hold.0 scan_in (IsScanned op memory) (IsScanFrom op memory job) (λ piece. piece.to) (λ piece. piece.staged) (scan_held memory job op is no_create no_apply)
+    (scan_value memory job op hold.0) (λ task piece value. value.chunk.1) (λ task piece value. value.place) (units (operation_of job) job) 0 hold.1 slots hold.2 hold.3)
 
 -- Creates
-create_held_by : (memory : Memory) (task : Task) (piece : Piece) → IsOperationValue CreateDelta memory task piece → (create : CreatePiece) × (create_in (Some piece) ≡ Some create) × IsCreated memory task create
+create_held_by : (memory : Memory) (task : Task) (piece : Piece) → IsOperationValue CreateDelta memory task piece → (create : CreatePiece) × (create_of piece ≡ Some create) × IsCreated memory task create
 create_held_by memory task (Scan piece) value = absurd value
 create_held_by memory task (Create piece) value = (piece, refl, value)
 create_held_by memory task (Apply piece) value = absurd value
 
-create_held : (memory : Memory) (job : Job) → op_of job ≡ Some CreateDelta → (task : Task) (slot : Option Piece) → task.job ≡ job → IsValueIn memory task slot → (create : CreatePiece) × (create_in slot ≡ Some create) × IsCreated memory task create
+create_held : (memory : Memory) (job : Job) → op_of job ≡ Some CreateDelta → (task : Task) (slot : Option Outcome) → task.job ≡ job → IsValueIn memory task slot → (create : CreatePiece) × (create_in slot ≡ Some create) × IsCreated memory task create
 create_held memory job is task None of value = absurd value
-create_held memory job is task (Some piece) of value =
-    create_held_by memory task piece (value_by memory job CreateDelta task piece is of value)
+create_held memory job is task (Some outcome) of value =
+    create_held_by memory task outcome.piece (value_by memory job CreateDelta task outcome.piece is of value)
 
-create_value : (memory : Memory) (job : Job) (from : ℕ) (task : Task) (piece : CreatePiece) → IsTaskFrom job from task → IsCreated memory task piece → IsCreateFrom memory job from piece
-create_value memory job from task piece is value = record {
+create_value : (memory : Memory) (job : Job) (chunk from : ℕ) (task : Task) (piece : CreatePiece) → IsTaskFrom job chunk from task → IsCreated memory task piece → IsCreateFrom memory job from piece
+create_value memory job chunk from task piece is value = record {
   begins = value.chunk.0 ∙ is.begins;
   order = omega (arith, is.order, value.chunk.1);
   fault = value.fault ∙ told (create_fault memory);
@@ -151,27 +152,27 @@ create_value memory job from task piece is value = record {
     told : {R : Type 0} (f : Job → ℕ → ℕ → R) → f task.job task.from task.to ≡ f job from piece.to
     told f = ap (λ (j : Job). f j task.from task.to) is.of ∙ ap₂ (f job) is.begins (sym value.chunk.1)
 
-pub creates_in : (memory : Memory) (job : Job) (slots : List (Option Piece)) → op_of job ≡ Some CreateDelta → HoldJob memory job slots
+pub creates_in : (memory : Memory) (job : Job) (slots : List (Option Outcome)) → op_of job ≡ Some CreateDelta → HoldJob memory job slots
     → AreChunksFrom (IsCreateFrom memory job) (λ piece. piece.to) (λ piece. piece.staged) (job.size / 8) 0 (filter_map create_in slots)
 creates_in memory job slots is hold =
     subst (λ (op : Op). AreChunksFrom (IsCreateFrom memory job) (λ piece. piece.to) (λ piece. piece.staged) (units op job) 0 (filter_map create_in slots))
     (operation_at job CreateDelta is)
-    (chunks_in memory job create_in (IsCreated memory) (IsCreateFrom memory job) (λ piece. piece.to) (λ piece. piece.staged) (create_held memory job is) (create_value memory job)
-    (λ task piece value. value.chunk.1) (λ task piece value. value.place) (units (operation_of job) job) 0 hold.0 slots hold.1 hold.2)
+    (chunks_in memory job hold.0 create_in (IsCreated memory) (IsCreateFrom memory job) (λ piece. piece.to) (λ piece. piece.staged) (create_held memory job is) (create_value memory job hold.0)
+    (λ task piece value. value.chunk.1) (λ task piece value. value.place) (units (operation_of job) job) 0 hold.1 slots hold.2 hold.3)
 
 -- Applies
-apply_held_by : (memory : Memory) (task : Task) (piece : Piece) → IsOperationValue ApplyDelta memory task piece → (apply : ApplyPiece) × (apply_in (Some piece) ≡ Some apply) × IsApplied memory task apply
+apply_held_by : (memory : Memory) (task : Task) (piece : Piece) → IsOperationValue ApplyDelta memory task piece → (apply : ApplyPiece) × (apply_of piece ≡ Some apply) × IsApplied memory task apply
 apply_held_by memory task (Scan piece) value = absurd value
 apply_held_by memory task (Create piece) value = absurd value
 apply_held_by memory task (Apply piece) value = (piece, refl, value)
 
-apply_held : (memory : Memory) (job : Job) → op_of job ≡ Some ApplyDelta → (task : Task) (slot : Option Piece) → task.job ≡ job → IsValueIn memory task slot → (apply : ApplyPiece) × (apply_in slot ≡ Some apply) × IsApplied memory task apply
+apply_held : (memory : Memory) (job : Job) → op_of job ≡ Some ApplyDelta → (task : Task) (slot : Option Outcome) → task.job ≡ job → IsValueIn memory task slot → (apply : ApplyPiece) × (apply_in slot ≡ Some apply) × IsApplied memory task apply
 apply_held memory job is task None of value = absurd value
-apply_held memory job is task (Some piece) of value =
-    apply_held_by memory task piece (value_by memory job ApplyDelta task piece is of value)
+apply_held memory job is task (Some outcome) of value =
+    apply_held_by memory task outcome.piece (value_by memory job ApplyDelta task outcome.piece is of value)
 
-apply_value : (memory : Memory) (job : Job) (from : ℕ) (task : Task) (piece : ApplyPiece) → IsTaskFrom job from task → IsApplied memory task piece → IsApplyFrom memory job from piece
-apply_value memory job from task piece is value = record {
+apply_value : (memory : Memory) (job : Job) (chunk from : ℕ) (task : Task) (piece : ApplyPiece) → IsTaskFrom job chunk from task → IsApplied memory task piece → IsApplyFrom memory job from piece
+apply_value memory job chunk from task piece is value = record {
   begins = value.chunk.0 ∙ is.begins;
   order = omega (arith, is.order, value.chunk.1);
   bad = value.bad ∙ told (apply_bad memory);
@@ -183,13 +184,13 @@ apply_value memory job from task piece is value = record {
     told : {R : Type 0} (f : Job → ℕ → ℕ → R) → f task.job task.from task.to ≡ f job from piece.to
     told f = ap (λ (j : Job). f j task.from task.to) is.of ∙ ap₂ (f job) is.begins (sym value.chunk.1)
 
-pub applies_in : (memory : Memory) (job : Job) (slots : List (Option Piece)) → op_of job ≡ Some ApplyDelta → HoldJob memory job slots
+pub applies_in : (memory : Memory) (job : Job) (slots : List (Option Outcome)) → op_of job ≡ Some ApplyDelta → HoldJob memory job slots
     → AreChunksFrom (IsApplyFrom memory job) (λ piece. piece.to) (λ piece. piece.staged) (job.delta_size / 10) 0 (filter_map apply_in slots)
 applies_in memory job slots is hold =
     subst (λ (op : Op). AreChunksFrom (IsApplyFrom memory job) (λ piece. piece.to) (λ piece. piece.staged) (units op job) 0 (filter_map apply_in slots))
     (operation_at job ApplyDelta is)
-    (chunks_in memory job apply_in (IsApplied memory) (IsApplyFrom memory job) (λ piece. piece.to) (λ piece. piece.staged) (apply_held memory job is) (apply_value memory job)
-    (λ task piece value. value.chunk.1) (λ task piece value. value.place) (units (operation_of job) job) 0 hold.0 slots hold.1 hold.2)
+    (chunks_in memory job hold.0 apply_in (IsApplied memory) (IsApplyFrom memory job) (λ piece. piece.to) (λ piece. piece.staged) (apply_held memory job is) (apply_value memory job hold.0)
+    (λ task piece value. value.chunk.1) (λ task piece value. value.place) (units (operation_of job) job) 0 hold.1 slots hold.2 hold.3)
 
 -- slots that are gone over one after another, each piece of a kind taken out
 pub slots_yield : {S A C F : Type 0} (steps : S → Option (MutBor A) → S → Type 0) (rest : S → List A) → ((s t : S) → steps s None t → length (rest s) ≡ 0) → ((s : S) (x : MutBor A) (t : S) → steps s (Some x) t → rest s ≡ x.now ∷ rest t)

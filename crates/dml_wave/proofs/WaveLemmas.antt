@@ -10,7 +10,7 @@ use Rattle.dml_types.specs.Memory.{Memory}
 use Rattle.dml_desc.specs.Checked.{operation_of}
 use Rattle.dml_levels.specs.Tasks.{task_count}
 use Rattle.dml_levels.specs.Waves.{job_at}
-use Rattle.dml_pool.specs.declared.tasks.Piece.{Piece}
+use Rattle.dml_pool.specs.declared.tasks.Outcome.{Outcome}
 use Rattle.dml_wave.specs.declared.effects.JobEffect.{JobEffect}
 use Rattle.dml_wave.specs.Effects.{HoldWave, IsEffectAt}
 use Rattle.dml_wave.specs.Waves.{busy, is_busy}
@@ -39,15 +39,15 @@ module _ (memory : Memory) (jobs : List Job) (chunk : ℕ) (wave : List ℕ) (in
   count = task_count (job_at jobs place) chunk
 
   -- the slots of the next job, and those behind
-  next_held : (slots : List (Option Piece)) → HoldWave memory jobs chunk (drop index wave) slots → HoldWave memory jobs chunk (place ∷ drop (index + 1) wave) slots
+  next_held : (slots : List (Option Outcome)) → HoldWave memory jobs chunk (drop index wave) slots → HoldWave memory jobs chunk (place ∷ drop (index + 1) wave) slots
   next_held slots hold =
       subst (λ (places : List ℕ). HoldWave memory jobs chunk places slots) (drop_more wave index 0 below) hold
 
-  pub held_within : (slots : List (Option Piece)) (from to : ℕ) → HoldWave memory jobs chunk (drop index wave) (drop from slots) → from ≤ length slots → to ≡ from + count → to ≤ length slots
+  pub held_within : (slots : List (Option Outcome)) (from to : ℕ) → HoldWave memory jobs chunk (drop index wave) (drop from slots) → from ≤ length slots → to ≡ from + count → to ≤ length slots
   held_within slots from to hold within is =
       omega (arith, (next_held (drop from slots) hold).0, length-drop from slots, within, is)
 
-  pub held_behind : (slots new : List (Option Piece)) (from to : ℕ) → HoldWave memory jobs chunk (drop index wave) (drop from slots) → to ≡ from + count → drop to new ≡ drop to slots
+  pub held_behind : (slots new : List (Option Outcome)) (from to : ℕ) → HoldWave memory jobs chunk (drop index wave) (drop from slots) → to ≡ from + count → drop to new ≡ drop to slots
       → HoldWave memory jobs chunk (drop (index + 1) wave) (drop to new)
   held_behind slots new from to hold is same =
       subst (HoldWave memory jobs chunk (drop (index + 1) wave)) (drop-drop count from slots ∙ (ap (λ n. drop n slots) (sym is) ∙ sym same))

@@ -9,6 +9,7 @@ use Rattle.dml_effect.specs.Effects.{are_present, some_puts}
 use Rattle.dml_levels.specs.Laws.{Progress}
 use Rattle.dml_levels.specs.Tasks.{task_count}
 use Rattle.dml_levels.specs.Waves.{job_at}
+use Rattle.dml_pool.specs.declared.tasks.Outcome.{Outcome}
 use Rattle.dml_pool.specs.declared.tasks.Piece.{Piece}
 use Rattle.dml_pool.specs.declared.tasks.Piece.TheVariants.{Scan, Create, Apply}
 use Rattle.dml_pool.specs.declared.tasks.Task.{Task}
@@ -20,34 +21,48 @@ use Rattle.dml_wave.specs.declared.effects.JobEffect.{JobEffect}
 use Rattle.dml_wave.specs.Tasks.{AreJobTasks}
 
 -- the slot holds the value of the task
-abbrev pub IsValueIn : Memory → Task → Option Piece → Type 0
+abbrev pub IsValueIn : Memory → Task → Option Outcome → Type 0
 IsValueIn memory task None = ⊥
-IsValueIn memory task (Some piece) = IsTaskValue memory task piece
+IsValueIn memory task (Some outcome) = IsTaskValue memory task outcome.piece
 
--- the slots hold the values of a job's tasks, in order
-abbrev pub HoldJob : Memory → Job → List (Option Piece) → Type 0
-HoldJob memory job slots = (tasks : List Task) × AreJobTasks job tasks × AllZip (IsValueIn memory) tasks slots
+-- the slots hold the values of a job's tasks, in order, whatever its chunks are
+abbrev pub HoldJob : Memory → Job → List (Option Outcome) → Type 0
+HoldJob memory job slots =
+    (chunk : ℕ) × (tasks : List Task) × AreJobTasks job chunk tasks × AllZip (IsValueIn memory) tasks slots
 
 -- those of the jobs at these places, one after another
-abbrev pub HoldWave : Memory → List Job → ℕ → List ℕ → List (Option Piece) → Type 0
+abbrev pub HoldWave : Memory → List Job → ℕ → List ℕ → List (Option Outcome) → Type 0
 HoldWave memory jobs chunk [] slots = slots ≡ []
 HoldWave memory jobs chunk (i ∷ places) slots =
     (task_count (job_at jobs i) chunk ≤ length slots)
     × HoldJob memory (job_at jobs i) (take (task_count (job_at jobs i) chunk) slots)
     × HoldWave memory jobs chunk places (drop (task_count (job_at jobs i) chunk) slots)
 
--- the piece in a slot, by its kind
-abbrev pub scan_in : Option Piece → Option ScanPiece
-scan_in (Some (Scan piece)) = Some piece
-scan_in _ = None
+-- a piece, by its kind
+abbrev pub scan_of : Piece → Option ScanPiece
+scan_of (Scan piece) = Some piece
+scan_of _ = None
 
-abbrev pub create_in : Option Piece → Option CreatePiece
-create_in (Some (Create piece)) = Some piece
-create_in _ = None
+abbrev pub create_of : Piece → Option CreatePiece
+create_of (Create piece) = Some piece
+create_of _ = None
 
-abbrev pub apply_in : Option Piece → Option ApplyPiece
-apply_in (Some (Apply piece)) = Some piece
-apply_in _ = None
+abbrev pub apply_of : Piece → Option ApplyPiece
+apply_of (Apply piece) = Some piece
+apply_of _ = None
+
+-- that of the outcome in a slot
+abbrev pub scan_in : Option Outcome → Option ScanPiece
+scan_in None = None
+scan_in (Some outcome) = scan_of outcome.piece
+
+abbrev pub create_in : Option Outcome → Option CreatePiece
+create_in None = None
+create_in (Some outcome) = create_of outcome.piece
+
+abbrev pub apply_in : Option Outcome → Option ApplyPiece
+apply_in None = None
+apply_in (Some outcome) = apply_of outcome.piece
 
 -- what a job does on an image; its puts lie in pages that are present
 pub record IsEffectOf (memory : Memory) (job : Job) (done : Effect) : Type 0 where

@@ -1,21 +1,18 @@
 //! A wave of jobs, from its tasks to its records.
-ghost use Rattle.std.specs.Prelude.{◌≡◌, ◌<◌, ◌≤◌, length, map, OnOk, OnErr};
+ghost use Rattle.std.specs.Prelude.{◌≡◌, ◌<◌, ◌≤◌, length, OnOk, OnErr};
 ghost use Rattle.std.specs.List.{All};
-ghost use Rattle.dml_types.specs.Job.{unfenced};
 ghost use Rattle.dml_types.specs.Limits.{IsValid};
-ghost use Rattle.dml_levels.specs.Laws.{begun, carried};
 ghost use Rattle.dml_levels.specs.Waves.{IsSmall};
-ghost use Rattle.dml_order.specs.Order.{run_all};
-ghost use Rattle.dml_wave.specs.Waves.{AreApart, busy};
+ghost use Rattle.dml_wave.specs.Waves.{AreApart, HasRun};
 
 use crate::WaveError;
 use crate::committing::commit_all;
 use crate::cutting::cut_tasks;
-use crate::effects::{effects_of, piece_slots};
+use crate::effects::effects_of;
 use dml_arena::Arena;
 use dml_desc::Checked;
 use dml_image::Image;
-use dml_pool::{Gate, PoolError, run_wave};
+use dml_pool::{Gate, PoolError, run_wave_into_slots};
 use dml_types::{Record, Settings};
 use std::alloc::{AllocError, Global};
 use std::sync::Wait;
@@ -58,15 +55,14 @@ pub fn carry_out_wave<R: Threads + Wait + Sync, G: Gate + Sync>(
     requires places { All (λ i. i < length jobs.now) wave.now }
     requires apart { AreApart jobs.now wave.now }
     requires small { IsSmall jobs.now settings.now.staging settings.now.chunk wave.now }
-    ensures done { OnOk result (begun image.new records.new ≡ run_all (carried (map unfenced jobs.now) settings.now.staging) (begun image.old records.old) (busy jobs.now wave.now)) }
+    ensures done { OnOk result (HasRun settings.now jobs.now wave.now image.old records.old image.new records.new) }
     ensures refused { OnErr result ((image.new ≡ image.old) × (records.new ≡ records.old)) }
     ensures arena { arena.new ≡ arena.old }
 {
-    let _pages = image.pages();
+    let _pages = image.pages(); // its contract says that the image is whole
     let room = arena.open();
     let tasks = cut_tasks(alloc, jobs, wave, settings.chunk, room)?;
-    let outcomes = run_wave(rt, alloc, image, tasks, settings.workers, gate)?;
-    let mut slots = piece_slots(alloc, outcomes)?;
+    let mut slots = run_wave_into_slots(rt, alloc, image, tasks, settings.workers, gate)?;
     let effects = effects_of(alloc, image, jobs, wave, settings.chunk, &mut slots)?;
     commit_all(image, effects, records);
     Ok(())

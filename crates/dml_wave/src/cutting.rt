@@ -60,7 +60,7 @@ fn count_tasks(jobs: &[Checked], wave: &[u32], chunk: u32) -> usize
     count
 }
 
-/// Puts the tasks of a job behind those of the list, each with its region of the room, and answers the rest of the room.
+/// Puts the tasks of a job behind those of the list, each with its region of the room, and answers what is left of it.
 fn cut_job<'a>(job: &Checked, chunk: u32, room: Region<'a>, tasks: &mut Vec<Task<'a>>) -> Region<'a>
     requires chunk { IsChunk chunk }
     requires empty { room.bytes ≡ [] }

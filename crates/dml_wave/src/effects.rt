@@ -1,5 +1,5 @@
 //! The effects of a wave's jobs.
-ghost use Rattle.std.specs.Prelude.{◌≡◌, ◌<◌, length, map, IfOk, Some};
+ghost use Rattle.std.specs.Prelude.{◌≡◌, ◌<◌, length, IfOk};
 ghost use Rattle.std.specs.List.{All, AllZip};
 ghost use Rattle.dml_levels.specs.Tasks.{IsChunk};
 ghost use Rattle.dml_wave.specs.Effects.{HoldJob, HoldWave, IsEffectAt, IsEffectOf};
@@ -23,27 +23,9 @@ pub(crate) struct JobEffect<'a> {
     pub(crate) effect: Effect<'a>,
 }
 
-/// A slot for the piece of each outcome, in their order.
-///
-/// # Errors
-///
-/// Where the allocator has no memory left for the list.
-pub(crate) fn piece_slots<'a>(
-    alloc: Global,
-    outcomes: Vec<Outcome<'a>>,
-) -> Result<Vec<Option<Piece<'a>>>, AllocError>
-    ensures { IfOk result (λ slots. slots.items ≡ map (λ outcome. Some outcome.piece) outcomes.entry.items) }
-{
-    let mut slots = Vec::with_capacity(alloc, outcomes.len())?;
-    for outcome in outcomes {
-        slots.push_reserved(Some(outcome.piece));
-    }
-    Ok(slots)
-}
-
 /// The effects of the jobs at a wave's places on the image as it stands, in the wave's order. A no-op has none.
 ///
-/// The slots hold the pieces of the jobs' tasks, job after job.
+/// The slots hold the outcomes of the jobs' tasks, job after job.
 ///
 /// # Errors
 ///
@@ -54,7 +36,7 @@ pub(crate) fn effects_of<'a>(
     jobs: &[Checked],
     wave: &[u32],
     chunk: u32,
-    slots: &mut [Option<Piece<'a>>],
+    slots: &mut [Option<Outcome<'a>>],
 ) -> Result<Vec<JobEffect<'a>>, AllocError>
     requires places { All (λ i. i < length jobs.now) wave.now }
     requires chunk { IsChunk chunk }
@@ -81,8 +63,8 @@ pub(crate) fn effects_of<'a>(
     Ok(effects)
 }
 
-/// The effect of a job, whose tasks' pieces are taken out of their slots.
-fn effect_of<'a>(image: &Image, job: &Checked, slots: &mut [Option<Piece<'a>>]) -> Effect<'a>
+/// The effect of a job, whose tasks' outcomes are taken out of their slots.
+fn effect_of<'a>(image: &Image, job: &Checked, slots: &mut [Option<Outcome<'a>>]) -> Effect<'a>
     requires slots { HoldJob image.now job.now slots.old }
     ensures { IsEffectOf image.now job.now result }
 {
@@ -94,31 +76,31 @@ fn effect_of<'a>(image: &Image, job: &Checked, slots: &mut [Option<Piece<'a>>]) 
 }
 
 /// The scan that a slot holds.
-fn take_scan<'a>(slot: &mut Option<Piece<'a>>) -> Option<ScanPiece<'a>>
+fn take_scan<'a>(slot: &mut Option<Outcome<'a>>) -> Option<ScanPiece<'a>>
     ensures { result ≡ word.scan_in slot.old }
 {
-    match slot.take() {
-        Some(Piece::Scan(piece)) => Some(piece),
+    match slot.take()?.piece {
+        Piece::Scan(piece) => Some(piece),
         _ => None,
     }
 }
 
 /// The piece of a create that a slot holds.
-fn take_create<'a>(slot: &mut Option<Piece<'a>>) -> Option<CreatePiece<'a>>
+fn take_create<'a>(slot: &mut Option<Outcome<'a>>) -> Option<CreatePiece<'a>>
     ensures { result ≡ word.create_in slot.old }
 {
-    match slot.take() {
-        Some(Piece::Create(piece)) => Some(piece),
+    match slot.take()?.piece {
+        Piece::Create(piece) => Some(piece),
         _ => None,
     }
 }
 
 /// The piece of an apply that a slot holds.
-fn take_apply<'a>(slot: &mut Option<Piece<'a>>) -> Option<ApplyPiece<'a>>
+fn take_apply<'a>(slot: &mut Option<Outcome<'a>>) -> Option<ApplyPiece<'a>>
     ensures { result ≡ word.apply_in slot.old }
 {
-    match slot.take() {
-        Some(Piece::Apply(piece)) => Some(piece),
+    match slot.take()?.piece {
+        Piece::Apply(piece) => Some(piece),
         _ => None,
     }
 }

@@ -13,7 +13,7 @@ ghost use Rattle.dmljob.specs.declared.refusals.Refusal.TheVariants as refusal;
 use crate::descriptions::description;
 use crate::refusals::Refusal;
 use dml_command::Request;
-use dml_script::{RunFault, Watched, run_script, write_answer};
+use dml_script::{Watched, run_script, write_answer};
 use dml_types::Settings;
 use std::alloc::Global;
 use std::io::{Read, Write};
@@ -49,14 +49,8 @@ pub fn carried_out<T: Threads + Wait + Sync, R: Read, W: Write>(
         × IfSome (R.remaining (inner_of reader.old)) IsScript }
     ensures refused { IfErr result IsOfRun }
 {
-    match run_script(rt, alloc, reader, writer, settings) {
-        Ok(()) => Ok(()),
-        Err(RunFault::Read) => Err(Refusal::Read),
-        Err(RunFault::TooLong) => Err(Refusal::TooLong),
-        Err(RunFault::Script(fault)) => Err(Refusal::Script(fault)),
-        Err(RunFault::NoMemory) => Err(Refusal::NoMemory),
-        Err(RunFault::Write) => Err(Refusal::Write),
-    }
+    run_script(rt, alloc, reader, writer, settings)?;
+    Ok(())
 }
 
 /// Writes the two lines on a descriptor of 64 bytes, and flushes the writer. Without memory nothing is written.
@@ -70,7 +64,8 @@ pub fn described<W: Write>(
     ensures flushed { OnOk result (is_flushed writer.new ≡ true) }
     ensures writer { result ≢ Err refusal.Write → has_failed writer.new ≡ false }
     ensures memory { IsErrOf result refusal.NoMemory → writer.new ≡ writer.old }
-    ensures front { IsErrOf result refusal.Write → WritesFront W.contents writer.old writer.new (description_of bytes.now) }
+    ensures front { IsErrOf result refusal.Write →
+        WritesFront W.contents writer.old writer.new (description_of bytes.now) }
     ensures write { IsErrOf result refusal.Write → has_failed writer.new ≡ true }
     ensures refused { IfErr result IsOfDescription }
 {

@@ -1,10 +1,10 @@
 //! How the program ends without an answer.
 ghost use Rattle.std.specs.Prelude.{◌≡◌};
-ghost use Rattle.dmljob.specs.Refusal.{ending_text, exit_code};
+ghost use Rattle.dmljob.specs.Refusal.{ending_text, exit_code, refusal_of_run};
 ghost use Rattle.dmljob.specs.declared.refusals.Refusal.TheVariants.{NoMemory};
 
 use dml_command::LineRefusal;
-use dml_script::{ScriptFault, TextError, fault_text};
+use dml_script::{RunFault, ScriptFault, TextError, fault_text};
 use std::alloc::AllocError;
 use std::fmt;
 
@@ -71,5 +71,19 @@ impl From<TextError> for Refusal {
 
     fn from(_error: TextError) -> Refusal {
         Refusal::NoMemory
+    }
+}
+
+impl From<RunFault> for Refusal {
+    ghost from_gives = { λ fault refusal. refusal ≡ refusal_of_run fault };
+
+    fn from(fault: RunFault) -> Refusal {
+        match fault {
+            RunFault::Read => Refusal::Read,
+            RunFault::TooLong => Refusal::TooLong,
+            RunFault::Script(fault) => Refusal::Script(fault),
+            RunFault::NoMemory => Refusal::NoMemory,
+            RunFault::Write => Refusal::Write,
+        }
     }
 }

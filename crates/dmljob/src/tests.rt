@@ -2,6 +2,7 @@ use crate::descriptions::description;
 use crate::refusals::{Refusal, status_of};
 use dml_command::LineRefusal;
 use dml_script::{Kind, ScriptFault};
+use std::alloc::Global;
 use std::process::Abort;
 use std::test::Fail;
 
@@ -9,9 +10,22 @@ fn fault(line: u32, kind: Kind) -> Refusal {
     Refusal::Script(ScriptFault { line, kind })
 }
 
+/// Compares how the program ends for each refusal of a table: its exit status and its text.
+fn expect_endings(
+    rt: &impl Abort,
+    alloc: Global,
+    rows: &[(Refusal, u8, &str)],
+) -> Result<(), Fail> {
+    for (refusal, status, text) in rows {
+        assert_eq!(rt; status_of(refusal), *status);
+        assert_eq!(rt; refusal.to_string(alloc)?.as_str(), *text);
+    }
+    Ok(())
+}
+
 #[test]
-fn has_statuses(rt: HostRuntime) -> Result<(), Fail> {
-    for (refusal, status, text) in [
+fn statuses_of_words(rt: HostRuntime) -> Result<(), Fail> {
+    let table = [
         (
             Refusal::Line(LineRefusal::NotText),
             3,
@@ -32,6 +46,13 @@ fn has_statuses(rt: HostRuntime) -> Result<(), Fail> {
             4,
             "dmljob: out of memory\n",
         ),
+    ];
+    expect_endings(&rt, rt.alloc(), &table)
+}
+
+#[test]
+fn statuses_of_runs(rt: HostRuntime) -> Result<(), Fail> {
+    let table = [
         (
             fault(3, Kind::WrongWords),
             2,
@@ -46,11 +67,8 @@ fn has_statuses(rt: HostRuntime) -> Result<(), Fail> {
         (Refusal::NoMemory, 4, "dmljob: out of memory\n"),
         (Refusal::Read, 4, "dmljob: cannot read the script\n"),
         (Refusal::Write, 4, "dmljob: cannot write the answer\n"),
-    ] {
-        assert_eq!(rt; status_of(&refusal), status);
-        assert_eq!(rt; refusal.to_string(rt.alloc())?.as_str(), text);
-    }
-    Ok(())
+    ];
+    expect_endings(&rt, rt.alloc(), &table)
 }
 
 const MOVE: &str =

@@ -194,6 +194,32 @@ fn fence_of_a_bad_job_after_a_fault(rt: HostRuntime) -> Result<(), Fail> {
     expect(&rt, rt.alloc(), &row)
 }
 
+/// The last job before the fence stands in a later wave than the one that faults, and succeeds.
+#[test]
+fn fault_in_an_earlier_wave(rt: HostRuntime) -> Result<(), Fail> {
+    let mut left = [0; 72];
+    (left[0], left[64]) = (1, 1);
+    let row = Row {
+        name: "fault_in_an_earlier_wave",
+        jobs: &[
+            Job::fill(1, 4096, 8),
+            Job::fill(1, 0, 8),
+            Job::move_bytes(0, 64, 8),
+            Job::fill(2, 8, 8).with_flags(1),
+        ],
+        records: &[
+            answer(Status::WriteFault, 0, 0, 4096),
+            answer(Status::Success, 0, 8, 0),
+            answer(Status::Success, 0, 8, 0),
+            abandoned(),
+        ],
+        status: Status::BatchFailed,
+        completed: 3,
+        left: &left,
+    };
+    expect(&rt, rt.alloc(), &row)
+}
+
 /// A fault two fences ago would have ended the batch there; one behind the last fence ends nothing.
 #[test]
 fn fences_one_after_another(rt: HostRuntime) -> Result<(), Fail> {

@@ -197,7 +197,7 @@ fn some_bytes() -> [u8; 12_288] {
 }
 
 /// Source, target and length of moves inside three pages.
-const MOVES: [(u64, u64, u32); 18] = [
+const MOVES: [(u64, u64, u32); 30] = [
     (0, 0, 100),
     (10, 20, 8),
     (20, 10, 8),
@@ -216,6 +216,19 @@ const MOVES: [(u64, u64, u32); 18] = [
     (260, 3, 5000),
     (4096, 8192, 4096),
     (5, 5000, 0),
+    // unaligned, over page edges
+    (4095, 1, 2),
+    (4095, 8191, 2),
+    (8191, 4095, 2),
+    (4093, 8190, 7),
+    (1, 4095, 8193),
+    (4095, 1, 8193),
+    (4091, 4099, 8189),
+    (4099, 4091, 8189),
+    (7, 4101, 4096),
+    (4101, 7, 4096),
+    (1, 4098, 8190),
+    (4098, 1, 8190),
 ];
 
 /// The bytes of three pages after a move inside them, by hand.

@@ -233,7 +233,7 @@ const BATCHES: [Row; 2] = [
 ];
 
 /// Rows of fences in batches.
-const FENCES: [Row; 6] = [
+const FENCES: [Row; 7] = [
     (
         "fence_in_batch",
         WIDE,
@@ -258,6 +258,16 @@ const FENCES: [Row; 6] = [
          job 2 status 00 result 0 completed 0 fault 0 delta 0\n\
          job 3 status 00 result 0 completed 0 fault 0 delta 0\n\
          batch status 05 completed 2\nshow 0 010000000000000000000000000000000000000000000000\n",
+    ),
+    (
+        "the job that faults stands in an earlier wave than the last before the fence",
+        WIDE,
+        "image 1\npage 0\nbatch\nfill 1 4096 8\nfill 1 0 8\nmove 0 64 8\nfill 2 8 8 flags 1\nend\nshow 0 16\nshow 64 8",
+        "job 0 status 83 result 0 completed 0 fault 4096 delta 0\n\
+         job 1 status 01 result 0 completed 8 fault 0 delta 0\n\
+         job 2 status 01 result 0 completed 8 fault 0 delta 0\n\
+         job 3 status 00 result 0 completed 0 fault 0 delta 0\n\
+         batch status 05 completed 3\nshow 0 01000000000000000000000000000000\nshow 64 0100000000000000\n",
     ),
     (
         "fence_after_false_predicate",

@@ -128,3 +128,38 @@ fn compares_on_workers(rt: HostRuntime) -> Result<(), Fail> {
     );
     Ok(())
 }
+
+/// Four compares of a mebibyte before a fence and four behind it: each piece of the batch is worth workers. The fence
+/// is the fill's, which the compares behind it see.
+#[test]
+fn compares_about_a_fence(rt: HostRuntime) -> Result<(), Fail> {
+    let mut script = String::new(rt.alloc());
+    let mut answer = String::new(rt.alloc());
+    script.push_str("image 512\n")?;
+    for page in 0..512 {
+        write!(script, "page {page}\n")?;
+    }
+    script.push_str("batch\n")?;
+    push_lines(&mut script, "compare 0 1048576 1048576\n", 4)?;
+    script.push_str("fill 1 0 8 flags 1\n")?;
+    push_lines(&mut script, "compare 0 1048576 1048576\n", 4)?;
+    script.push_str("end\n")?;
+    push_done(&mut answer, 0, 4, 1_048_576)?;
+    push_done(&mut answer, 4, 1, 8)?;
+    for number in 5..9 {
+        write!(
+            answer,
+            "job {number} status 01 result 1 completed 0 fault 0 delta 0\n"
+        )?;
+    }
+    answer.push_str("batch status 01 completed 9\n")?;
+    answers(
+        &rt,
+        rt.alloc(),
+        "compares about a fence",
+        WIDE,
+        script.as_bytes(),
+        answer.as_bytes(),
+    );
+    Ok(())
+}

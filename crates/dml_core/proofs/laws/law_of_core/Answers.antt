@@ -1,3 +1,4 @@
+use Rattle.dml_core.proofs.JoinFacts.{kept_meet_joins}
 use Rattle.dml_core.proofs.KeepsLemmas.{core_keeps, each_has_its_values, kept_join_to_step, only_commit_writes, sent_is_submitted}
 use Rattle.dml_core.proofs.laws.law_of_core.Goals as goal
 
@@ -15,3 +16,6 @@ returns-clause-values c = each_has_its_values
 
 pub returns-clause-joined : goal.returns-clause-joined
 returns-clause-joined c = kept_join_to_step
+
+pub returns-clause-meet_joins : goal.returns-clause-meet_joins
+returns-clause-meet_joins c = kept_meet_joins

@@ -80,7 +80,7 @@ returns-then-run-entries-clause-bytes c =
     onward memory job from done (c.present_bytes-readable.result / 10) k c.loop-good.least entries c.entries_at-entries.ensures.memory.whole
     (whole_present memory (job.source + 10 * from) (10 * n) c.present_bytes-readable.result count) c.loop-good.invariant.within c.loop-good.invariant.good c.loop-good.invariant.least read
     c.entries_at-entries.ensures.some c.entries_at-entries.ensures.within c.judge-run.ensures.good c.judge-run.ensures.within in
-    c.push.ensures.bytes
+    c.push_good.ensures.bytes
     ∙ (ap (λ (xs : List ℕ). xs ++ take (10 * k) entries) c.loop-good.invariant.bytes
     ∙ (append_assoc c.args.room.now.bytes (bytes_at memory (job.source + 10 * from) (10 * done)) (take (10 * k) entries)
     ∙ ap (λ (xs : List ℕ). c.args.room.now.bytes ++ xs) on.bytes))
@@ -106,10 +106,10 @@ loop-good-preserved c =
       within = omega (arith, c.loop-good.invariant.within, c.entries_at-entries.ensures.within, c.judge-run.ensures.within);
       good = on.good;
       least = c.judge-run.ensures.least ∙ on.next;
-      opening = c.push.ensures.place.opening ∙ c.loop-good.invariant.opening;
-      start = c.push.ensures.place.start ∙ c.loop-good.invariant.start;
-      room = c.push.ensures.place.room ∙ c.loop-good.invariant.room;
-      bytes = c.push.ensures.bytes
+      opening = c.push_good.ensures.place.opening ∙ c.loop-good.invariant.opening;
+      start = c.push_good.ensures.place.start ∙ c.loop-good.invariant.start;
+      room = c.push_good.ensures.place.room ∙ c.loop-good.invariant.room;
+      bytes = c.push_good.ensures.bytes
           ∙ (ap (λ (xs : List ℕ). xs ++ take (10 * k) entries) c.loop-good.invariant.bytes
           ∙ (append_assoc c.args.room.now.bytes (bytes_at memory (job.source + 10 * from) (10 * done)) (take (10 * k) entries)
           ∙ ap (λ (xs : List ℕ). c.args.room.now.bytes ++ xs) on.bytes));

@@ -1,5 +1,4 @@
 use Rattle.std.proofs.Common.{◌≡◌, ℕ, List, [], None, Some, Option, MatchOption, sym, ◌∙◌, ap, ap₂, subst, arith}
-use Rattle.dml_types.specs.declared.findings.Found.{Found}
 use Rattle.dml_types.specs.declared.jobs.Job.{Job}
 use Rattle.dml_types.specs.declared.operations.Op.{Op}
 use Rattle.dml_types.specs.declared.operations.Direction.{Direction}
@@ -14,7 +13,8 @@ use Rattle.dml_scan.proofs.ReachLemmas.{scan_done_within, found_none}
 use Rattle.dml_effect.specs.Chunks.{IsScanFrom, IsWholeScan, scan_size}
 use Rattle.dml_effect.specs.Effects.{are_present, some_puts}
 use Rattle.dml_effect.specs.Joined.{scanned_record, scanned_puts}
-use Rattle.dml_effect.proofs.WholeLemmas.{puts_none, record_of_step, puts_of_effect, scanned_count, effect_of_checked, image_of_puts, scan_size_within}
+use Rattle.dml_effect.proofs.ScannedLemmas.{answer_at, count_at}
+use Rattle.dml_effect.proofs.WholeLemmas.{puts_none, record_of_step, puts_of_effect, effect_of_checked, image_of_puts, scan_size_within}
 use Rattle.dml_effect.proofs.joining.effect_of.Goals as goal
 
 -- what is known of the piece, by the operation that the job tells
@@ -36,17 +36,7 @@ empty_at memory job op whole operation is at =
     ap (λ (o : Op). scan_size o job) (sym same)
     ∙ subst (λ (w : Option ScanPiece). MatchOption w (scan_size is.op job ≡ 0) (λ p. IsScanFrom is.op memory job 0 p × (p.to ≡ scan_size is.op job))) at is.value
 
--- the record and the puts that the code made
-answer_at : (memory : Memory) (job given : Job) (op : Op) (direction : Direction) (found : Found) (answer : Record) → given ≡ job → direction ≡ operation_direction op job → found ≡ scan_found op memory job 0 (scan_size op job)
-    → answer ≡ scanned_record op given direction found → answer ≡ scanned_record op job (operation_direction op job) (scan_found op memory job 0 (scan_size op job))
-answer_at memory job given op direction found answer same way is told =
-    told ∙ (ap₂ (λ (j : Job) (d : Direction). scanned_record op j d found) same way ∙ ap (scanned_record op job (operation_direction op job)) is)
-
-count_at : (memory : Memory) (job given : Job) (op : Op) (direction : Direction) (found : Found) (answer : Record) → given ≡ job → direction ≡ operation_direction op job → found ≡ scan_found op memory job 0 (scan_size op job)
-    → answer ≡ scanned_record op given direction found → answer.completed ≡ scan_done op memory job 0 (scan_size op job)
-count_at memory job given op direction found answer same way is told =
-    ap (λ (r : Record). r.completed) (answer_at memory job given op direction found answer same way is told) ∙ scanned_count op memory job (operation_direction op job)
-
+-- the puts that the code made
 puts_at : (memory : Memory) (job given : Job) (op : Op) (direction : Direction) (piece : ScanPiece) (answer : Record) (puts : List Put)
     → (piece.found ≡ scan_found op memory job 0 (scan_size op job)) × (piece.staged.bytes ≡ scan_staged op memory job 0 (scan_size op job))
     → given ≡ job → direction ≡ operation_direction op job → answer ≡ scanned_record op given direction piece.found → puts ≡ scanned_puts op given direction answer.completed piece.staged.bytes

@@ -1,4 +1,5 @@
 use Rattle.dml_levels.proofs.FenceLaws.{fences_only_add, fences_part, front_is_fold, waves_before_fence}
+use Rattle.dml_levels.proofs.PartLaws.{batches_hold_conflicts, fences_part_waves}
 use Rattle.dml_levels.proofs.laws.law_of_fences.Goals as goal
 
 pub returns-clause-only_add : goal.returns-clause-only_add
@@ -12,3 +13,9 @@ returns-clause-before c = waves_before_fence
 
 pub returns-clause-fold : goal.returns-clause-fold
 returns-clause-fold c = front_is_fold
+
+pub returns-clause-of_batches : goal.returns-clause-of_batches
+returns-clause-of_batches c = batches_hold_conflicts
+
+pub returns-clause-waves : goal.returns-clause-waves
+returns-clause-waves c = fences_part_waves

@@ -1,4 +1,4 @@
-use Rattle.std.proofs.Common.{◌≡◌}
+use Rattle.std.proofs.Common.{◌≡◌, vec_capacity}
 use Rattle.crossbeam_deque.specs.Handles.{view, IsPassOf, stealer_deque}
 use Rattle.dml_pool.specs.Rule.{Accounts}
 use Rattle.dml_pool.proofs.worker.work.Given as goal
@@ -10,4 +10,5 @@ invariant-loop g l =
       tasks : (view l.place).tasks ≡ (view l.fn.post.place).tasks;
       parts : (view l.place).parts ≡ (view l.fn.post.place).parts;
       so_far : Accounts l.image (view l.place) l.done.items;
+      room : vec_capacity l.done ≡ vec_capacity l.fn.post.done;
     }

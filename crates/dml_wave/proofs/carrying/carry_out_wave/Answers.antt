@@ -18,11 +18,11 @@ effects_of-requires-clause-slots g c =
     let chunk = c.args.settings.now.chunk in
     let wave = c.args.wave.now in
     let tasks = c.in_ok-tasks.tasks.items in
-    let outcomes = c.in_ok-outcomes.outcomes.items in
-    let pieces : c.deref_mut.result.now ≡ map (λ (o : Outcome). Some o.piece) outcomes =
-    c.deref_mut.ensures.value ∙ c.in_ok-slots.ensures in
-    subst (HoldWave memory jobs chunk wave) (sym pieces)
-    (wave_held memory jobs chunk wave tasks (map (λ (o : Outcome). Some o.piece) outcomes) c.in_ok-tasks.ensures.tasks (values_in memory tasks outcomes c.in_ok-outcomes.ensures.values))
+    let filled = c.in_ok-slots.ensures in
+    let slots : c.deref_mut.result.now ≡ map (λ (o : Outcome). Some o) filled.outcomes =
+    c.deref_mut.ensures.value ∙ filled.full in
+    subst (HoldWave memory jobs chunk wave) (sym slots)
+    (wave_held memory jobs chunk wave tasks (map (λ (o : Outcome). Some o) filled.outcomes) c.in_ok-tasks.ensures.tasks (values_in memory tasks filled.outcomes filled.values))
 
 pub commit_all-requires-clause-places : goal.commit_all-requires-clause-places
 commit_all-requires-clause-places g c =

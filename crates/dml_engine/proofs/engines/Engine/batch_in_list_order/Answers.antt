@@ -21,13 +21,13 @@ loop-i-preserved g c =
       | else-is_fenced-via-then-is_fenced+else-not-have_succeeded w ↦ inr (sym w.have_succeeded.ensures ∙ w.if-not-have_succeeded.false)
       | else-is_fenced-via-else-is_fenced w ↦ inl (sym c.is_fenced.ensures ∙ w.if-is_fenced.false)
     ] in
-    let job : c.unfenced.result ≡ unfenced (get_or jobs i no_op_job) = c.unfenced.ensures.job in
+    let job : c.unfenced-free.result ≡ unfenced (get_or jobs i no_op_job) = c.unfenced-free.ensures.job in
     let image : c.carry_out_alone.new.self.image ≡ (step now.image (unfenced (get_or jobs i no_op_job)) c.args.self.now.settings.staging).0 =
     c.carry_out_alone.ensures.image
-    ∙ (ap (λ (s : Settings). (step now.image c.unfenced.result s.staging).0) known.2 ∙ ap (λ (j : Job). (step now.image j c.args.self.now.settings.staging).0) job) in
+    ∙ (ap (λ (s : Settings). (step now.image c.unfenced-free.result s.staging).0) known.2 ∙ ap (λ (j : Job). (step now.image j c.args.self.now.settings.staging).0) job) in
     let answer : c.carry_out_alone.result ≡ (step now.image (unfenced (get_or jobs i no_op_job)) c.args.self.now.settings.staging).1 =
     c.carry_out_alone.ensures.answer
-    ∙ (ap (λ (s : Settings). (step now.image c.unfenced.result s.staging).1) known.2 ∙ ap (λ (j : Job). (step now.image j c.args.self.now.settings.staging).1) job) in (
+    ∙ (ap (λ (s : Settings). (step now.image c.unfenced-free.result s.staging).1) known.2 ∙ ap (λ (j : Job). (step now.image j c.args.self.now.settings.staging).1) job) in (
       carried_one c.args.self.now.image jobs c.args.self.now.settings.staging c.args.records.now c.requires.size i now.image c.carry_out_alone.new.self.image records c.carry_out_alone.result known.0 below tested image answer,
       length-set records i c.carry_out_alone.result ∙ known.1,
       c.carry_out_alone.ensures.settings ∙ known.2,

@@ -1,0 +1,27 @@
+-- Jobs that are carried out as one chunk: only a create and an apply stage bytes, and all else goes straight.
+use Rattle.std.specs.Prelude.{◌≡◌, ◌⊎◌, ℕ, ◌≤◌, Some}
+use Rattle.dml_types.specs.declared.findings.Found.{Found}
+use Rattle.dml_types.specs.declared.jobs.Job.{Job}
+use Rattle.dml_types.specs.declared.operations.Op.{Op}
+use Rattle.dml_types.specs.declared.operations.Op.TheVariants.{ApplyDelta, Compare, ComparePattern, CreateDelta, Fill}
+use Rattle.dml_types.specs.Chunk.{scan_found, scan_size}
+use Rattle.dml_types.specs.Job.{op_of}
+use Rattle.dml_types.specs.Memory.{Memory}
+use Rattle.dml_types.specs.Refusal.{need}
+
+abbrev pub IsDelta : Job → Type 0
+IsDelta job = (op_of job ≡ Some CreateDelta) ⊎ (op_of job ≡ Some ApplyDelta)
+
+-- a job that is not refused for want of staging, and stages bytes
+abbrev pub TakesStaging : Job → ℕ → Type 0
+TakesStaging job staging = IsDelta job × (need job ≤ staging)
+
+-- a fill or a compare
+abbrev pub IsScanned : Job → Type 0
+IsScanned job =
+    (op_of job ≡ Some Fill) ⊎ (op_of job ≡ Some Compare) ⊎ (op_of job ≡ Some ComparePattern)
+
+-- how the scan of a whole job ends
+abbrev pub IsWholeFound : Memory → Job → Found → Type 0
+IsWholeFound memory job found =
+    (op : Op) → op_of job ≡ Some op → found ≡ scan_found op memory job 0 (scan_size op job)

@@ -1,0 +1,286 @@
+//! More calls whose growths of memory are refused: a page brought, lists that one worker carries out, lists whose
+//! levels are found by cells, and batches with fences.
+
+use super::{USUAL, answer, engine};
+use crate::{Engine, SubmitError};
+use dml_image::{Image, ImageError};
+use dml_pool::Free;
+use dml_types::{Job, Record, Settings, Status};
+use std::alloc::{AllocError, Global};
+use std::process::Abort;
+use std::test::Fail;
+
+// The refused_* below hold whichever growth is refused: they are also run with each refused in turn, from the first one
+// behind those that their set-up takes.
+
+/// Makes the engine and drops it.
+fn made_and_dropped(rt: &impl Abort, alloc: Global) -> Result<(), Fail> {
+    let engine = engine(alloc).ok_or("no memory")?;
+    assert_eq!(rt; engine.image().byte(8), Some(0));
+    Ok(())
+}
+
+#[test]
+fn set_up_of_bring(rt: HostRuntime) -> Result<(), Fail> {
+    made_and_dropped(&rt, rt.alloc())
+}
+
+/// The page is there, or absent as before; the other page stays.
+#[test]
+fn refused_bring(rt: HostRuntime) -> Result<(), Fail> {
+    let mut engine = engine(rt.alloc()).ok_or("no memory")?;
+    let byte = match engine.bring(1, &[7; 4096]) {
+        Ok(()) => Some(7),
+        Err(error) => {
+            assert_eq!(rt; error, ImageError::NoMemory);
+            None
+        }
+    };
+    for (addr, want) in [(0, Some(0)), (4095, Some(0)), (4096, byte), (8191, byte)] {
+        assert_eq!(rt; engine.image().byte(addr), want, "{addr}");
+    }
+    Ok(())
+}
+
+#[test]
+fn set_up_of_second_bring(rt: HostRuntime) -> Result<(), Fail> {
+    made_and_dropped(&rt, rt.alloc())
+}
+
+/// A page that is present is overwritten without memory.
+#[test]
+fn refused_second_bring(rt: HostRuntime) -> Result<(), Fail> {
+    let mut engine = engine(rt.alloc()).ok_or("no memory")?;
+    assert_eq!(rt; engine.bring(0, &[7; 4096]), Ok(()));
+    assert_eq!(rt; engine.image().byte(4095), Some(7));
+    Ok(())
+}
+
+/// Two fills, of which the second waits for the first where it is fenced.
+fn two_fills(flags: u32) -> [Job; 2] {
+    [Job::fill(1, 0, 8), Job::fill(2, 0, 8).with_flags(flags)]
+}
+
+/// The fills were done, or the list of records found no memory and nothing was.
+fn expect_two_fills(rt: &impl Abort, engine: &Engine, answered: Result<Vec<Record>, SubmitError>) {
+    let byte = match answered {
+        Ok(records) => {
+            let want = [answer(Status::Success, 0, 8, 0); 2];
+            assert_eq!(rt; records.as_slice(), want.as_slice());
+            2
+        }
+        Err(error) => {
+            assert_eq!(rt; error, SubmitError::NoMemory);
+            0
+        }
+    };
+    assert_eq!(rt; engine.image().byte(0), Some(byte));
+}
+
+#[test]
+fn set_up_of_list_alone(rt: HostRuntime) -> Result<(), Fail> {
+    made_and_dropped(&rt, rt.alloc())
+}
+
+/// A list that is worth no worker takes memory for its records alone.
+#[test]
+fn refused_list_alone(rt: HostRuntime) -> Result<(), Fail> {
+    let mut engine = engine(rt.alloc()).ok_or("no memory")?;
+    let answered = engine.submit_list(&rt, rt.alloc(), &two_fills(0));
+    expect_two_fills(&rt, &engine, answered);
+    Ok(())
+}
+
+#[test]
+fn set_up_of_batch_alone(rt: HostRuntime) -> Result<(), Fail> {
+    made_and_dropped(&rt, rt.alloc())
+}
+
+/// Nor does a batch with a fence take more.
+#[test]
+fn refused_batch_alone(rt: HostRuntime) -> Result<(), Fail> {
+    let mut engine = engine(rt.alloc()).ok_or("no memory")?;
+    let answered = engine.submit_batch(&rt, rt.alloc(), &two_fills(1));
+    let answered = answered.map(|(batch, records)| {
+        assert_eq!(rt; (batch.status, batch.completed), (Status::Success, 2));
+        records
+    });
+    expect_two_fills(&rt, &engine, answered);
+    Ok(())
+}
+
+/// An engine whose lists go to three workers in chunks of 8 bytes.
+fn watched_engine(alloc: Global) -> Option<Engine> {
+    let mut image = Image::new(alloc, 1).ok()?;
+    image.bring(0, &[0; 4096]).ok()?;
+    let settings = Settings {
+        chunk: 8,
+        workers: 3,
+        ..USUAL
+    };
+    Some(Engine::new(alloc, image, settings).ok()?.with_gate(Free))
+}
+
+/// Eighteen fills of three places in turn, more than are looked at by pairs: six waves of three tasks.
+fn fills_in_turn() -> [Job; 18] {
+    let mut jobs = [Job::no_op(); 18];
+    for (place, job) in jobs.iter_mut().enumerate() {
+        let number = place as u64;
+        *job = Job::fill(0x0101_0101_0101_0101 * (number + 1), number % 3 * 8, 8);
+    }
+    jobs
+}
+
+/// What the last fill of each place left.
+fn expect_fills_in_turn(rt: &impl Abort, engine: &Engine, records: &[Record]) {
+    let want = [answer(Status::Success, 0, 8, 0); 18];
+    assert_eq!(rt; records, want.as_slice());
+    for (addr, byte) in [(0, 16), (8, 17), (16, 18), (23, 18), (24, 0)] {
+        assert_eq!(rt; engine.image().byte(addr), Some(byte), "{addr}");
+    }
+}
+
+#[test]
+fn set_up_of_list_by_cells(rt: HostRuntime) -> Result<(), Fail> {
+    let engine = watched_engine(rt.alloc()).ok_or("no memory")?;
+    assert_eq!(rt; engine.image().byte(8), Some(0));
+    let records = Vec::<Record>::with_capacity(rt.alloc(), 18)?;
+    assert!(rt; records.is_empty());
+    Ok(())
+}
+
+/// Behind the list of records no refusal changes the answer of a list whose levels are found by cells.
+#[test]
+fn refused_list_by_cells(rt: HostRuntime) -> Result<(), Fail> {
+    let mut engine = watched_engine(rt.alloc()).ok_or("no memory")?;
+    let records = engine.submit_list(&rt, rt.alloc(), &fills_in_turn())?;
+    expect_fills_in_turn(&rt, &engine, &records);
+    Ok(())
+}
+
+/// Two fills and then, behind a fence, a move of what the first wrote and a fill of it.
+fn fenced_jobs() -> [Job; 4] {
+    [
+        Job::fill(0x0101_0101_0101_0101, 0, 16),
+        Job::fill(0x0202_0202_0202_0202, 64, 8),
+        Job::move_bytes(0, 128, 16).with_flags(1),
+        Job::fill(0x0303_0303_0303_0303, 0, 8),
+    ]
+}
+
+/// The batch was carried out.
+fn expect_fenced_jobs(rt: &impl Abort, engine: &Engine, records: &[Record]) {
+    let want = [
+        answer(Status::Success, 0, 16, 0),
+        answer(Status::Success, 0, 8, 0),
+        answer(Status::Success, 0, 16, 0),
+        answer(Status::Success, 0, 8, 0),
+    ];
+    assert_eq!(rt; records, want.as_slice());
+    for (addr, byte) in [(0, 3), (8, 1), (64, 2), (128, 1), (143, 1), (144, 0)] {
+        assert_eq!(rt; engine.image().byte(addr), Some(byte), "{addr}");
+    }
+}
+
+/// What both tests of a fenced batch do before.
+fn watched_set_up(rt: &impl Abort, alloc: Global) -> Result<(), Fail> {
+    let engine = watched_engine(alloc).ok_or("no memory")?;
+    assert_eq!(rt; engine.image().byte(8), Some(0));
+    Ok(())
+}
+
+#[test]
+fn set_up_of_fenced_batch(rt: HostRuntime) -> Result<(), Fail> {
+    watched_set_up(&rt, rt.alloc())
+}
+
+/// The right records of a batch with a fence, or want of memory with nothing changed.
+#[test]
+fn refused_fenced_batch(rt: HostRuntime) -> Result<(), Fail> {
+    let mut engine = watched_engine(rt.alloc()).ok_or("no memory")?;
+    match engine.submit_batch(&rt, rt.alloc(), &fenced_jobs()) {
+        Ok((batch, records)) => {
+            assert_eq!(rt; (batch.status, batch.completed), (Status::Success, 4));
+            expect_fenced_jobs(&rt, &engine, &records);
+        }
+        Err(error) => {
+            assert_eq!(rt; error, SubmitError::NoMemory);
+            for addr in [0, 8, 64, 128] {
+                assert_eq!(rt; engine.image().byte(addr), Some(0), "{addr}");
+            }
+        }
+    }
+    Ok(())
+}
+
+#[test]
+fn set_up_of_later_growths_of_a_fenced_batch(rt: HostRuntime) -> Result<(), Fail> {
+    watched_set_up(&rt, rt.alloc())?;
+    let records = Vec::<Record>::with_capacity(rt.alloc(), fenced_jobs().len())?;
+    assert!(rt; records.is_empty());
+    Ok(())
+}
+
+/// Behind the list of records no refusal changes the answer of a batch with a fence.
+#[test]
+fn refused_later_growths_of_a_fenced_batch(rt: HostRuntime) -> Result<(), Fail> {
+    let mut engine = watched_engine(rt.alloc()).ok_or("no memory")?;
+    let (batch, records) = engine.submit_batch(&rt, rt.alloc(), &fenced_jobs())?;
+    assert_eq!(rt; (batch.status, batch.completed), (Status::Success, 4));
+    expect_fenced_jobs(&rt, &engine, &records);
+    Ok(())
+}
+
+/// An engine over a page that begins with 1 to 8, whose lists go to sixteen workers.
+fn crowded_engine(alloc: Global) -> Option<Engine> {
+    let mut page = [0; 4096];
+    for (byte, number) in page.iter_mut().zip([1, 2, 3, 4, 5, 6, 7, 8]) {
+        *byte = number;
+    }
+    let mut image = Image::new(alloc, 1).ok()?;
+    image.bring(0, &page).ok()?;
+    let settings = Settings {
+        chunk: 8,
+        workers: 16,
+        ..USUAL
+    };
+    Some(Engine::new(alloc, image, settings).ok()?.with_gate(Free))
+}
+
+#[test]
+fn set_up_of_conflict_chain(rt: HostRuntime) -> Result<(), Fail> {
+    let engine = crowded_engine(rt.alloc()).ok_or("no memory")?;
+    assert_eq!(rt; engine.image().byte(7), Some(8));
+    let records = Vec::<Record>::with_capacity(rt.alloc(), 3)?;
+    assert!(rt; records.is_empty());
+    Ok(())
+}
+
+/// A move, a move of what it wrote, and a fill of what it read: behind the list of records no refusal changes the
+/// answer.
+#[test]
+fn refused_conflict_chain(rt: HostRuntime) -> Result<(), Fail> {
+    let mut engine = crowded_engine(rt.alloc()).ok_or("no memory")?;
+    let jobs = [
+        Job::move_bytes(0, 64, 16),
+        Job::move_bytes(64, 128, 16),
+        Job::fill(0xffff_ffff_ffff_ffff, 0, 16),
+    ];
+    let records = engine.submit_list(&rt, rt.alloc(), &jobs)?;
+    let want = [answer(Status::Success, 0, 16, 0); 3];
+    assert_eq!(rt; records.as_slice(), want.as_slice());
+    let left = [
+        (0, 0xff),
+        (15, 0xff),
+        (64, 1),
+        (71, 8),
+        (72, 0),
+        (128, 1),
+        (135, 8),
+        (136, 0),
+    ];
+    for (addr, byte) in left {
+        assert_eq!(rt; engine.image().byte(addr), Some(byte), "{addr}");
+    }
+    Ok(())
+}

@@ -1,0 +1,426 @@
+//! Jobs that a page fault stops: submitted, the page brought, and the rest submitted, at many settings with the same
+//! answers. Beside each goes the whole job with the page there from the start. The expected values are the profile's.
+
+use super::rows::settings;
+use super::{USUAL, answer};
+use crate::Engine;
+use dml_desc::rest;
+use dml_image::Image;
+use dml_pool::{Free, Gate};
+use dml_types::{Job, Record, Settings, Status};
+use std::alloc::Global;
+use std::process::Abort;
+use std::sync::Wait;
+use std::test::Fail;
+use std::thread::Threads;
+
+/// A job that a page fault stops, and what is left of it once the page is there.
+#[derive(Clone, Copy)]
+struct Row<'a> {
+    pages: u32,
+    /// The pages that are present, with the bytes that each begins with; all others are 0.
+    present: &'a [(u32, &'a [u8])],
+    job: Job,
+    stopped: Record,
+    /// The page that is brought then, with the bytes that it begins with.
+    brought: (u32, &'a [u8]),
+    left: Job,
+    resumed: Record,
+    /// The record of the whole job where the page was there from the start.
+    whole: Record,
+    /// Bytes that both leave, from an address on.
+    shown: (u64, &'a [u8]),
+}
+
+/// A page that begins with these bytes, the others being 0.
+fn page_of(opening: &[u8]) -> [u8; 4096] {
+    let mut page = [0; 4096];
+    for (byte, first) in page.iter_mut().zip(opening) {
+        *byte = *first;
+    }
+    page
+}
+
+/// An engine over an image of so many pages, with those that are present.
+fn engine_of(
+    alloc: Global,
+    pages: u32,
+    present: &[(u32, &[u8])],
+    settings: Settings,
+) -> Option<Engine> {
+    let mut image = Image::new(alloc, pages).ok()?;
+    for (page, opening) in present {
+        image.bring(*page, &page_of(opening)).ok()?;
+    }
+    Engine::new(alloc, image, settings).ok()
+}
+
+/// Submits the row's job, brings the page, and submits the rest.
+fn go_on<R: Abort + Threads + Wait + Sync, G: Gate + Sync>(
+    rt: &R,
+    alloc: Global,
+    row: &Row,
+    engine: &mut Engine<G>,
+) -> Result<(), Fail> {
+    let stopped = engine.submit(rt, alloc, row.job);
+    assert_eq!(rt; stopped, row.stopped, "{:?}", row.job);
+    engine.bring(row.brought.0, &page_of(row.brought.1))?;
+    let left = rest(&row.job, &stopped).ok_or("nothing is left")?;
+    assert_eq!(rt; left, row.left, "{:?}", row.job);
+    let resumed = engine.submit(rt, alloc, left);
+    assert_eq!(rt; resumed, row.resumed, "{left:?}");
+    Ok(())
+}
+
+/// Brings the page first, and submits the whole job.
+fn go_at_once<R: Abort + Threads + Wait + Sync, G: Gate + Sync>(
+    rt: &R,
+    alloc: Global,
+    row: &Row,
+    engine: &mut Engine<G>,
+) -> Result<(), Fail> {
+    engine.bring(row.brought.0, &page_of(row.brought.1))?;
+    let whole = engine.submit(rt, alloc, row.job);
+    assert_eq!(rt; whole, row.whole, "{:?}", row.job);
+    Ok(())
+}
+
+/// Both engines hold the same image, and the row's bytes stand there.
+fn expect_left<G, H>(rt: &impl Abort, row: &Row, parts: &Engine<G>, whole: &Engine<H>) {
+    for addr in 0..4096 * u64::from(row.pages) {
+        let (left, want) = (parts.image().byte(addr), whole.image().byte(addr));
+        assert_eq!(rt; left, want, "{:?} at {addr}", row.job);
+    }
+    for (addr, byte) in (row.shown.0..u64::MAX).zip(row.shown.1) {
+        let left = parts.image().byte(addr);
+        assert_eq!(rt; left, Some(*byte), "{:?} at {addr}", row.job);
+    }
+}
+
+/// Expects a row's answers at all settings, with the engine's own gate and with one given.
+fn expect<R: Abort + Threads + Wait + Sync>(rt: &R, alloc: Global, row: &Row) -> Result<(), Fail> {
+    for settings in settings(USUAL.staging) {
+        let make = || engine_of(alloc, row.pages, row.present, settings).ok_or("no memory");
+        let (mut parts, mut whole) = (make()?, make()?);
+        go_on(rt, alloc, row, &mut parts)?;
+        go_at_once(rt, alloc, row, &mut whole)?;
+        expect_left(rt, row, &parts, &whole);
+        let (mut parts, mut whole) = (make()?.with_gate(Free), make()?.with_gate(Free));
+        go_on(rt, alloc, row, &mut parts)?;
+        go_at_once(rt, alloc, row, &mut whole)?;
+        expect_left(rt, row, &parts, &whole);
+    }
+    Ok(())
+}
+
+#[test]
+fn resume_a_fill(rt: HostRuntime) -> Result<(), Fail> {
+    let row = Row {
+        pages: 2,
+        present: &[(0, &[])],
+        job: Job::fill(0x0807_0605_0403_0201, 4091, 9),
+        stopped: answer(Status::WriteFault, 0, 5, 4096),
+        brought: (1, &[]),
+        left: Job::fill(0x0504_0302_0108_0706, 4096, 4),
+        resumed: answer(Status::Success, 0, 4, 0),
+        whole: answer(Status::Success, 0, 9, 0),
+        shown: (4091, &[1, 2, 3, 4, 5, 6, 7, 8, 1, 0]),
+    };
+    expect(&rt, rt.alloc(), &row)
+}
+
+#[test]
+fn resume_a_compare(rt: HostRuntime) -> Result<(), Fail> {
+    let row = Row {
+        pages: 2,
+        present: &[(0, &[])],
+        job: Job::compare(0, 4092, 8),
+        stopped: answer(Status::ReadFault, 0, 4, 4096),
+        brought: (1, &[0, 7]),
+        left: Job::compare(4, 4096, 4),
+        resumed: answer(Status::Success, 1, 1, 0),
+        whole: answer(Status::Success, 1, 5, 0),
+        shown: (4096, &[0, 7]),
+    };
+    expect(&rt, rt.alloc(), &row)
+}
+
+#[test]
+fn resume_a_backward_move(rt: HostRuntime) -> Result<(), Fail> {
+    let row = Row {
+        pages: 3,
+        present: &[(0, &[]), (2, &[1, 2])],
+        job: Job::move_bytes(0, 8, 12_272),
+        stopped: answer(Status::ReadFault, 1, 4080, 8191),
+        brought: (1, &[]),
+        left: Job::move_bytes(0, 8, 8192),
+        resumed: answer(Status::Success, 1, 8192, 0),
+        whole: answer(Status::Success, 1, 12_272, 0),
+        shown: (8192, &[0, 0, 0, 0, 0, 0, 0, 0, 1, 2]),
+    };
+    expect(&rt, rt.alloc(), &row)
+}
+
+/// What is left of a backward move keeps its addresses, and what is left of a forward one goes on.
+#[test]
+fn rest_of_moves(rt: HostRuntime) -> Result<(), Fail> {
+    let backward = Row {
+        pages: 4,
+        present: &[(0, &[1, 2, 3]), (1, &[]), (3, &[])],
+        job: Job::move_bytes(0, 4100, 8192),
+        stopped: answer(Status::WriteFault, 1, 4, 12_287),
+        brought: (2, &[]),
+        left: Job::move_bytes(0, 4100, 8188),
+        resumed: answer(Status::Success, 1, 8188, 0),
+        whole: answer(Status::Success, 1, 8192, 0),
+        shown: (4100, &[1, 2, 3, 0]),
+    };
+    expect(&rt, rt.alloc(), &backward)?;
+    let forward = Row {
+        pages: 2,
+        present: &[(0, &[])],
+        job: Job::move_bytes(4088, 0, 50),
+        stopped: answer(Status::ReadFault, 0, 8, 4096),
+        brought: (1, &[4, 5]),
+        left: Job::move_bytes(4096, 8, 42),
+        resumed: answer(Status::Success, 0, 42, 0),
+        whole: answer(Status::Success, 0, 50, 0),
+        shown: (8, &[4, 5, 0]),
+    };
+    expect(&rt, rt.alloc(), &forward)
+}
+
+/// Nothing is left of a create, whose differing blocks are no more known, nor of a job that was done or refused.
+#[test]
+fn nothing_is_left(rt: HostRuntime) -> Result<(), Fail> {
+    let table = [
+        (
+            Job::create_delta(0, 4088, 64, 128, 80),
+            answer(Status::ReadFault, 0, 8, 4096),
+        ),
+        (
+            Job::apply_delta(4096, 10, 0, 8),
+            answer(Status::ReadFault, 0, 0, 4096),
+        ),
+        (
+            Job::move_bytes(0, 64, 50),
+            answer(Status::Success, 0, 50, 0),
+        ),
+        (
+            Job::move_bytes(0, 64, 50).with_flags(0x10),
+            answer(Status::BadFlags, 0, 0, 0),
+        ),
+    ];
+    for settings in settings(USUAL.staging) {
+        let mut engine = engine_of(rt.alloc(), 2, &[(0, &[])], settings).ok_or("no memory")?;
+        for (job, want) in table {
+            let answer = engine.submit(&rt, rt.alloc(), job);
+            assert_eq!(rt; answer, want, "{job:?}");
+            assert_eq!(rt; rest(&job, &answer), None, "{job:?}");
+        }
+    }
+    Ok(())
+}
+
+/// Jobs on an image of 4,096 pages that are all absent, and whether the whole job is left of each.
+fn absent_table() -> [(Job, Record, bool); 7] {
+    let read = answer(Status::ReadFault, 0, 0, 0);
+    [
+        (
+            Job::move_bytes(0, 8, 16),
+            answer(Status::ReadFault, 1, 0, 15),
+            true,
+        ),
+        (
+            Job::fill(1, 0, 8),
+            answer(Status::WriteFault, 0, 0, 0),
+            true,
+        ),
+        (Job::compare(0, 8, 8), read, true),
+        (Job::create_delta(0, 64, 8, 128, 10), read, false),
+        (Job::apply_delta(0, 10, 256, 8), read, false),
+        (Job::dualcast(0, 4096, 8192, 8), read, true),
+        (Job::no_op(), answer(Status::Success, 0, 0, 0), false),
+    ]
+}
+
+/// Submits them one by one.
+fn expect_absent<R: Abort + Threads + Wait + Sync, G: Gate + Sync>(
+    rt: &R,
+    alloc: Global,
+    engine: &mut Engine<G>,
+) {
+    for (job, want, goes_on) in absent_table() {
+        let answer = engine.submit(rt, alloc, job);
+        assert_eq!(rt; answer, want, "{job:?}");
+        assert_eq!(rt; rest(&job, &answer), goes_on.then_some(job), "{job:?}");
+    }
+    for addr in [0, 1, 16_777_215] {
+        assert_eq!(rt; engine.image().byte(addr), None);
+    }
+}
+
+#[test]
+fn every_page_absent(rt: HostRuntime) -> Result<(), Fail> {
+    for settings in settings(USUAL.staging) {
+        let make = || engine_of(rt.alloc(), 4096, &[], settings).ok_or("no memory");
+        expect_absent(&rt, rt.alloc(), &mut make()?);
+        expect_absent(&rt, rt.alloc(), &mut make()?.with_gate(Free));
+    }
+    Ok(())
+}
+
+/// Submits a job on four absent pages, and then what is left of it, each time with the page of the fault brought: full
+/// of `Z`. Answers the sum of the bytes done.
+fn on_demand<R: Abort + Threads + Wait + Sync, G: Gate + Sync>(
+    rt: &R,
+    alloc: Global,
+    engine: &mut Engine<G>,
+    job: Job,
+    records: &[Record],
+) -> Result<u64, Fail> {
+    let mut next = Some(job);
+    let mut done = 0_u64;
+    for want in records {
+        let now = next.ok_or("nothing is left")?;
+        let answer = engine.submit(rt, alloc, now);
+        assert_eq!(rt; answer, *want, "{now:?}");
+        done = done.saturating_add(u64::from(answer.completed));
+        next = rest(&now, &answer);
+        if next.is_some() {
+            let page = u32::try_from(answer.fault / 4096).map_err(|_| "no such page")?;
+            engine.bring(page, &[0x5a; 4096])?;
+        }
+    }
+    assert_eq!(rt; next, None, "{job:?}");
+    Ok(done)
+}
+
+/// A driver's loop: the page of each fault is brought, until the job is done.
+fn expect_on_demand<R: Abort + Threads + Wait + Sync>(
+    rt: &R,
+    alloc: Global,
+    job: Job,
+    records: &[Record],
+    shown: &[(u64, u8)],
+) -> Result<(), Fail> {
+    for settings in settings(USUAL.staging) {
+        let engine = engine_of(alloc, 4, &[], settings).ok_or("no memory")?;
+        let mut engine = engine.with_gate(Free);
+        let done = on_demand(rt, alloc, &mut engine, job, records)?;
+        assert_eq!(rt; done, u64::from(job.size), "{job:?}");
+        for (addr, byte) in shown {
+            assert_eq!(rt;
+                engine.image().byte(*addr),
+                Some(*byte),
+                "{job:?} at {addr}"
+            );
+        }
+    }
+    Ok(())
+}
+
+/// A read fault, and the record of a job that is done.
+fn reads(completed: u32, fault: u64) -> Record {
+    answer(Status::ReadFault, 0, completed, fault)
+}
+
+fn writes(completed: u32, fault: u64) -> Record {
+    answer(Status::WriteFault, 0, completed, fault)
+}
+
+fn ends(completed: u32) -> Record {
+    answer(Status::Success, 0, completed, 0)
+}
+
+#[test]
+fn pages_of_a_fill_on_demand(rt: HostRuntime) -> Result<(), Fail> {
+    let job = Job::fill(0x0807_0605_0403_0201, 4090, 4200);
+    let records = [
+        writes(0, 4090),
+        writes(6, 4096),
+        writes(4096, 8192),
+        ends(98),
+    ];
+    let shown = [
+        (4089, 0x5a),
+        (4090, 1),
+        (4095, 6),
+        (4096, 7),
+        (8191, 6),
+        (8192, 7),
+        (8289, 8),
+        (8290, 0x5a),
+    ];
+    expect_on_demand(&rt, rt.alloc(), job, &records, &shown)
+}
+
+#[test]
+fn pages_of_moves_on_demand(rt: HostRuntime) -> Result<(), Fail> {
+    let forward = [
+        reads(0, 0),
+        writes(0, 8192),
+        reads(4096, 4096),
+        writes(0, 12_288),
+        ends(4096),
+    ];
+    expect_on_demand(
+        &rt,
+        rt.alloc(),
+        Job::move_bytes(0, 8192, 8192),
+        &forward,
+        &[(8192, 0x5a), (16_383, 0x5a)],
+    )?;
+    let backward = [
+        answer(Status::ReadFault, 1, 0, 8191),
+        answer(Status::WriteFault, 1, 0, 8195),
+        answer(Status::ReadFault, 1, 4096, 4095),
+        answer(Status::Success, 1, 4096, 0),
+    ];
+    expect_on_demand(
+        &rt,
+        rt.alloc(),
+        Job::move_bytes(0, 4, 8192),
+        &backward,
+        &[(0, 0x5a), (8195, 0x5a)],
+    )
+}
+
+#[test]
+fn pages_of_compares_on_demand(rt: HostRuntime) -> Result<(), Fail> {
+    let both = [
+        reads(0, 4090),
+        reads(0, 12_282),
+        reads(6, 4096),
+        reads(0, 12_288),
+        ends(6),
+    ];
+    expect_on_demand(&rt, rt.alloc(), Job::compare(4090, 12_282, 12), &both, &[])?;
+    let pattern = Job::compare_pattern(4090, 0x5a5a_5a5a_5a5a_5a5a, 12);
+    expect_on_demand(
+        &rt,
+        rt.alloc(),
+        pattern,
+        &[reads(0, 4090), reads(6, 4096), ends(6)],
+        &[],
+    )
+}
+
+#[test]
+fn pages_of_a_dualcast_on_demand(rt: HostRuntime) -> Result<(), Fail> {
+    let job = Job::dualcast(4088, 8184, 12_280, 16);
+    let records = [
+        reads(0, 4088),
+        writes(0, 8184),
+        writes(0, 12_280),
+        writes(8, 12_288),
+        ends(8),
+    ];
+    expect_on_demand(
+        &rt,
+        rt.alloc(),
+        job,
+        &records,
+        &[(8184, 0x5a), (12_295, 0x5a)],
+    )
+}

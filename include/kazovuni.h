@@ -1,5 +1,6 @@
 /*
- * Kazovuni: the jobs of Intel's data streaming accelerator in software, over the caller's own memory.
+ * Kazovuni: the jobs of Intel's data streaming accelerator in software, over the caller's own memory or over an image
+ * of its own behind a handle.
  *
  * A job is a descriptor of 64 bytes and answers a completion record of 32, both laid out as linux/idxd.h has them; all
  * numbers are little-endian. No function has a precondition but that its pointers are valid for the bytes named, and
@@ -25,12 +26,20 @@ extern "C" {
 #define KAZOVUNI_PAGE_BYTES 4096
 #define KAZOVUNI_MOST_PAGES 4096
 
+#define KAZOVUNI_MOST_STAGING UINT32_C(16777216)
+
 /* What a call answers. Whatever is not KAZOVUNI_OK, nothing was changed. */
 enum {
     KAZOVUNI_OK = 0,
-    KAZOVUNI_NOT_PAGES = 1,   /* the bytes are not 1 to 4,096 whole pages of 4,096 */
-    KAZOVUNI_NO_MEMORY = 2,   /* malloc gave no memory for the staging */
-    KAZOVUNI_NOT_AS_MANY = 3, /* there are not as many records as descriptors */
+    KAZOVUNI_NOT_PAGES = 1,    /* the bytes are not 1 to 4,096 whole pages of 4,096 */
+    KAZOVUNI_NO_MEMORY = 2,    /* malloc gave no memory */
+    KAZOVUNI_NOT_AS_MANY = 3,  /* there are not as many records as descriptors */
+    KAZOVUNI_NO_ENGINE = 4,    /* the handle has no engine */
+    KAZOVUNI_HAS_ENGINE = 5,   /* the handle has an engine already */
+    KAZOVUNI_BAD_PAGES = 6,    /* an engine has 1 to 4,096 pages */
+    KAZOVUNI_BAD_SETTINGS = 7, /* an engine has at most 16,777,216 bytes of staging */
+    KAZOVUNI_NO_SUCH_PAGE = 8, /* the engine has no page of this number */
+    KAZOVUNI_ABSENT = 9,       /* a byte of the range is absent */
 };
 
 /*
@@ -56,6 +65,15 @@ typedef struct kazovuni_record {
     uint64_t fault;
     uint32_t delta_size;
 } kazovuni_record;
+
+/*
+ * The handle of an engine: an image of pages that are present or absent, and its staging. It is zeroed before its first
+ * call and never written by the caller afterwards, nor copied; kazovuni_free zeroes it again. One call at a time.
+ */
+typedef struct kazovuni_engine {
+    void *engine;
+    bool is_open;
+} kazovuni_engine;
 
 /* The version of the library that is linked. */
 uint32_t kazovuni_version(void);
@@ -88,6 +106,8 @@ bool kazovuni_rest(const uint8_t descriptor[64], const uint8_t record[32], uint8
 /*
  * Carries out a job over the caller's bytes and writes its completion record. The descriptor's addresses are offsets:
  * the bytes begin at address 0, all of their pages are present, and no other page is. A refused job changes no byte.
+ * `staging` is the most that a job may need (kazovuni_need): above it the job is refused with 0x7e. Neither the
+ * descriptor nor the record may lie in the bytes.
  */
 uint8_t kazovuni_submit_over(
     uint8_t *bytes, size_t length, const uint8_t descriptor[64], uint32_t staging, uint8_t record[32]);
@@ -104,9 +124,40 @@ uint8_t kazovuni_submit_list_over(
  * pages: the job meets a page fault there as behind the end, or is refused with 0x7d where its range goes on over the
  * base.
  */
-uint8_t kazovuni_submit_at(
+uint8_t kazovuni_submit_pointers(
     uint64_t base, uint8_t *bytes, size_t length, const uint8_t descriptor[64], uint32_t staging,
     uint8_t record[32]);
+
+/*
+ * Makes an engine with an image of so many pages, all absent, and takes its staging: KAZOVUNI_HAS_ENGINE,
+ * KAZOVUNI_BAD_PAGES, KAZOVUNI_BAD_SETTINGS, tested in this order, or KAZOVUNI_NO_MEMORY.
+ */
+uint8_t kazovuni_create(kazovuni_engine *engine, uint32_t pages, uint32_t staging);
+
+/* Frees the engine, if there is one, and zeroes the handle. */
+void kazovuni_free(kazovuni_engine *engine);
+
+/*
+ * Makes a page present with these bytes; a page that is present is overwritten: KAZOVUNI_NO_ENGINE,
+ * KAZOVUNI_NO_SUCH_PAGE, or KAZOVUNI_NO_MEMORY, which a page that is present never meets.
+ */
+uint8_t kazovuni_bring(kazovuni_engine *engine, uint32_t page, const uint8_t bytes[4096]);
+
+/* Writes bytes into the image from an address on: KAZOVUNI_NO_ENGINE, or KAZOVUNI_ABSENT. */
+uint8_t kazovuni_write(kazovuni_engine *engine, uint64_t address, const uint8_t *bytes, size_t length);
+
+/* Reads bytes of the image from an address on: KAZOVUNI_NO_ENGINE, or KAZOVUNI_ABSENT. */
+uint8_t kazovuni_read(kazovuni_engine *engine, uint64_t address, uint8_t *bytes, size_t length);
+
+/* Carries out a job on the image and writes its completion record: KAZOVUNI_NO_ENGINE. */
+uint8_t kazovuni_submit(kazovuni_engine *engine, const uint8_t descriptor[64], uint8_t record[32]);
+
+/*
+ * Carries out the jobs of some descriptors one after another on the image, and writes the completion record of each:
+ * KAZOVUNI_NO_ENGINE, or KAZOVUNI_NOT_AS_MANY.
+ */
+uint8_t kazovuni_submit_list(
+    kazovuni_engine *engine, const uint8_t (*descriptors)[64], size_t jobs, uint8_t (*records)[32], size_t answers);
 
 #ifdef __cplusplus
 }

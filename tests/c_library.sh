@@ -1,7 +1,7 @@
 #!/bin/sh
 # Builds and installs the C library into a folder of its own, as both of the kit's compilers make it, holds it against
-# include/kazovuni.h, and runs the worked rows through it: in C under the address and undefined-behaviour sanitizers,
-# with each growth of memory refused in turn, and over the shared library. `check` calls it. Wants a C compiler as $CC
+# include/kazovuni.h, and runs the worked rows through it: in C under the address, leak and undefined-behaviour
+# sanitizers, with each growth of memory refused in turn, and over the shared library. `check` calls it. Wants a C compiler as $CC
 # or cc, and nm; where c++ and python3 are there, they try the header and the shared library too.
 cd "$(dirname "$0")/.." || exit 2
 work=$(mktemp -d) || exit 2
@@ -30,20 +30,23 @@ try() {
     nm -g --defined-only "$prefix/lib/libkazovuni.a" | sed -n 's/.* T \(kazovuni_.*\)/\1/p' | sort -u >"$work/names"
     cmp -s "$work/declared" "$work/names" || complain "$1: the header and the library have not the same names"
     "$cc" -std=c11 -Wall -Wextra -Werror -O1 -g -fsanitize=address,undefined -I"$prefix/include" -o "$work/rows" \
-        tests/c/rows.c "$prefix/lib/libkazovuni.a" && "$work/rows" >"$work/log" || complain "$1: the rows"
+        tests/c/rows.c "$prefix/lib/libkazovuni.a" && ASAN_OPTIONS=detect_leaks=1 "$work/rows" >"$work/log" ||
+        complain "$1: the rows"
     "$cc" -std=c11 -O1 -I"$prefix/include" -o "$work/linked" tests/c/rows.c -L"$prefix/lib" -lkazovuni &&
         LD_LIBRARY_PATH=$prefix/lib "$work/linked" >"$work/log" || complain "$1: the rows over the shared library"
     "$cc" -std=c11 -Wall -Wextra -Werror -O1 -I"$prefix/include" -o "$work/refused" tests/c/refused.c \
         "$prefix/lib/libkazovuni.a" || complain "$1: the program of refused growths is not built"
+    "$work/refused" 0 || complain "$1: with no growth refused"
     number=1
-    while [ "$number" -le 10 ]; do
+    while [ "$number" -le 20 ]; do
         rm -f "$work/met"
-        REFUSE=$number REFUSE_LOG=$work/met LD_PRELOAD=$work/refuse.so "$work/refused" "$number" ||
-            complain "$1: growth $number refused"
+        REFUSE=$number REFUSE_LOG=$work/met LD_PRELOAD=$work/refuse.so "$work/refused" 1
+        status=$?
         [ -f "$work/met" ] || break
+        [ "$status" = 0 ] || complain "$1: growth $number refused: $status"
         number=$((number + 1))
     done
-    [ "$number" = 4 ] || complain "$1: $((number - 1)) growths were met, and 3 are wanted"
+    [ "$number" = 8 ] || complain "$1: $((number - 1)) growths were met, and 7 are wanted"
 }
 
 try llvm

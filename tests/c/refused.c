@@ -1,42 +1,77 @@
 /*
- * One call of each form that takes memory, for tests/c_library.sh, which refuses the growth whose number is the first
- * word: that call answers want of memory and changes nothing, and the others do their job.
+ * Each call that takes memory, for tests/c_library.sh, which has one growth of memory refused: the call that meets it
+ * answers want of memory and changes nothing, and does its job when it is made again. Answers 0 where as many calls
+ * were refused as the first word says.
  */
 #include "kazovuni.h"
 
 #include <stdlib.h>
 #include <string.h>
 
-static uint8_t bytes[KAZOVUNI_PAGE_BYTES];
+static uint8_t bytes[KAZOVUNI_PAGE_BYTES], record[1][32], descriptor[1][64];
+static kazovuni_engine engine;
 
-static int is_right(int number, int refused, uint8_t answer, const uint8_t record[32])
+/* A create of a delta record from two ranges of 8 bytes that differ. */
+static uint8_t over_pages(void)
 {
-    if (number == refused)
-        return answer == KAZOVUNI_NO_MEMORY && record[0] == 0xcc && bytes[8] == 0;
-    return answer == KAZOVUNI_OK && record[0] == 0x01 && bytes[8] == 7;
+    return kazovuni_submit_over(bytes, sizeof bytes, descriptor[0], 4096, record[0]);
+}
+
+static uint8_t as_a_list(void)
+{
+    return kazovuni_submit_list_over(bytes, sizeof bytes, (const uint8_t (*)[64])descriptor, 1, 4096, record, 1);
+}
+
+static uint8_t by_pointers(void)
+{
+    return kazovuni_submit_pointers(0, bytes, sizeof bytes, descriptor[0], 4096, record[0]);
+}
+
+static uint8_t create(void)
+{
+    return kazovuni_create(&engine, 2, 4096);
+}
+
+static uint8_t bring(void)
+{
+    return kazovuni_bring(&engine, 1, bytes);
+}
+
+/* What needs no memory: a page that is present, a job on the image, and a job over pages that stages nothing. */
+static uint8_t again(void)
+{
+    uint8_t fill[64] = {[7] = 0x04, [16] = 7, [24] = 64, [32] = 1};
+    if (kazovuni_bring(&engine, 1, bytes) != KAZOVUNI_OK || kazovuni_submit(&engine, fill, record[0]) != KAZOVUNI_OK)
+        return KAZOVUNI_NO_MEMORY;
+    return kazovuni_submit_over(bytes, sizeof bytes, fill, 4096, record[0]);
 }
 
 int main(int count, char **words)
 {
-    int refused = count > 1 ? atoi(words[1]) : 0;
-    uint8_t descriptor[1][64] = {{0}};
-    descriptor[0][7] = 0x04;
-    descriptor[0][16] = 7;
+    static uint8_t (*const calls[])(void) = {over_pages, as_a_list, by_pointers, create, bring, again};
+    int wanted = count > 1 ? atoi(words[1]) : 0, refused = 0;
+    descriptor[0][7] = 0x07;
     descriptor[0][24] = 8;
-    descriptor[0][32] = 1;
-    for (int number = 1; number <= 3; number++) {
-        uint8_t records[1][32], answer;
-        memset(bytes, 0, sizeof bytes);
-        memset(records, 0xcc, sizeof records);
-        if (number == 1)
-            answer = kazovuni_submit_over(bytes, sizeof bytes, descriptor[0], 4096, records[0]);
-        else if (number == 2)
-            answer = kazovuni_submit_list_over(
-                bytes, sizeof bytes, (const uint8_t (*)[64])descriptor, 1, 4096, records, 1);
-        else
-            answer = kazovuni_submit_at(0, bytes, sizeof bytes, descriptor[0], 4096, records[0]);
-        if (!is_right(number, refused, answer, records[0]))
-            return number;
+    descriptor[0][32] = 8;
+    descriptor[0][40] = 16;
+    descriptor[0][48] = 80;
+    bytes[0] = 1;
+    for (size_t i = 0; i < sizeof calls / sizeof calls[0]; i++) {
+        uint8_t before[KAZOVUNI_PAGE_BYTES];
+        kazovuni_engine old = engine;
+        memcpy(before, bytes, sizeof bytes);
+        memset(record, 0xcc, sizeof record);
+        uint8_t answer = calls[i]();
+        if (answer == KAZOVUNI_NO_MEMORY) {
+            refused++;
+            if (memcmp(before, bytes, sizeof bytes) != 0 || record[0][0] != 0xcc ||
+                memcmp(&old, &engine, sizeof engine) != 0)
+                return 101;
+            answer = calls[i]();
+        }
+        if (answer != KAZOVUNI_OK)
+            return 102;
     }
-    return 0;
+    kazovuni_free(&engine);
+    return refused == wanted ? 0 : 103;
 }

@@ -1,6 +1,7 @@
 /*
- * Worked rows through kazovuni.h, over the caller's own pages: each by offsets, by the caller's own pointers, and as a
- * list of one. What the record and every byte have to be stands in the table.
+ * Worked rows through kazovuni.h: over the caller's own pages by offsets, by the caller's own pointers and as a list of
+ * one, and over an image behind a handle, alone and as a list of one. What the record and every byte have to be stands
+ * in the table.
  */
 #include "kazovuni.h"
 
@@ -22,6 +23,10 @@ static_assert(sizeof(kazovuni_record) == 24, "the fields of a record as the libr
 static_assert(offsetof(kazovuni_record, completed) == 4, "completed");
 static_assert(offsetof(kazovuni_record, fault) == 8, "fault");
 static_assert(offsetof(kazovuni_record, delta_size) == 16, "delta_size");
+
+static_assert(sizeof(kazovuni_engine) == 16, "a handle as the library has it");
+static_assert(offsetof(kazovuni_engine, engine) == 0, "engine");
+static_assert(offsetof(kazovuni_engine, is_open) == 8, "is_open");
 
 enum { NO_OP = 0x00, MOVE = 0x03, FILL = 0x04, COMPARE = 0x05, CREATE = 0x07, APPLY = 0x08, DUALCAST = 0x09 };
 enum { STAGING = 4096, MOST = 2 * KAZOVUNI_PAGE_BYTES };
@@ -114,8 +119,36 @@ static void expect(uint8_t record[32], const row *row, uint64_t base)
     put(record + 16, row->delta_size, 4);
 }
 
-enum form { BY_OFFSETS, AS_A_LIST, BY_POINTERS };
-static const char *const form_names[] = {"by offsets", "as a list", "by pointers"};
+enum form { BY_OFFSETS, AS_A_LIST, BY_POINTERS, BY_HANDLE, AS_A_LIST_BY_HANDLE };
+static const char *const form_names[] = {
+    "by offsets", "as a list", "by pointers", "by a handle", "as a list by a handle"};
+
+/* An engine with these bytes as its pages; the program ends where there is none. */
+static void open_over(kazovuni_engine *engine, const uint8_t *bytes, size_t pages)
+{
+    int wrong = kazovuni_create(engine, (uint32_t)pages, STAGING) != KAZOVUNI_OK;
+    for (size_t i = 0; i < pages && !wrong; i++)
+        wrong = kazovuni_bring(engine, (uint32_t)i, bytes + i * KAZOVUNI_PAGE_BYTES) != KAZOVUNI_OK;
+    if (wrong)
+        exit(2);
+}
+
+/* The same job on an image behind a handle, which is read back into the bytes. */
+static uint8_t submit_by_handle(
+    uint8_t *bytes, size_t length, enum form form, uint8_t (*descriptor)[64], uint8_t (*records)[32])
+{
+    kazovuni_engine engine = {0};
+    uint8_t answer;
+    open_over(&engine, bytes, length / KAZOVUNI_PAGE_BYTES);
+    if (form == BY_HANDLE)
+        answer = kazovuni_submit(&engine, descriptor[0], records[0]);
+    else
+        answer = kazovuni_submit_list(&engine, (const uint8_t (*)[64])descriptor, 1, records, 1);
+    if (kazovuni_read(&engine, 0, bytes, length) != KAZOVUNI_OK)
+        exit(2);
+    kazovuni_free(&engine);
+    return answer;
+}
 
 static void try_row(const row *row, enum form form)
 {
@@ -139,8 +172,11 @@ static void try_row(const row *row, enum form form)
     case AS_A_LIST:
         answer = kazovuni_submit_list_over(bytes, length, (const uint8_t (*)[64])descriptor, 1, STAGING, records, 1);
         break;
+    case BY_POINTERS:
+        answer = kazovuni_submit_pointers(base, bytes, length, descriptor[0], STAGING, records[0]);
+        break;
     default:
-        answer = kazovuni_submit_at(base, bytes, length, descriptor[0], STAGING, records[0]);
+        answer = submit_by_handle(bytes, length, form, descriptor, records);
     }
     if (answer != KAZOVUNI_OK)
         complain(row->name, form_names[form], "the answer");
@@ -163,7 +199,7 @@ static void try_codes(void)
     if (kazovuni_submit_over(bytes, sizeof bytes, descriptors[0], 0, records[0]) != KAZOVUNI_NOT_PAGES ||
         kazovuni_submit_over(bytes, 0, descriptors[0], 0, records[0]) != KAZOVUNI_NOT_PAGES ||
         kazovuni_submit_list_over(bytes, sizeof bytes, list, 2, 0, records, 2) != KAZOVUNI_NOT_PAGES ||
-        kazovuni_submit_at(0, bytes, sizeof bytes, descriptors[0], 0, records[0]) != KAZOVUNI_NOT_PAGES)
+        kazovuni_submit_pointers(0, bytes, sizeof bytes, descriptors[0], 0, records[0]) != KAZOVUNI_NOT_PAGES)
         complain("bytes that are no pages", "all forms", "the answer");
     if (kazovuni_submit_list_over(bytes, KAZOVUNI_PAGE_BYTES, list, 2, 0, records, 1) != KAZOVUNI_NOT_AS_MANY)
         complain("a record too few", "as a list", "the answer");
@@ -173,6 +209,65 @@ static void try_codes(void)
         complain("an empty list", "as a list", "the answer");
     if (kazovuni_version() != KAZOVUNI_VERSION)
         complain("the version", "of the library", "is not the header's");
+}
+
+/* What the calls on a handle answer, in their order of tests; what is refused leaves all as it was. */
+static void try_handle(void)
+{
+    kazovuni_engine engine = {0}, zero = {0};
+    uint8_t page[KAZOVUNI_PAGE_BYTES], descriptor[1][64] = {{0}}, records[2][32], read[8] = {9, 9, 9, 9, 9, 9, 9, 9};
+    const uint8_t(*list)[64] = (const uint8_t(*)[64])descriptor;
+    memset(page, 0x5a, sizeof page);
+    memset(records, 0xcc, sizeof records);
+    if (kazovuni_bring(&engine, 0, page) != KAZOVUNI_NO_ENGINE ||
+        kazovuni_write(&engine, 0, page, 1) != KAZOVUNI_NO_ENGINE ||
+        kazovuni_read(&engine, 0, read, 1) != KAZOVUNI_NO_ENGINE ||
+        kazovuni_submit(&engine, descriptor[0], records[0]) != KAZOVUNI_NO_ENGINE ||
+        kazovuni_submit_list(&engine, list, 1, records, 2) != KAZOVUNI_NO_ENGINE)
+        complain("a zeroed handle", "by a handle", "the answer");
+    if (kazovuni_create(&engine, 0, KAZOVUNI_MOST_STAGING + 1) != KAZOVUNI_BAD_PAGES ||
+        kazovuni_create(&engine, KAZOVUNI_MOST_PAGES + 1, 0) != KAZOVUNI_BAD_PAGES ||
+        kazovuni_create(&engine, 2, KAZOVUNI_MOST_STAGING + 1) != KAZOVUNI_BAD_SETTINGS ||
+        memcmp(&engine, &zero, sizeof engine) != 0)
+        complain("bad pages and settings", "by a handle", "the answer");
+    if (kazovuni_create(&engine, 2, 0) != KAZOVUNI_OK || kazovuni_create(&engine, 0, 0) != KAZOVUNI_HAS_ENGINE)
+        complain("an engine", "by a handle", "is not made once");
+    if (kazovuni_bring(&engine, 2, page) != KAZOVUNI_NO_SUCH_PAGE || kazovuni_bring(&engine, 0, page) != KAZOVUNI_OK)
+        complain("a page", "by a handle", "is not brought");
+    if (kazovuni_read(&engine, 4090, read, 8) != KAZOVUNI_ABSENT || read[0] != 9 ||
+        kazovuni_write(&engine, 4090, page, 7) != KAZOVUNI_ABSENT ||
+        kazovuni_read(&engine, UINT64_MAX, read, 8) != KAZOVUNI_ABSENT || read[0] != 9 ||
+        kazovuni_read(&engine, UINT64_MAX, NULL, 0) != KAZOVUNI_OK ||
+        kazovuni_write(&engine, 4090, (const uint8_t *)"\1\2\3\4\5\6", 6) != KAZOVUNI_OK ||
+        kazovuni_read(&engine, 4088, read, 8) != KAZOVUNI_OK || memcmp(read, "\x5a\x5a\1\2\3\4\5\6", 8) != 0)
+        complain("bytes", "by a handle", "are not those written");
+    if (kazovuni_submit_list(&engine, list, 1, records, 2) != KAZOVUNI_NOT_AS_MANY || records[0][0] != 0xcc)
+        complain("a record too many", "as a list by a handle", "the answer");
+    kazovuni_free(&engine);
+    if (memcmp(&engine, &zero, sizeof engine) != 0)
+        complain("a freed handle", "by a handle", "is not zero");
+    kazovuni_free(&engine);
+}
+
+/* A page fault, the page brought, and the rest of the job. */
+static void try_fault(void)
+{
+    kazovuni_engine engine = {0};
+    kazovuni_job job = {.opcode = FILL, .source = PATTERN, .target = 4090, .size = 12};
+    uint8_t page[KAZOVUNI_PAGE_BYTES] = {0}, descriptor[64], left[64], record[32], wanted[32], read[12];
+    row fault = {.status = 0x83, .completed = 6, .fault = 4096}, done = {.status = 0x01, .completed = 6};
+    describe(descriptor, &job, 0);
+    expect(wanted, &fault, 0);
+    if (kazovuni_create(&engine, 2, 0) != KAZOVUNI_OK || kazovuni_bring(&engine, 0, page) != KAZOVUNI_OK ||
+        kazovuni_submit(&engine, descriptor, record) != KAZOVUNI_OK || memcmp(record, wanted, 32) != 0)
+        complain("a page fault", "by a handle", "the record");
+    expect(wanted, &done, 0);
+    if (!kazovuni_rest(descriptor, record, left) || kazovuni_bring(&engine, 1, page) != KAZOVUNI_OK ||
+        kazovuni_submit(&engine, left, record) != KAZOVUNI_OK || memcmp(record, wanted, 32) != 0 ||
+        kazovuni_read(&engine, 4090, read, 12) != KAZOVUNI_OK ||
+        memcmp(read, "\1\2\3\4\5\6\7\10\1\2\3\4", 12) != 0)
+        complain("the rest", "by a handle", "the bytes");
+    kazovuni_free(&engine);
 }
 
 /* An address below the base, and a range that goes on over it. */
@@ -185,13 +280,13 @@ static void try_below(void)
     describe(descriptor, &job, base - 8);
     row fault = {.status = 0x03, .fault = base - 8};
     expect(wanted, &fault, 0);
-    if (kazovuni_submit_at(base, bytes, sizeof bytes, descriptor, 0, record) != KAZOVUNI_OK ||
+    if (kazovuni_submit_pointers(base, bytes, sizeof bytes, descriptor, 0, record) != KAZOVUNI_OK ||
         memcmp(record, wanted, 32) != 0)
         complain("an address below the base", "by pointers", "the record");
     describe(descriptor, &job, base - 4);
     row refused = {.status = 0x7d};
     expect(wanted, &refused, 0);
-    if (kazovuni_submit_at(base, bytes, sizeof bytes, descriptor, 0, record) != KAZOVUNI_OK ||
+    if (kazovuni_submit_pointers(base, bytes, sizeof bytes, descriptor, 0, record) != KAZOVUNI_OK ||
         memcmp(record, wanted, 32) != 0)
         complain("a range over the base", "by pointers", "the record");
 }
@@ -284,9 +379,11 @@ static void try_fields(void)
 int main(void)
 {
     for (size_t i = 0; i < sizeof rows / sizeof rows[0]; i++)
-        for (enum form form = BY_OFFSETS; form <= BY_POINTERS; form++)
+        for (enum form form = BY_OFFSETS; form <= AS_A_LIST_BY_HANDLE; form++)
             try_row(&rows[i], form);
     try_codes();
+    try_handle();
+    try_fault();
     try_below();
     try_looks();
     try_list();

@@ -1,1 +1,4 @@
+pub mod AsBox
 pub mod PageLemmas
+pub mod Steps
+pub mod Walks

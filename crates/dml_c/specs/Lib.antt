@@ -1,2 +1,4 @@
 pub mod Bases
+pub mod Held
+pub mod State
 pub mod Values

@@ -1,26 +1,18 @@
 //! Jobs over the caller's own pages.
-ghost use Rattle.std.specs.Prelude.{◌≡◌, ◌≢◌, ◌↔◌, ◌≤◌, length, map};
+ghost use Rattle.std.specs.Prelude.{◌≡◌, ◌≢◌, ◌↔◌, ◌≤◌, IfSome, IsSome, IsTrue, MatchOption, None, length, map};
+ghost use Rattle.std.specs.List.{All};
 ghost use Rattle.dml_types.specs.Step.{memory_after, records_of, step};
 ghost use Rattle.dml_desc.specs.Descriptor.{bytes_of_record, decoded};
 ghost use Rattle.dml_c.specs.Bases as bases;
 ghost use Rattle.dml_effect.specs.Pages.{IsPages, all_present};
+ghost use Rattle.dml_effect.specs.Straight.{TakesStaging};
 
 use crate::bases::{answered_at, counted};
+use crate::codes::{DONE, NO_MEMORY, NOT_AS_MANY, NOT_PAGES};
 use dml_arena::Arena;
-use dml_effect::{are_pages, submit_over};
+use dml_effect::{are_pages, submit_over, submit_straight_over, takes_staging};
+use dml_types::{Job, Record};
 use std::alloc::Global;
-
-/// What a call over the caller's pages answers: the job, or the list, is carried out, refused jobs included.
-const DONE: u8 = 0;
-
-/// The bytes are not 1 to 4,096 whole pages; nothing is changed.
-const NOT_PAGES: u8 = 1;
-
-/// There is no memory for the staging; nothing is changed.
-const NO_MEMORY: u8 = 2;
-
-/// There are not as many records as descriptors; nothing is changed.
-const NOT_AS_MANY: u8 = 3;
 
 /// Carries out the job of a descriptor over the caller's bytes, whose addresses begin at 0 and whose pages are all
 /// present, and writes its completion record.
@@ -34,6 +26,7 @@ pub extern "C" fn kazovuni_submit_over(
 ) -> u8
     ensures codes { result ≤ 2 }
     ensures not_pages { (result ≢ 1) ↔ IsPages bytes.old }
+    ensures no_memory { result ≡ 2 → TakesStaging (decoded descriptor.now) staging }
     ensures content { result ≡ 0 → bytes.new ≡ (step (all_present bytes.old) (decoded descriptor.now) staging).0.bytes }
     ensures record { result ≡ 0 → answer.new ≡ bytes_of_record (step (all_present bytes.old) (decoded descriptor.now) staging).1 }
     ensures unchanged { result ≢ 0 → (bytes.new ≡ bytes.old) × (answer.new ≡ answer.old) }
@@ -41,15 +34,10 @@ pub extern "C" fn kazovuni_submit_over(
     if !are_pages(bytes) {
         return NOT_PAGES;
     }
-    let Ok(mut arena) = Arena::new(alloc, staging) else {
+    let Some(record) = submit_alone(alloc, bytes, &dml_desc::decode(descriptor), staging) else {
         return NO_MEMORY;
     };
-    *answer = dml_desc::record_bytes(&submit_over(
-        bytes,
-        &mut arena,
-        &dml_desc::decode(descriptor),
-        staging,
-    ));
+    *answer = dml_desc::record_bytes(&record);
     DONE
 }
 
@@ -66,6 +54,7 @@ pub extern "C" fn kazovuni_submit_list_over(
     ensures codes { result ≤ 3 }
     ensures not_pages { (result ≢ 1) ↔ IsPages bytes.old }
     ensures not_as_many { IsPages bytes.old → ((result ≢ 3) ↔ (length answers.old ≡ length descriptors.now)) }
+    ensures no_memory { result ≡ 2 → All (λ d. TakesStaging (decoded d) staging → ⊥) descriptors.now → ⊥ }
     ensures content { result ≡ 0 → bytes.new ≡ (memory_after (all_present bytes.old) (map decoded descriptors.now) staging).bytes }
     ensures records { result ≡ 0 → answers.new ≡ map bytes_of_record (records_of (all_present bytes.old) (map decoded descriptors.now) staging) }
     ensures unchanged { result ≢ 0 → (bytes.new ≡ bytes.old) × (answers.new ≡ answers.old) }
@@ -76,37 +65,79 @@ pub extern "C" fn kazovuni_submit_list_over(
     if descriptors.len() != answers.len() {
         return NOT_AS_MANY;
     }
-    let Ok(mut arena) = Arena::new(alloc, staging) else {
-        return NO_MEMORY;
-    };
+    let mut arena = None;
+    if !go_straight(descriptors, staging) {
+        let Ok(made) = Arena::new(alloc, staging) else {
+            return NO_MEMORY;
+        };
+        arena = Some(made);
+    }
     submit_all(bytes, &mut arena, descriptors, staging, answers);
     DONE
 }
 
-/// The same behind its tests.
+/// The same behind its tests: with an arena, or none where no job takes staging.
 fn submit_all(
     bytes: &mut [u8],
-    arena: &mut Arena,
+    arena: &mut Option<Arena>,
     descriptors: &[[u8; 64]],
     staging: u32,
     answers: &mut [[u8; 32]],
 )
     requires pages { IsPages bytes.old }
-    requires staging { staging ≤ arena.old.size }
+    requires staging { MatchOption arena.old (All (λ d. TakesStaging (decoded d) staging → ⊥) descriptors.now) (λ a. staging ≤ a.size) }
     requires as_many { length answers.old ≡ length descriptors.now }
     ensures content { bytes.new ≡ (memory_after (all_present bytes.old) (map decoded descriptors.now) staging).bytes }
     ensures records { answers.new ≡ map bytes_of_record (records_of (all_present bytes.old) (map decoded descriptors.now) staging) }
 {
     for i in 0..descriptors.len() {
         let job = dml_desc::decode(&descriptors[i]);
-        answers[i] = dml_desc::record_bytes(&submit_over(bytes, arena, &job, staging));
+        answers[i] = dml_desc::record_bytes(&submit_in(bytes, arena, &job, staging));
     }
+}
+
+/// Whether no job of these descriptors takes staging.
+fn go_straight(descriptors: &[[u8; 64]], staging: u32) -> bool
+    ensures { IsTrue result ↔ All (λ d. TakesStaging (decoded d) staging → ⊥) descriptors.now }
+{
+    descriptors.iter().all(|descriptor| !takes_staging(&dml_desc::decode(descriptor), staging))
+}
+
+/// Carries out a job in an arena, or without one where it takes no staging.
+fn submit_in(bytes: &mut [u8], arena: &mut Option<Arena>, job: &Job, staging: u32) -> Record
+    requires pages { IsPages bytes.old }
+    requires staging { MatchOption arena.old (TakesStaging job.now staging → ⊥) (λ a. staging ≤ a.size) }
+    ensures content { bytes.new ≡ (step (all_present bytes.old) job.now staging).0.bytes }
+    ensures answer { result ≡ (step (all_present bytes.old) job.now staging).1 }
+    ensures arena { arena.new ≡ arena.old }
+{
+    match arena {
+        Some(arena) => submit_over(bytes, arena, job, staging),
+        None => submit_straight_over(bytes, job, staging),
+    }
+}
+
+/// Carries out a job in an arena of its own, which is taken only where the job takes staging; `None` where there is no
+/// memory for it.
+fn submit_alone(alloc: Global, bytes: &mut [u8], job: &Job, staging: u32) -> Option<Record>
+    requires pages { IsPages bytes.old }
+    ensures content { IsSome result → bytes.new ≡ (step (all_present bytes.old) job.now staging).0.bytes }
+    ensures answer { IfSome result (λ answer. answer ≡ (step (all_present bytes.old) job.now staging).1) }
+    ensures no_memory { result ≡ None → TakesStaging job.now staging × (bytes.new ≡ bytes.old) }
+{
+    if !takes_staging(job, staging) {
+        return Some(submit_straight_over(bytes, job, staging));
+    }
+    let Ok(mut arena) = Arena::new(alloc, dml_desc::need(job) as u32) else {
+        return None;
+    };
+    Some(submit_over(bytes, &mut arena, job, staging))
 }
 
 /// As `kazovuni_submit_over`, where the descriptor's addresses are the caller's own, and the pages begin at `base`.
 /// A fault is answered with the caller's address. An address below the base is past the end of the pages.
 #[unsafe(no_mangle)]
-pub extern "C" fn kazovuni_submit_at(
+pub extern "C" fn kazovuni_submit_pointers(
     alloc: Global,
     base: u64,
     bytes: &mut [u8],
@@ -116,6 +147,7 @@ pub extern "C" fn kazovuni_submit_at(
 ) -> u8
     ensures codes { result ≤ 2 }
     ensures not_pages { (result ≢ 1) ↔ IsPages bytes.old }
+    ensures no_memory { result ≡ 2 → TakesStaging (bases.counted base (decoded descriptor.now)) staging }
     ensures content { result ≡ 0 → bytes.new ≡ (step (all_present bytes.old) (bases.counted base (decoded descriptor.now)) staging).0.bytes }
     ensures record { result ≡ 0 → answer.new
         ≡ bytes_of_record (bases.answered_at base (step (all_present bytes.old) (bases.counted base (decoded descriptor.now)) staging).1) }
@@ -124,13 +156,10 @@ pub extern "C" fn kazovuni_submit_at(
     if !are_pages(bytes) {
         return NOT_PAGES;
     }
-    let Ok(mut arena) = Arena::new(alloc, staging) else {
+    let job = counted(base, &dml_desc::decode(descriptor));
+    let Some(record) = submit_alone(alloc, bytes, &job, staging) else {
         return NO_MEMORY;
     };
-    let job = counted(base, &dml_desc::decode(descriptor));
-    *answer = dml_desc::record_bytes(&answered_at(
-        base,
-        &submit_over(bytes, &mut arena, &job, staging),
-    ));
+    *answer = dml_desc::record_bytes(&answered_at(base, &record));
     DONE
 }

@@ -5,11 +5,21 @@
 #![tactic(auto)]
 
 mod bases;
+mod codes;
+mod engines;
+mod handles;
+mod holding;
 mod lending;
 mod looking;
+mod parts;
 mod values;
 
-pub use lending::{kazovuni_submit_at, kazovuni_submit_list_over, kazovuni_submit_over};
+pub use handles::CEngine;
+pub use holding::{
+    kazovuni_bring, kazovuni_create, kazovuni_free, kazovuni_read, kazovuni_submit,
+    kazovuni_submit_list, kazovuni_write,
+};
+pub use lending::{kazovuni_submit_list_over, kazovuni_submit_over, kazovuni_submit_pointers};
 pub use looking::{
     kazovuni_check, kazovuni_decode, kazovuni_encode, kazovuni_need, kazovuni_record_decode,
     kazovuni_record_encode, kazovuni_rest, kazovuni_version,

@@ -1,0 +1,31 @@
+//! What a call answers. Whatever is not [`DONE`], nothing is changed.
+
+/// The call did what it is for; a job, or the list, is carried out, refused jobs included.
+pub const DONE: u8 = 0;
+
+/// The bytes are not 1 to 4,096 whole pages.
+pub const NOT_PAGES: u8 = 1;
+
+/// There is no memory.
+pub const NO_MEMORY: u8 = 2;
+
+/// There are not as many records as descriptors.
+pub const NOT_AS_MANY: u8 = 3;
+
+/// The handle has no engine.
+pub const NO_ENGINE: u8 = 4;
+
+/// The handle has an engine already.
+pub const HAS_ENGINE: u8 = 5;
+
+/// An engine has 1 to 4,096 pages.
+pub const BAD_PAGES: u8 = 6;
+
+/// An engine has at most 16,777,216 bytes of staging.
+pub const BAD_SETTINGS: u8 = 7;
+
+/// The engine has no page of this number.
+pub const NO_SUCH_PAGE: u8 = 8;
+
+/// A byte of the range is absent.
+pub const ABSENT: u8 = 9;

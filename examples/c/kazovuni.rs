@@ -1,0 +1,139 @@
+//! What the examples in Rust need of kazovuni.h: its structs and functions, and safe words for them.
+//!
+//! A slice or a reference of Rust is all that a call asks of its pointers, so each call is safe behind these types.
+#![allow(dead_code)] // each example uses a part of it
+
+use std::ffi::c_void;
+
+pub const PAGE: usize = 4096;
+pub type Descriptor = [u8; 64];
+pub type RecordBytes = [u8; 32];
+
+pub const MOVE: u8 = 0x03;
+pub const COMPARE: u8 = 0x05;
+pub const CREATE_DELTA: u8 = 0x07;
+pub const APPLY_DELTA: u8 = 0x08;
+
+/// `kazovuni_job`
+#[repr(C)]
+#[derive(Clone, Copy, Debug, Default)]
+pub struct Job {
+    pub opcode: u8,
+    pub expected: u8,
+    pub flags: u32,
+    pub source: u64,
+    pub target: u64,
+    pub extra: u64,
+    pub size: u32,
+    pub delta_size: u32,
+}
+
+/// `kazovuni_record`
+#[repr(C)]
+#[derive(Clone, Copy, Debug, Default)]
+pub struct Record {
+    pub status: u8,
+    pub result: u8,
+    pub completed: u32,
+    pub fault: u64,
+    pub delta_size: u32,
+}
+
+/// `kazovuni_engine`
+#[repr(C)]
+struct Handle {
+    engine: *mut c_void,
+    is_open: bool,
+}
+
+#[link(name = "kazovuni")]
+extern "C" {
+    fn kazovuni_need(descriptor: *const Descriptor) -> u64;
+    fn kazovuni_encode(job: *const Job, descriptor: *mut Descriptor) -> bool;
+    fn kazovuni_record_decode(bytes: *const RecordBytes, record: *mut Record) -> bool;
+    fn kazovuni_rest(descriptor: *const Descriptor, bytes: *const RecordBytes, left: *mut Descriptor) -> bool;
+    fn kazovuni_submit_over(
+        bytes: *mut u8,
+        length: usize,
+        descriptor: *const Descriptor,
+        staging: u32,
+        record: *mut RecordBytes,
+    ) -> u8;
+    fn kazovuni_create(handle: *mut Handle, pages: u32, staging: u32) -> u8;
+    fn kazovuni_free(handle: *mut Handle);
+    fn kazovuni_bring(handle: *mut Handle, page: u32, bytes: *const [u8; PAGE]) -> u8;
+    fn kazovuni_read(handle: *mut Handle, address: u64, bytes: *mut u8, length: usize) -> u8;
+    fn kazovuni_submit(handle: *mut Handle, descriptor: *const Descriptor, record: *mut RecordBytes) -> u8;
+}
+
+/// The code of a call that did nothing, as kazovuni.h names them.
+#[derive(Debug)]
+pub struct Refused(pub u8);
+
+fn done<T>(value: T, answer: u8) -> Result<T, Refused> {
+    if answer == 0 {
+        Ok(value)
+    } else {
+        Err(Refused(answer))
+    }
+}
+
+/// The descriptor of a job; none where its flags do not fit.
+pub fn encode(job: &Job) -> Option<Descriptor> {
+    let mut descriptor = [0; 64];
+    unsafe { kazovuni_encode(job, &mut descriptor) }.then_some(descriptor)
+}
+
+/// The fields of a completion record; none where its status is none.
+pub fn record_of(bytes: &RecordBytes) -> Option<Record> {
+    let mut record = Record::default();
+    unsafe { kazovuni_record_decode(bytes, &mut record) }.then_some(record)
+}
+
+/// What is left of a job after a page fault; none where nothing is.
+pub fn rest(descriptor: &Descriptor, bytes: &RecordBytes) -> Option<Descriptor> {
+    let mut left = [0; 64];
+    unsafe { kazovuni_rest(descriptor, bytes, &mut left) }.then_some(left)
+}
+
+/// Carries a job out over whole pages, with as much staging as it needs. Addresses are places in the slice.
+pub fn submit_over(bytes: &mut [u8], descriptor: &Descriptor) -> Result<RecordBytes, Refused> {
+    let mut record = [0; 32];
+    let answer = unsafe {
+        let staging = kazovuni_need(descriptor) as u32;
+        kazovuni_submit_over(bytes.as_mut_ptr(), bytes.len(), descriptor, staging, &mut record)
+    };
+    done(record, answer)
+}
+
+/// An engine with an image of its own, whose pages are present or absent. The handle may not be copied, so it stands in
+/// a box; it is freed with the engine.
+pub struct Engine(Box<Handle>);
+
+impl Engine {
+    pub fn new(pages: u32, staging: u32) -> Result<Engine, Refused> {
+        let mut handle = Box::new(Handle { engine: std::ptr::null_mut(), is_open: false });
+        let answer = unsafe { kazovuni_create(&mut *handle, pages, staging) };
+        done(Engine(handle), answer)
+    }
+
+    pub fn bring(&mut self, page: u32, bytes: &[u8; PAGE]) -> Result<(), Refused> {
+        done((), unsafe { kazovuni_bring(&mut *self.0, page, bytes) })
+    }
+
+    pub fn read(&mut self, address: u64, bytes: &mut [u8]) -> Result<(), Refused> {
+        done((), unsafe { kazovuni_read(&mut *self.0, address, bytes.as_mut_ptr(), bytes.len()) })
+    }
+
+    pub fn submit(&mut self, descriptor: &Descriptor) -> Result<RecordBytes, Refused> {
+        let mut record = [0; 32];
+        let answer = unsafe { kazovuni_submit(&mut *self.0, descriptor, &mut record) };
+        done(record, answer)
+    }
+}
+
+impl Drop for Engine {
+    fn drop(&mut self) {
+        unsafe { kazovuni_free(&mut *self.0) }
+    }
+}

@@ -1,0 +1,382 @@
+/*
+ * The worked rows of tests/c/table.rows through kazovuni.h, in five forms: over pages of an engine's own, job by job
+ * and as lists of jobs; and over lent memory, job by job, as lists, and by pointers. Behind each call the records and
+ * every byte have to be the row's. Lent memory has all of its pages present, so there a row is run whose present pages
+ * are its first ones; the pages before and behind them are not mapped.
+ *
+ * Usage: table FILE
+ */
+#define _GNU_SOURCE
+#include "kazovuni.h"
+
+#include <inttypes.h>
+#include <stdio.h>
+#include <stdlib.h>
+#include <string.h>
+#include <sys/mman.h>
+
+enum { PAGE = KAZOVUNI_PAGE_BYTES, MOST_LINES = 2000, MOST_JOBS = 16 };
+enum { NO_OP = 0x00, FILL = 0x04, COMPARE_PATTERN = 0x06, CREATE = 0x07, DUALCAST = 0x09 };
+
+static int failed;
+
+static void complain(size_t number, const char *form, const char *what)
+{
+    fprintf(stderr, "table: line %zu, %s: %s\n", number, form, what);
+    failed = 1;
+}
+
+static void give_up(size_t number, const char *why)
+{
+    fprintf(stderr, "table: line %zu: %s\n", number, why);
+    exit(2);
+}
+
+/* ---- the lines */
+
+enum word { ROW, MEMORY, BRING, ZEROS, POKE, JOB, NEED, RECORD, LEFT, REST, WORDS };
+
+/* Each word, how many numbers it has, and how many bytes at most behind them. */
+static const struct {
+    const char *name;
+    size_t numbers, bytes;
+} words[WORDS] = {
+    [ROW] = {"row", 0, 0},      [MEMORY] = {"memory", 2, 0}, [BRING] = {"page", 1, 64}, [ZEROS] = {"zeros", 2, 0},
+    [POKE] = {"poke", 1, 64},   [JOB] = {"job", 0, 64},      [NEED] = {"need", 1, 0},   [RECORD] = {"record", 0, 32},
+    [LEFT] = {"left", 1, 64},   [REST] = {"rest", 0, 64},
+};
+
+typedef struct line {
+    size_t number;
+    enum word word;
+    uint64_t numbers[2];
+    size_t count;
+    uint8_t bytes[64];
+} line;
+
+static line lines[MOST_LINES];
+static size_t line_count;
+
+static void add_bytes(line *line, const char *text)
+{
+    unsigned byte;
+    int length;
+    while (sscanf(text, " %2x%n", &byte, &length) == 1) {
+        if (line->count == words[line->word].bytes)
+            give_up(line->number, "too many bytes");
+        line->bytes[line->count++] = (uint8_t)byte;
+        text += length;
+    }
+    if (text[strspn(text, " \n")] != '\0')
+        give_up(line->number, "no hexadecimal text");
+}
+
+static void add_line(size_t number, char *text)
+{
+    size_t length = strcspn(text, " \n");
+    line *line = &lines[line_count++];
+    if (line_count == MOST_LINES)
+        give_up(number, "too many lines");
+    line->number = number;
+    while (line->word < WORDS && (strlen(words[line->word].name) != length ||
+                                  strncmp(words[line->word].name, text, length) != 0))
+        line->word++;
+    if (line->word == WORDS)
+        give_up(number, "unknown word");
+    text += length;
+    for (size_t i = 0; i < words[line->word].numbers; i++)
+        line->numbers[i] = strtoull(text, &text, 10);
+    text += strspn(text, " ");
+    if (line->word != ROW && !(line->word == REST && strcmp(text, "none\n") == 0))
+        add_bytes(line, text);
+}
+
+static void read_lines(const char *name)
+{
+    char text[256];
+    FILE *file = fopen(name, "r");
+    if (!file)
+        give_up(0, "no such file");
+    for (size_t number = 1; fgets(text, sizeof text, file); number++) {
+        if (text[0] == ' ' && line_count > 0)
+            add_bytes(&lines[line_count - 1], text);
+        else if (text[0] != '#' && text[0] != '\n')
+            add_line(number, text);
+    }
+    fclose(file);
+}
+
+/* ---- a memory in one of the forms, and what it has to hold */
+
+enum form { OWN, OWN_LIST, LENT, LENT_LIST, POINTERS, FORMS };
+static const char *const form_names[FORMS] = {
+    "on own pages", "as a list on own pages", "over lent memory", "as a list over lent memory", "by pointers"};
+
+typedef struct memory {
+    enum form form;
+    uint32_t pages, staging;
+    kazovuni_engine engine;
+    uint8_t *lent, *wanted; /* as many pages, and one that is not mapped before and behind */
+    size_t length;          /* of the lent bytes that are mapped */
+    bool present[KAZOVUNI_MOST_PAGES];
+} memory;
+
+static uint8_t *map(size_t pages, int protection)
+{
+    uint8_t *bytes = mmap(NULL, (pages + 2) * PAGE, PROT_NONE, MAP_PRIVATE | MAP_ANONYMOUS | MAP_NORESERVE, -1, 0);
+    if (bytes == MAP_FAILED || mprotect(bytes + PAGE, pages * PAGE, protection) != 0)
+        give_up(0, "no memory");
+    return bytes + PAGE;
+}
+
+static void open_memory(memory *memory, const line *line, enum form form)
+{
+    memset(memory, 0, sizeof *memory);
+    memory->form = form;
+    memory->pages = (uint32_t)line->numbers[0];
+    memory->staging = (uint32_t)line->numbers[1];
+    memory->lent = map(memory->pages, PROT_NONE);
+    memory->wanted = map(memory->pages, PROT_READ | PROT_WRITE);
+    if (form <= OWN_LIST && kazovuni_create(&memory->engine, memory->pages, memory->staging) != KAZOVUNI_OK)
+        complain(line->number, form_names[form], "no engine");
+}
+
+static void close_memory(memory *memory)
+{
+    kazovuni_free(&memory->engine);
+    munmap(memory->lent - PAGE, ((size_t)memory->pages + 2) * PAGE);
+    munmap(memory->wanted - PAGE, ((size_t)memory->pages + 2) * PAGE);
+}
+
+static void bring(memory *memory, const line *line, uint64_t page)
+{
+    uint8_t *wanted = memory->wanted + page * PAGE, *lent = memory->lent + page * PAGE;
+    memset(wanted, 0, PAGE);
+    memcpy(wanted, line->bytes, line->count);
+    memory->present[page] = true;
+    if (memory->form <= OWN_LIST) {
+        if (kazovuni_bring(&memory->engine, (uint32_t)page, wanted) != KAZOVUNI_OK)
+            complain(line->number, form_names[memory->form], "the page is not brought");
+        return;
+    }
+    if (mprotect(lent, PAGE, PROT_READ | PROT_WRITE) != 0)
+        give_up(line->number, "no memory");
+    memcpy(lent, wanted, PAGE);
+    memory->length = page * PAGE < memory->length ? memory->length : (page + 1) * PAGE;
+}
+
+static void poke(memory *memory, const line *line)
+{
+    memcpy(memory->wanted + line->numbers[0], line->bytes, line->count);
+    if (memory->form > OWN_LIST)
+        memcpy(memory->lent + line->numbers[0], line->bytes, line->count);
+    else if (kazovuni_write(&memory->engine, line->numbers[0], line->bytes, line->count) != KAZOVUNI_OK)
+        complain(line->number, form_names[memory->form], "nothing is written");
+}
+
+/* Whether every byte is the wanted one, and every other page absent. */
+static bool is_as_wanted(memory *memory)
+{
+    if (memory->form > OWN_LIST)
+        return memcmp(memory->lent, memory->wanted, memory->length) == 0;
+    for (size_t page = 0; page < memory->pages; page++) {
+        uint8_t bytes[PAGE];
+        size_t length = memory->present[page] ? PAGE : 1;
+        uint8_t answer = kazovuni_read(&memory->engine, page * PAGE, bytes, length);
+        if (answer != (memory->present[page] ? KAZOVUNI_OK : KAZOVUNI_ABSENT))
+            return false;
+        if (memory->present[page] && memcmp(bytes, memory->wanted + page * PAGE, PAGE) != 0)
+            return false;
+    }
+    return true;
+}
+
+/* ---- jobs */
+
+typedef struct jobs {
+    size_t count, numbers[MOST_JOBS];
+    uint8_t descriptors[MOST_JOBS][64], wanted[MOST_JOBS][32], records[MOST_JOBS][32];
+} jobs;
+
+static void add_to(uint8_t *bytes, uint64_t number)
+{
+    for (int i = 0; i < 8; i++) {
+        number += bytes[i];
+        bytes[i] = (uint8_t)number;
+        number >>= 8;
+    }
+}
+
+static bool is_fault(const uint8_t record[32])
+{
+    return record[0] == 0x03 || record[0] == 0x83;
+}
+
+/* Puts the base on the addresses of a descriptor, and on the address of a page fault. */
+static void lay_at(uint64_t base, uint8_t descriptor[64], uint8_t record[32])
+{
+    uint8_t opcode = descriptor[7];
+    if (opcode != NO_OP && opcode != FILL)
+        add_to(descriptor + 16, base);
+    if (opcode != NO_OP && opcode != COMPARE_PATTERN)
+        add_to(descriptor + 24, base);
+    if (opcode == CREATE || opcode == DUALCAST)
+        add_to(descriptor + 40, base);
+    if (is_fault(record))
+        add_to(record + 8, base);
+}
+
+static uint8_t submit(memory *memory, jobs *jobs)
+{
+    const uint8_t(*descriptors)[64] = (const uint8_t(*)[64])jobs->descriptors;
+    uint64_t base = (uintptr_t)memory->lent;
+    switch (memory->form) {
+    case OWN:
+        return kazovuni_submit(&memory->engine, descriptors[0], jobs->records[0]);
+    case OWN_LIST:
+        return kazovuni_submit_list(&memory->engine, descriptors, jobs->count, jobs->records, jobs->count);
+    case LENT:
+        return kazovuni_submit_over(
+            memory->lent, memory->length, descriptors[0], memory->staging, jobs->records[0]);
+    case LENT_LIST:
+        return kazovuni_submit_list_over(
+            memory->lent, memory->length, descriptors, jobs->count, memory->staging, jobs->records, jobs->count);
+    default:
+        lay_at(base, jobs->descriptors[0], jobs->wanted[0]);
+        return kazovuni_submit_pointers(
+            base, memory->lent, memory->length, descriptors[0], memory->staging, jobs->records[0]);
+    }
+}
+
+/* What looks at a descriptor and at a record alone. */
+static void try_looks(const jobs *jobs, const line *about, const line *end, uint32_t staging)
+{
+    const uint8_t *descriptor = jobs->descriptors[0], *record = jobs->wanted[0];
+    uint8_t again[64], left[64];
+    kazovuni_job job = kazovuni_decode(descriptor);
+    kazovuni_record fields;
+    bool is_refused = record[0] >= 0x10 && record[0] != 0x83;
+    if (kazovuni_check(descriptor, staging) != (is_refused ? record[0] : 0))
+        complain(jobs->numbers[0], "checked", "the status");
+    if (!kazovuni_encode(&job, again) || memcmp(again, descriptor, 64) != 0)
+        complain(jobs->numbers[0], "decoded and encoded", "the descriptor");
+    if (!kazovuni_record_decode(record, &fields) || !kazovuni_record_encode(&fields, again) ||
+        memcmp(again, record, 32) != 0)
+        complain(jobs->numbers[0], "its record decoded and encoded", "the bytes");
+    for (; about < end && about->word != JOB; about++) {
+        if (about->word == NEED && kazovuni_need(descriptor) != about->numbers[0])
+            complain(about->number, "asked", "the need");
+        if (about->word != REST)
+            continue;
+        if (kazovuni_rest(descriptor, record, left) != (about->count > 0) || memcmp(left, about->bytes, about->count))
+            complain(about->number, "after its record", "the rest");
+    }
+}
+
+/* Takes the jobs from a line on, of a list all that follow one another; answers the line behind them. */
+static const line *take_jobs(jobs *jobs, memory *memory, const line *at, const line *end)
+{
+    size_t most = memory->form == OWN_LIST || memory->form == LENT_LIST ? MOST_JOBS : 1;
+    memset(jobs, 0, sizeof *jobs);
+    memset(jobs->records, 0xcc, sizeof jobs->records);
+    for (; at < end && at->word >= JOB; at++) {
+        if (at->word == JOB) {
+            if (jobs->count == most)
+                break;
+            jobs->numbers[jobs->count] = at->number;
+            memcpy(jobs->descriptors[jobs->count++], at->bytes, 64);
+        }
+        if (at->word == RECORD)
+            memcpy(jobs->wanted[jobs->count - 1], at->bytes, 32);
+        if (at->word == LEFT)
+            memcpy(memory->wanted + at->numbers[0], at->bytes, at->count);
+    }
+    return at;
+}
+
+static const line *run_jobs(memory *memory, const line *at, const line *end)
+{
+    static jobs jobs;
+    const line *behind = take_jobs(&jobs, memory, at, end);
+    const char *form = form_names[memory->form];
+    if (memory->form == OWN)
+        try_looks(&jobs, at + 1, end, memory->staging);
+    if (submit(memory, &jobs) != KAZOVUNI_OK)
+        complain(at->number, form, "the answer");
+    for (size_t i = 0; i < jobs.count; i++)
+        if (memcmp(jobs.records[i], jobs.wanted[i], 32) != 0)
+            complain(jobs.numbers[i], form, "the record");
+    if (!is_as_wanted(memory))
+        complain(at->number, form, "the bytes");
+    return behind;
+}
+
+/* ---- rows */
+
+/* Whether the present pages are the row's first ones wherever it submits a job. */
+static bool fits_lent(const line *at, const line *end)
+{
+    uint64_t present = 0;
+    for (; at < end; at++) {
+        uint64_t last = at->word == ZEROS ? at->numbers[1] : at->numbers[0];
+        if (at->word == BRING || at->word == ZEROS) {
+            if (at->numbers[0] > present)
+                return false;
+            present = last < present ? present : last + 1;
+        }
+        if (at->word == JOB && present == 0)
+            return false;
+    }
+    return true;
+}
+
+static void run_row(const line *row, const line *end, enum form form)
+{
+    static memory memory;
+    const line *at = row + 2;
+    if (end - row < 2 || row[1].word != MEMORY)
+        give_up(row->number, "the row has no memory");
+    open_memory(&memory, row + 1, form);
+    while (at < end) {
+        switch (at->word) {
+        case BRING:
+            bring(&memory, at, at->numbers[0]);
+            break;
+        case ZEROS:
+            for (uint64_t page = at->numbers[0]; page <= at->numbers[1]; page++)
+                bring(&memory, at, page);
+            break;
+        case POKE:
+            poke(&memory, at);
+            break;
+        case JOB:
+            at = run_jobs(&memory, at, end);
+            continue;
+        default:
+            give_up(at->number, "this word has no place here");
+        }
+        at++;
+    }
+    close_memory(&memory);
+}
+
+int main(int count, char **arguments)
+{
+    size_t rows = 0, lent = 0, jobs = 0;
+    if (count != 2)
+        give_up(0, "usage: table FILE");
+    read_lines(arguments[1]);
+    for (size_t from = 0, to; from < line_count; from = to) {
+        for (to = from + 1; to < line_count && lines[to].word != ROW; to++)
+            jobs += lines[to].word == JOB;
+        bool is_lent = fits_lent(lines + from, lines + to);
+        for (enum form form = OWN; form < (is_lent ? FORMS : LENT); form++)
+            run_row(lines + from, lines + to, form);
+        rows++;
+        lent += is_lent;
+    }
+    if (failed)
+        return 1;
+    printf("table: %zu rows of %zu jobs on own pages, %zu of the rows over lent memory\n", rows, jobs, lent);
+    return 0;
+}

@@ -1,0 +1,161 @@
+/*
+ * The worked rows of calls that are no jobs, through kazovuni.h: handles with and without an engine, pages and bytes at
+ * the edges of an image, counts that differ, and lists that are longer than one wave or one list of the program takes.
+ */
+#include "kazovuni.h"
+
+#include <stdio.h>
+#include <stdlib.h>
+#include <string.h>
+
+enum { PAGE = KAZOVUNI_PAGE_BYTES, LONG_LIST = 1025 };
+
+static int failed;
+
+#define EXPECT(condition) expect((condition), #condition, __LINE__)
+
+static void expect(bool holds, const char *condition, int line)
+{
+    if (holds)
+        return;
+    fprintf(stderr, "table_calls: line %d: not so: %s\n", line, condition);
+    failed = 1;
+}
+
+static bool is_zeroed(const kazovuni_engine *engine)
+{
+    return engine->engine == NULL && !engine->is_open;
+}
+
+static void put(uint8_t *bytes, uint64_t number, int count)
+{
+    for (int i = 0; i < count; i++)
+        bytes[i] = (uint8_t)(number >> (8 * i));
+}
+
+static void try_create(void)
+{
+    kazovuni_engine engine = {0};
+    EXPECT(kazovuni_create(&engine, 0, 0) == KAZOVUNI_BAD_PAGES && is_zeroed(&engine));
+    EXPECT(kazovuni_create(&engine, 4097, 0) == KAZOVUNI_BAD_PAGES && is_zeroed(&engine));
+    EXPECT(kazovuni_create(&engine, 0, KAZOVUNI_MOST_STAGING + 1) == KAZOVUNI_BAD_PAGES && is_zeroed(&engine));
+    EXPECT(kazovuni_create(&engine, 1, KAZOVUNI_MOST_STAGING + 1) == KAZOVUNI_BAD_SETTINGS && is_zeroed(&engine));
+    EXPECT(kazovuni_create(&engine, 4096, KAZOVUNI_MOST_STAGING) == KAZOVUNI_OK && engine.is_open);
+    EXPECT(kazovuni_create(&engine, 1, 0) == KAZOVUNI_HAS_ENGINE);
+    EXPECT(kazovuni_create(&engine, 0, 0) == KAZOVUNI_HAS_ENGINE && engine.is_open);
+    kazovuni_free(&engine);
+    EXPECT(is_zeroed(&engine));
+    kazovuni_free(&engine); /* twice is harmless */
+    EXPECT(kazovuni_create(&engine, 1, 0) == KAZOVUNI_OK); /* and the handle can be used again */
+    kazovuni_free(&engine);
+}
+
+/* A handle that has no engine, zeroed or freed: nothing is written. */
+static void try_no_engine(kazovuni_engine *engine)
+{
+    static uint8_t page[PAGE], descriptors[1][64], records[1][32];
+    uint8_t byte = 7;
+    const uint8_t(*list)[64] = (const uint8_t(*)[64])descriptors;
+    memset(records, 0xcc, sizeof records);
+    EXPECT(kazovuni_bring(engine, 0, page) == KAZOVUNI_NO_ENGINE);
+    EXPECT(kazovuni_write(engine, 0, &byte, 1) == KAZOVUNI_NO_ENGINE);
+    EXPECT(kazovuni_write(engine, 0, NULL, 0) == KAZOVUNI_NO_ENGINE);
+    EXPECT(kazovuni_read(engine, 0, &byte, 1) == KAZOVUNI_NO_ENGINE && byte == 7);
+    EXPECT(kazovuni_submit(engine, list[0], records[0]) == KAZOVUNI_NO_ENGINE);
+    EXPECT(kazovuni_submit_list(engine, list, 1, records, 1) == KAZOVUNI_NO_ENGINE);
+    EXPECT(kazovuni_submit_list(engine, list, 1, records, 0) == KAZOVUNI_NO_ENGINE);
+    EXPECT(kazovuni_submit_list(engine, NULL, 0, NULL, 0) == KAZOVUNI_NO_ENGINE);
+    EXPECT(records[0][0] == 0xcc && is_zeroed(engine));
+}
+
+/* The last page of the largest image, and the addresses around it. */
+static void try_last_page(void)
+{
+    static uint8_t page[PAGE], bytes[PAGE + 1];
+    kazovuni_engine engine = {0};
+    memset(page, 0x5a, PAGE);
+    EXPECT(kazovuni_create(&engine, 4096, 0) == KAZOVUNI_OK);
+    EXPECT(kazovuni_bring(&engine, 4095, page) == KAZOVUNI_OK);
+    EXPECT(kazovuni_bring(&engine, 4096, page) == KAZOVUNI_NO_SUCH_PAGE);
+    EXPECT(kazovuni_bring(&engine, UINT32_MAX, page) == KAZOVUNI_NO_SUCH_PAGE);
+    EXPECT(kazovuni_read(&engine, 16777215, bytes, 1) == KAZOVUNI_OK && bytes[0] == 0x5a);
+    EXPECT(kazovuni_read(&engine, 16773120, bytes, PAGE) == KAZOVUNI_OK && memcmp(bytes, page, PAGE) == 0);
+    memset(bytes, 0, sizeof bytes);
+    EXPECT(kazovuni_read(&engine, 16773119, bytes, 1) == KAZOVUNI_ABSENT);
+    EXPECT(kazovuni_read(&engine, 16777216, bytes, 1) == KAZOVUNI_ABSENT);
+    EXPECT(kazovuni_read(&engine, 16773120, bytes, PAGE + 1) == KAZOVUNI_ABSENT);
+    EXPECT(kazovuni_read(&engine, UINT64_MAX, bytes, 2) == KAZOVUNI_ABSENT);
+    EXPECT(bytes[0] == 0 && bytes[1] == 0);
+    EXPECT(kazovuni_read(&engine, 16777216, NULL, 0) == KAZOVUNI_OK); /* a range without a byte has none absent */
+    EXPECT(kazovuni_write(&engine, 16777215, page, 2) == KAZOVUNI_ABSENT);
+    EXPECT(kazovuni_write(&engine, UINT64_MAX, page, 2) == KAZOVUNI_ABSENT);
+    kazovuni_free(&engine);
+}
+
+/* Bytes over a page edge, a page that is brought again, a write that would meet an absent page. */
+static void try_pages(void)
+{
+    static const uint8_t zeros[PAGE], written[] = {1, 2, 3, 4}, wanted[] = {0, 0, 3, 4};
+    uint8_t bytes[4];
+    kazovuni_engine engine = {0}, other = {0};
+    EXPECT(kazovuni_create(&engine, 1, 0) == KAZOVUNI_OK);
+    EXPECT(kazovuni_bring(&engine, 1, zeros) == KAZOVUNI_NO_SUCH_PAGE);
+    kazovuni_free(&engine);
+    EXPECT(kazovuni_create(&engine, 2, 0) == KAZOVUNI_OK && kazovuni_create(&other, 2, 0) == KAZOVUNI_OK);
+    EXPECT(kazovuni_write(&engine, 0, written, 1) == KAZOVUNI_ABSENT);
+    EXPECT(kazovuni_bring(&engine, 0, zeros) == KAZOVUNI_OK && kazovuni_bring(&other, 0, zeros) == KAZOVUNI_OK);
+    EXPECT(kazovuni_write(&engine, 4094, written, 4) == KAZOVUNI_ABSENT);
+    EXPECT(kazovuni_read(&engine, 4094, bytes, 2) == KAZOVUNI_OK && bytes[0] == 0 && bytes[1] == 0);
+    EXPECT(kazovuni_bring(&engine, 1, zeros) == KAZOVUNI_OK);
+    EXPECT(kazovuni_write(&engine, 4094, written, 4) == KAZOVUNI_OK);
+    EXPECT(kazovuni_bring(&engine, 0, zeros) == KAZOVUNI_OK);
+    EXPECT(kazovuni_read(&engine, 4094, bytes, 4) == KAZOVUNI_OK && memcmp(bytes, wanted, 4) == 0);
+    EXPECT(kazovuni_read(&other, 4094, bytes, 2) == KAZOVUNI_OK && bytes[1] == 0); /* engines share nothing */
+    EXPECT(kazovuni_read(&other, 4096, bytes, 1) == KAZOVUNI_ABSENT);
+    kazovuni_free(&other);
+    kazovuni_free(&engine);
+}
+
+/* More jobs than a list of the program takes; a list with a record too few, and one with a record too many. */
+static void try_lists(void)
+{
+    static uint8_t page[PAGE], descriptors[LONG_LIST][64], records[LONG_LIST][32], wanted[32] = {1};
+    const uint8_t(*list)[64] = (const uint8_t(*)[64])descriptors;
+    kazovuni_engine engine = {0};
+    EXPECT(kazovuni_create(&engine, 1, 0) == KAZOVUNI_OK);
+    for (int over = 0; over < 2; over++) {
+        memset(records, 0xcc, sizeof records);
+        EXPECT((over ? kazovuni_submit_list_over(page, PAGE, list, LONG_LIST, 0, records, LONG_LIST)
+                     : kazovuni_submit_list(&engine, list, LONG_LIST, records, LONG_LIST)) == KAZOVUNI_OK);
+        for (int i = 0; i < LONG_LIST; i++)
+            EXPECT(memcmp(records[i], wanted, 32) == 0);
+    }
+    EXPECT(kazovuni_bring(&engine, 0, page) == KAZOVUNI_OK);
+    descriptors[0][7] = 0x04; /* a fill of a byte */
+    put(descriptors[0] + 16, 7, 8);
+    put(descriptors[0] + 32, 1, 4);
+    memset(records, 0xcc, sizeof records);
+    EXPECT(kazovuni_submit_list(&engine, list, 2, records, 1) == KAZOVUNI_NOT_AS_MANY);
+    EXPECT(kazovuni_submit_list(&engine, list, 2, records, 3) == KAZOVUNI_NOT_AS_MANY);
+    EXPECT(kazovuni_submit_list(&engine, NULL, 0, NULL, 0) == KAZOVUNI_OK);
+    EXPECT(records[0][0] == 0xcc && kazovuni_read(&engine, 0, wanted, 1) == KAZOVUNI_OK && wanted[0] == 0);
+    EXPECT(kazovuni_submit_list(&engine, list, 1, records, 1) == KAZOVUNI_OK);
+    EXPECT(records[0][0] == 1 && kazovuni_read(&engine, 0, wanted, 1) == KAZOVUNI_OK && wanted[0] == 7);
+    kazovuni_free(&engine);
+}
+
+int main(void)
+{
+    kazovuni_engine engine = {0};
+    try_no_engine(&engine);
+    EXPECT(kazovuni_create(&engine, 1, 64) == KAZOVUNI_OK);
+    kazovuni_free(&engine);
+    try_no_engine(&engine);
+    try_create();
+    try_last_page();
+    try_pages();
+    try_lists();
+    if (!failed)
+        printf("table_calls: all as they have to be\n");
+    return failed;
+}

@@ -1,0 +1,167 @@
+/*
+ * Each growth of memory that the library asks for, refused in turn: the call that asked answers want of memory and
+ * leaves everything as it was, so that the same call does its work right after; no other call answers it, and at the
+ * end every block is given back. Jobs over an engine's own pages ask for nothing.
+ *
+ * Linked with -Wl,--wrap=malloc,--wrap=realloc,--wrap=free, so that the library's own calls come here first.
+ */
+#include "kazovuni.h"
+
+#include <stdio.h>
+#include <stdlib.h>
+#include <string.h>
+
+enum { PAGE = KAZOVUNI_PAGE_BYTES, STAGING = 40 };
+
+/* ---- the heap */
+
+static size_t growths, refused; /* so many were asked for; the number of the one that is refused */
+static long blocks;             /* that are held */
+static bool is_met;             /* the last call met the refusal */
+
+void *__real_malloc(size_t size);
+void *__real_realloc(void *block, size_t size);
+void __real_free(void *block);
+void *__wrap_malloc(size_t size);
+void *__wrap_realloc(void *block, size_t size);
+void __wrap_free(void *block);
+
+static bool refuses(void)
+{
+    bool is_refused = ++growths == refused;
+    is_met |= is_refused;
+    return is_refused;
+}
+
+void *__wrap_malloc(size_t size)
+{
+    void *block = refuses() ? NULL : __real_malloc(size);
+    blocks += block != NULL;
+    return block;
+}
+
+void *__wrap_realloc(void *block, size_t size)
+{
+    void *grown = refuses() ? NULL : __real_realloc(block, size);
+    blocks += block == NULL && grown != NULL;
+    return grown;
+}
+
+void __wrap_free(void *block)
+{
+    blocks -= block != NULL;
+    __real_free(block);
+}
+
+/* ---- the calls */
+
+/* Those that ask for memory, and at how many of their growths each answered want of it. */
+enum call { CREATE, BRING, OVER, LIST_OVER, POINTERS, CALLS };
+static size_t met[CALLS];
+
+static void expect(const char *what, bool holds)
+{
+    if (holds)
+        return;
+    fprintf(stderr, "table_refused: growth %zu: %s\n", refused, what);
+    exit(1);
+}
+
+/* Whether the call did its work: it answers want of memory exactly where a growth of its own was refused. */
+static bool is_done(enum call call, uint8_t answer)
+{
+    expect("the answer", answer == (is_met ? KAZOVUNI_NO_MEMORY : KAZOVUNI_OK));
+    met[call] += is_met;
+    is_met = false;
+    return answer == KAZOVUNI_OK;
+}
+
+/* A call that asks for no memory. */
+static void expect_done(const char *name, uint8_t answer)
+{
+    expect(name, answer == KAZOVUNI_OK && !is_met);
+}
+
+/* A create of two entries, its record, and what it leaves at 128, where the bytes at 72 and 88 are these. */
+static const uint8_t create[1][64] = {{[7] = 0x07, [24] = 64, [32] = 32, [40] = 128, [48] = 20}};
+static const uint8_t created[32] = {0x01, 1, [4] = 32, [16] = 20};
+static const uint8_t at_72[8] = {1, 2, 3, 4, 5, 6, 7, 8}, at_88[8] = {0x11, 0x12, 0x13, 0x14, 0x15, 0x16, 0x17, 0x18};
+static const uint8_t delta[20] = {1, 0, 1, 2, 3, 4, 5, 6, 7, 8, 3, 0, 0x11, 0x12, 0x13, 0x14, 0x15, 0x16, 0x17, 0x18};
+
+static void walk_engine(const uint8_t page[PAGE])
+{
+    kazovuni_engine engine = {0};
+    uint8_t bytes[PAGE], records[1][32];
+    while (!is_done(CREATE, kazovuni_create(&engine, 2, STAGING)))
+        expect("the handle of no engine", engine.engine == NULL && !engine.is_open && blocks == 0);
+    while (!is_done(BRING, kazovuni_bring(&engine, 0, page)))
+        expect("a page that was not brought", kazovuni_read(&engine, 0, bytes, 1) == KAZOVUNI_ABSENT);
+    while (!is_done(BRING, kazovuni_bring(&engine, 1, page)))
+        expect("another that was not brought", kazovuni_read(&engine, PAGE, bytes, 1) == KAZOVUNI_ABSENT);
+    expect_done("a page that is present", kazovuni_bring(&engine, 0, page));
+    expect_done("write", kazovuni_write(&engine, 72, at_72, 8));
+    expect_done("submit", kazovuni_submit(&engine, create[0], records[0]));
+    expect("the record", memcmp(records[0], created, 32) == 0);
+    expect_done("write", kazovuni_write(&engine, 128, page, 20));
+    expect_done("submit_list", kazovuni_submit_list(&engine, create, 1, records, 1));
+    expect("the record of a list", memcmp(records[0], created, 32) == 0);
+    expect_done("read", kazovuni_read(&engine, 0, bytes, PAGE));
+    expect("the bytes before the delta record", memcmp(bytes, page, 128) == 0);
+    expect("the delta record", memcmp(bytes + 128, delta, 20) == 0);
+    expect("the bytes behind it", memcmp(bytes + 148, page + 148, PAGE - 148) == 0);
+    kazovuni_free(&engine);
+    expect("free", blocks == 0 && !is_met);
+}
+
+static uint8_t submit(enum call call, uint8_t bytes[PAGE], uint8_t records[1][32])
+{
+    uint8_t by_pointers[64];
+    switch (call) {
+    case OVER:
+        return kazovuni_submit_over(bytes, PAGE, create[0], STAGING, records[0]);
+    case LIST_OVER:
+        return kazovuni_submit_list_over(bytes, PAGE, create, 1, STAGING, records, 1);
+    default:
+        memcpy(by_pointers, create[0], 64);
+        by_pointers[17] = by_pointers[25] = by_pointers[41] = 0x10; /* behind the base */
+        return kazovuni_submit_pointers(PAGE, bytes, PAGE, by_pointers, STAGING, records[0]);
+    }
+}
+
+static void walk_lent(enum call call, const uint8_t page[PAGE])
+{
+    static uint8_t bytes[PAGE];
+    uint8_t records[1][32], untouched[32];
+    memcpy(bytes, page, PAGE);
+    memset(records, 0xcc, 32);
+    memset(untouched, 0xcc, 32);
+    while (!is_done(call, submit(call, bytes, records))) {
+        expect("the bytes of a job that was not begun", memcmp(bytes, page, PAGE) == 0);
+        expect("its record", memcmp(records[0], untouched, 32) == 0);
+    }
+    expect("the record", memcmp(records[0], created, 32) == 0);
+    expect("the delta record", memcmp(bytes + 128, delta, 20) == 0);
+    expect("the blocks of a call", blocks == 0);
+}
+
+int main(void)
+{
+    static uint8_t page[PAGE];
+    static const char *const names[CALLS] = {"create", "bring", "submit_over", "submit_list_over", "submit_pointers"};
+    memcpy(page + 72, at_72, 8);
+    memcpy(page + 88, at_88, 8);
+    do {
+        refused++;
+        growths = 0;
+        walk_engine(page);
+        for (enum call call = OVER; call <= POINTERS; call++)
+            walk_lent(call, page);
+    } while (growths >= refused);
+    printf("table_refused:");
+    for (enum call call = CREATE; call < CALLS; call++) {
+        printf(" %s %zu", names[call], met[call]);
+        expect("a call that met no refusal", met[call] > 0);
+    }
+    printf("\n");
+    return 0;
+}

@@ -1,0 +1,202 @@
+#!/bin/sh
+# Runs the worked rows of tests/c/table.rows, those of calls that are no jobs, and each growth refused in turn, through
+# the C library; builds the examples of examples/c, runs them and compares what they print; and plays the log of a
+# driver against the little device. All of that as gcc and as clang compile it, under the address, leak and
+# undefined-behaviour sanitizers, on the library as both of the kit's compilers make it; then each example as the head
+# of its file says it. `check` calls it. Wants rt, gcc or clang, and basenc; where a compiler or another language is
+# not there, a line says so.
+cd "$(dirname "$0")/.." || exit 2
+work=$(mktemp -d) || exit 2
+trap 'rm -rf "$work"' EXIT
+trap 'exit 2' HUP INT TERM
+failed=0
+strict='-Wall -Wextra -Werror -pedantic -Wno-missing-field-initializers -O1 -g'
+strict="$strict -fsanitize=address,undefined -fno-sanitize-recover=all"
+
+complain() {
+    printf 'c_examples: %s\n' "$*" >&2
+    failed=1
+}
+
+# has COMMAND: whether it is there and runs
+has() {
+    "$1" --version >/dev/null 2>&1 && return
+    echo "c_examples: no $1 here: what it would build or run is left out"
+    return 1
+}
+
+# passes WHAT COMMAND..: a command that ends with status 0
+passes() {
+    what=$1
+    shift
+    "$@" >"$work/out" 2>&1 && return
+    complain "$what: status $?"
+    cat "$work/out" >&2
+    return 1
+}
+
+# prints WHAT ANSWER COMMAND..: a command that ends with status 0 and prints what stands in a file
+prints() {
+    what=$1 answer=$2
+    shift 2
+    "$@" >"$work/printed" 2>"$work/out" || { complain "$what: status $?"; cat "$work/out" >&2; }
+    cmp "$work/printed" "$answer" >&2 || complain "$what: it does not print what stands in $answer"
+}
+
+# compiled NAME WORD..: compiles a program from the words, strictly, with the library of $kit
+compiled() {
+    name=$1
+    shift
+    passes "$name is compiled by $1" "$@" $strict -I"$work/$kit/include" -o "$work/$name" "$work/$kit/lib/libkazovuni.a"
+}
+
+# ---- the worked rows
+
+# try_rows COMPILER
+try_rows() {
+    compiled table "$1" -std=c11 tests/c/table.c &&
+        passes "the rows by $1 on the library of $kit" "$work/table" tests/c/table.rows
+    compiled calls "$1" -std=c11 tests/c/table_calls.c &&
+        passes "the calls by $1 on the library of $kit" "$work/calls"
+    compiled refused "$1" -std=c11 -Wl,--wrap=malloc,--wrap=realloc,--wrap=free tests/c/table_refused.c &&
+        passes "the refused growths by $1 on the library of $kit" "$work/refused"
+}
+
+# ---- the examples
+
+# try_examples SUFFIX COMPILER WORD..: those in C, or in C++; the device is both
+try_examples() {
+    suffix=$1
+    shift
+    for example in move delta fault; do
+        compiled "$example" "$@" "examples/c/$example.$suffix" &&
+            prints "$example.$suffix by $1 on the library of $kit" "examples/c/$example.answer" "$work/$example"
+    done
+    [ "$suffix" = c ] || set -- "$@" -x c++
+    compiled device "$@" examples/c/device.c -x none && try_device "the device by $1 on the library of $kit"
+}
+
+# The bytes of hexadecimal text.
+bytes() {
+    tr a-f A-F | basenc --base16 -di
+}
+
+# answers WHAT STATUS INPUT WORD..: plays an input against the device; the records, one in a line, are in `printed` then
+answers() {
+    what=$1 status=$2 input=$3
+    shift 3
+    "$work/device" "$@" <"$input" >"$work/records" 2>"$work/out"
+    answer=$?
+    [ "$answer" = "$status" ] || { complain "$what: status $answer, not $status, of: $*"; cat "$work/out" >&2; }
+    od -An -v -tx1 -w32 <"$work/records" >"$work/printed"
+}
+
+# only WHAT FIRST: the one record in `printed` has these first bytes, and zeros behind them
+only() {
+    printf '%s\n' "$2" | awk '{ while (NF < 32) $0 = $0 " 00"; print " " $0 }' >"$work/wanted"
+    cmp "$work/printed" "$work/wanted" >&2 || complain "$1: the record is another one than $2"
+}
+
+zeros=0000000000000000
+behind="00000000 $zeros $zeros $zeros"
+printf '%s' "00000000 00000004 $zeros 0102030405060708 fa0f000000000000 0c000000 $behind" | bytes >"$work/fill.job"
+printf '%s' "00000000 0c000003 $zeros 0010000000000000 0020000000000000 64000000 $behind" | bytes >"$work/move.job"
+head -c 63 "$work/move.job" >"$work/part.job"
+grep -v '^#' examples/c/device.log | bytes >"$work/log.job"
+
+# try_device WHAT
+try_device() {
+    answers "$1" 0 "$work/log.job" -p 1
+    cmp "$work/printed" examples/c/device.answer >&2 || complain "$1: other records of the log than device.answer has"
+    head -c 4096 /dev/zero >"$work/memory"
+    answers "$1" 0 "$work/fill.job" -m "$work/memory"
+    only "$1" '83 00 00 00 06 00 00 00 00 10'
+    { head -c 4090 /dev/zero && printf '\001\002\003\004\005\006'; } | cmp - "$work/memory" >&2 ||
+        complain "$1: other bytes are left in the file"
+    answers "$1" 0 "$work/move.job" -p 2 -b 0x1000 # its two pages are those at 4096 and 8192
+    only "$1" '01 00 00 00 64'
+    answers "$1" 0 "$work/move.job" -p 1 -b 4096
+    only "$1" '83 00 00 00 00 00 00 00 00 20'
+    answers "$1" 1 "$work/part.job"
+    answers "$1" 1 "$work/fill.job" -m "$work/none"
+    head -c 4095 /dev/zero >"$work/memory"
+    answers "$1" 1 "$work/fill.job" -m "$work/memory"
+    for words in '-p 0' '-p 4097' '-p x' '-b 1' '-q' 'log'; do
+        answers "$1" 2 "$work/fill.job" $words
+        [ -s "$work/records" ] && complain "$1: a record, though the words are wrong: $words"
+    done
+    try_waiting "$1"
+}
+
+# try_waiting WHAT: a driver that waits for each record before its next descriptor
+try_waiting() {
+    rm -f "$work/to" "$work/from"
+    mkfifo "$work/to" "$work/from" || exit 2
+    timeout 60 "$work/device" -p 2 <"$work/to" >"$work/from" &
+    device=$!
+    exec 8>"$work/to" 9<"$work/from"
+    for _ in 1 2; do
+        cat "$work/fill.job" >&8
+        dd bs=32 count=1 <&9 2>/dev/null | od -An -v -tx1 -w32 >"$work/printed"
+        only "$1, waited for" '01 00 00 00 0c'
+    done
+    exec 8>&- 9<&-
+    wait "$device" || complain "$1: it does not end with its input"
+}
+
+# ---- the examples as the heads of their files say it
+
+# as_written FILE: runs the commands in the head of a file, in a copy of the folder, and what they build
+as_written() {
+    example=${1%.*}
+    {
+        echo "cd '$work/folder'"
+        grep -oE '(cc -o|c\+\+ -std|rustc --|KAZOVUNI=|grep -v).*' "examples/c/$1" | sed "s|PREFIX|$work/llvm|g"
+        case $1 in
+            *.py | device.*) ;;
+            *) echo "./$example" ;;
+        esac
+    } >"$work/commands"
+    prints "$1, as its head says" "examples/c/$example.answer" sh -e "$work/commands"
+    rm -f "$work/folder/$example"
+}
+
+# ---- all of it
+
+for kit in llvm rattle; do
+    passes "the library of $kit" tools/install_library.sh "$work/$kit" --backend "$kit" || exit 1
+done
+tried=
+for compiler in gcc clang; do
+    has "$compiler" || continue
+    tried="$tried $compiler"
+    for kit in llvm rattle; do
+        try_rows "$compiler"
+        try_examples c "$compiler" -std=c11
+    done
+done
+[ -n "$tried" ] || complain "neither gcc nor clang is here"
+for compiler in g++ clang++; do
+    has "$compiler" || continue
+    kit=llvm
+    try_examples cpp "$compiler" -std=c++20
+done
+
+cp -r examples/c "$work/folder" || exit 2
+export PKG_CONFIG_PATH="$work/llvm/lib/pkgconfig" LD_LIBRARY_PATH="$work/llvm/lib${LD_LIBRARY_PATH:+:$LD_LIBRARY_PATH}"
+if ! command -v pkg-config >/dev/null; then
+    echo "c_examples: no pkg-config here: a script answers its words"
+    mkdir "$work/bin" || exit 2
+    printf '#!/bin/sh\necho "-I%s/include -L%s/lib -lkazovuni"\n' "$work/llvm" "$work/llvm" >"$work/bin/pkg-config"
+    chmod +x "$work/bin/pkg-config"
+    PATH=$PATH:$work/bin
+fi
+for language in 'cc c' 'c++ cpp' 'rustc rs' 'python3 py'; do
+    has "${language% *}" || continue
+    for file in examples/c/*."${language#* }"; do
+        file=${file#examples/c/}
+        [ "${file%.*}" = kazovuni ] || as_written "$file"
+    done
+done
+[ "$failed" = 0 ] && echo "c_examples: passed"
+exit "$failed"

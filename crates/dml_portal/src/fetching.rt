@@ -1,0 +1,57 @@
+//! The fetching of a round: at most so many jobs of each client, clients in order of their numbers.
+ghost use Rattle.std.specs.Prelude.{◌≡◌, ◌+◌, ◌*◌, ◌<◌, ◌≤◌, ◌^◌, List, [], ◌++◌, length, map, vec_capacity};
+ghost use Rattle.rtrb.specs.Ring.{received};
+ghost use Rattle.dml_portal.specs.Types.{Job as Jobs, LogEntry as Entries};
+ghost use Rattle.dml_portal.specs.Log.{jobs_in, sent_for};
+ghost use Rattle.dml_portal.specs.Lanes.{ArePopped, ArePushed, AreSameLanes, IsSameLane};
+ghost use Rattle.dml_portal.specs.Served.{IsFetched};
+ghost use Rattle.dml_portal.specs.Blank.{blank};
+
+use crate::lanes::Lane;
+use crate::logs::LogEntry;
+use dml_types::{Job, Record, Status};
+
+/// The most jobs of a client that a round fetches.
+pub(crate) const MOST_OF_A_CLIENT: usize = 128;
+
+/// Fetches jobs of one client, into the log with a record that stands for their own, and into the list of jobs.
+fn fetch_client(client: u32, lane: &mut Lane, log: &mut Vec<LogEntry>, jobs: &mut Vec<Job>)
+    requires log_room { length log.old.items + 128 ≤ vec_capacity log.old }
+    requires jobs_room { length jobs.old.items + 128 ≤ vec_capacity jobs.old }
+    ensures fetched { (fetched : List Jobs) × (received lane.new.jobs ≡ received lane.old.jobs ++ fetched) × (log.new.items ≡ log.old.items ++ map (blank client) fetched) × (jobs.new.items ≡ jobs.old.items ++ fetched) × (length fetched ≤ 128) }
+    ensures answered { lane.new.answered ≡ lane.old.answered }
+    ensures records { lane.new.records ≡ lane.old.records }
+    ensures same { IsSameLane lane.old lane.new }
+    ensures log_room { vec_capacity log.new ≡ vec_capacity log.old }
+    ensures jobs_room { vec_capacity jobs.new ≡ vec_capacity jobs.old }
+{
+    for _ in 0..MOST_OF_A_CLIENT {
+        let Ok(job) = lane.jobs.pop() else {
+            return;
+        };
+        jobs.push_reserved(job);
+        log.push_reserved(LogEntry {
+            client,
+            job,
+            answer: Record::refused(Status::Success),
+        });
+    }
+}
+
+/// Fetches jobs of each client.
+pub(crate) fn fetch_round(lanes: &mut Vec<Lane>, log: &mut Vec<LogEntry>, jobs: &mut Vec<Job>)
+    requires clients { length lanes.old.items ≤ 8 }
+    requires popped { ArePopped lanes.old.items log.old.items }
+    requires pushed { ArePushed lanes.old.items log.old.items }
+    requires empty { jobs.old.items ≡ [] }
+    requires log_room { length log.old.items + 128 * length lanes.old.items ≤ vec_capacity log.old }
+    requires jobs_room { 128 * length lanes.old.items ≤ vec_capacity jobs.old }
+    ensures fetched { (entries : List Entries) × (log.new.items ≡ log.old.items ++ entries) × (jobs.new.items ≡ jobs_in entries) × (length entries ≤ 128 * length lanes.old.items) × IsFetched (length lanes.old.items) (map sent_for entries) }
+    ensures popped { ArePopped lanes.new.items log.new.items }
+    ensures pushed { ArePushed lanes.new.items log.old.items }
+    ensures same { AreSameLanes lanes.old.items lanes.new.items }
+{
+    for client in 0..lanes.len() {
+        fetch_client(client as u32, &mut lanes[client], log, jobs);
+    }
+}

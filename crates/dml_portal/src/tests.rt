@@ -1,0 +1,114 @@
+//! The worked rows of portals, and their refusals.
+
+mod growths;
+
+use crate::{Full, Portal, PortalError, Seat, Server};
+use dml_engine::Engine;
+use dml_image::Image;
+use dml_pool::Free;
+use dml_types::{Job, Record, Settings, Status};
+use std::alloc::Global;
+use std::test::Fail;
+
+/// An engine over an image of one page, which is present.
+fn engine(alloc: Global) -> Option<Engine> {
+    let mut image = Image::new(alloc, 1).ok()?;
+    image.bring(0, &[0; 4096]).ok()?;
+    let settings = Settings {
+        staging: 1 << 20,
+        chunk: 4096,
+        workers: 4,
+    };
+    Engine::new(alloc, image, settings).ok()
+}
+
+/// A portal of one client.
+fn portal_of_one(alloc: Global, capacity: u32) -> Option<(Server<Free>, Seat)> {
+    let (server, mut seats) = Portal::open(alloc, engine(alloc)?, 1, capacity).ok()?;
+    Some((server, seats.pop()?))
+}
+
+/// A success that did so many bytes.
+fn done(completed: u32) -> Record {
+    Record {
+        completed,
+        ..Record::refused(Status::Success)
+    }
+}
+
+/// A ring that has room for two jobs hands the third back, and takes it once a round is served.
+#[test]
+fn full_ring(rt: HostRuntime) -> Result<(), Fail> {
+    let (mut server, mut seat) = portal_of_one(rt.alloc(), 2).ok_or("no memory")?;
+    let job = Job::no_op();
+    assert_eq!(rt; seat.try_submit(job), Ok(()));
+    assert_eq!(rt; seat.try_submit(job), Ok(()));
+    assert_eq!(rt; seat.try_submit(job), Err(Full { job }));
+    assert_eq!(rt; server.serve_round(&rt, rt.alloc()), Ok(2));
+    assert_eq!(rt; seat.try_submit(job), Ok(()));
+    assert_eq!(rt; server.serve_round(&rt, rt.alloc()), Ok(1));
+    Ok(())
+}
+
+/// Arguments out of their limits are refused.
+#[test]
+fn arguments_refused(rt: HostRuntime) -> Result<(), Fail> {
+    for (clients, capacity, error) in [
+        (0, 1, PortalError::BadClients),
+        (9, 1, PortalError::BadClients),
+        (9, 0, PortalError::BadClients),
+        (1, 0, PortalError::BadCapacity),
+        (8, 1025, PortalError::BadCapacity),
+    ] {
+        let engine = engine(rt.alloc()).ok_or("no memory")?;
+        match Portal::open(rt.alloc(), engine, clients, capacity) {
+            Ok(_) => return Err(Fail::from("opened")),
+            Err((engine, refused)) => {
+                assert_eq!(rt; refused, error);
+                assert_eq!(rt; engine.into_image().pages(), 1);
+            }
+        }
+    }
+    Ok(())
+}
+
+/// A round fetches at most 128 jobs of a client.
+#[test]
+fn round_of_128(rt: HostRuntime) -> Result<(), Fail> {
+    let (mut server, mut seat) = portal_of_one(rt.alloc(), 200).ok_or("no memory")?;
+    for _ in 0..130 {
+        assert_eq!(rt; seat.try_submit(Job::no_op()), Ok(()));
+    }
+    assert_eq!(rt; server.serve_round(&rt, rt.alloc()), Ok(128));
+    assert_eq!(rt; server.serve_round(&rt, rt.alloc()), Ok(2));
+    Ok(())
+}
+
+/// Records are polled in the order of the jobs.
+#[test]
+fn polled_in_order(rt: HostRuntime) -> Result<(), Fail> {
+    let (mut server, mut seat) = portal_of_one(rt.alloc(), 4).ok_or("no memory")?;
+    assert_eq!(rt; seat.try_submit(Job::fill(1, 0, 8)), Ok(()));
+    assert_eq!(rt; seat.try_submit(Job::no_op()), Ok(()));
+    assert_eq!(rt; seat.poll(), None);
+    assert_eq!(rt; server.serve_round(&rt, rt.alloc()), Ok(2));
+    assert_eq!(rt; seat.poll(), Some(done(8)));
+    assert_eq!(rt; seat.poll(), Some(done(0)));
+    assert_eq!(rt; seat.poll(), None);
+    Ok(())
+}
+
+/// A record for which there is no room waits in the log.
+#[test]
+fn poll_with_one_slot(rt: HostRuntime) -> Result<(), Fail> {
+    let (mut server, mut seat) = portal_of_one(rt.alloc(), 1).ok_or("no memory")?;
+    assert_eq!(rt; seat.try_submit(Job::fill(1, 0, 8)), Ok(()));
+    assert_eq!(rt; server.serve_round(&rt, rt.alloc()), Ok(1));
+    assert_eq!(rt; seat.try_submit(Job::no_op()), Ok(()));
+    assert_eq!(rt; server.serve_round(&rt, rt.alloc()), Ok(1));
+    assert_eq!(rt; seat.poll(), Some(done(8)));
+    assert_eq!(rt; seat.poll(), None);
+    assert_eq!(rt; server.serve_round(&rt, rt.alloc()), Ok(0));
+    assert_eq!(rt; seat.poll(), Some(done(0)));
+    Ok(())
+}

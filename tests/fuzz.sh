@@ -22,7 +22,8 @@ work=$(mktemp -d) || exit 2
 kept=$(mktemp -d) || exit 2
 trap 'rm -rf "$work"; rmdir "$kept" 2>/dev/null' EXIT
 "${CC:-cc}" -O2 -Wall -Wextra -Werror -o "$work/fuzz" \
-    tests/fuzz/fuzz.c tests/fuzz/cases.c tests/fuzz/evaluator.c tests/fuzz/jobs.c || exit 1
+    tests/fuzz/fuzz.c tests/fuzz/cases.c tests/fuzz/broken.c tests/fuzz/large.c tests/fuzz/evaluator.c \
+    tests/fuzz/jobs.c || exit 1
 processes=${PROCESSES:-$(nproc)}
 [ "$processes" -le 16 ] || processes=16
 "$work/fuzz" "$program" "${1:-1}" "${2:-4000}" "${3:-0}" "$processes" "$kept"

@@ -1,13 +1,17 @@
 #!/bin/sh
 # Runs what the pages show: each command of README.md and docs/GUIDE.md is run, and what it prints is compared with what
-# stands there, so that no page goes stale. Works on the binary that the gate leaves in crates/dmljob/out; `check` calls
-# it. With the word `write`, the answers in the pages are written anew instead (look at each change before you keep it).
+# stands there; the programs in them are those of crates/example_*; each link and each path of a page leads somewhere; and
+# conformance/README.md names each script of its kit. So no page goes stale. Works on the binary that the gate leaves in
+# crates/dmljob/out; `check` calls it. With the word `write`, the answers and programs in the pages are written anew
+# instead (look at each change before you keep it).
 #
 # A block fenced as ```console is a session of sh: a line `$ COMMAND` is typed, with the lines of its here-document or
 # behind its backslashes, and the lines after it are what it prints, on both outputs. Each block begins in a new folder
 # with links to dmljob, examples, conformance and tests. A line of a block fenced as ```sh, or indented by four blanks,
-# is a command that is not run here; what it calls has to exist, and a run of dmljob among them has to succeed. Blocks
-# fenced as ```text are pictures and forms. Every other fence is refused.
+# is a command that is not run here; what it calls has to exist, and a run of dmljob among them has to succeed. A block
+# fenced as ```rust is the file that the page has named last, crates/NAME/src/main.rt, and the first block behind it that
+# is fenced as ```text is what the program prints: its file stdout, which the gate compares with each run. All other such
+# blocks are pictures and forms. Every other fence is refused.
 top=$(cd "$(dirname "$0")/.." && pwd) || exit 2
 if [ ! -x "$top/crates/dmljob/out/dmljob" ]; then
     echo "guide: crates/dmljob/out/dmljob is missing: run rt ci first" >&2
@@ -23,7 +27,8 @@ complain() {
     failed=1
 }
 
-# cut PAGE: each console block into N.block and N.sh, the other commands into `others`, bad fences into `bad`
+# cut PAGE: each console block into N.block and N.sh, each program and what it prints into N.shown with the name of its
+# file in N.file, the other commands into `others`, bad fences into `bad`
 cut() {
     awk -v work="$work/blocks" '
         function typed(line) {
@@ -40,10 +45,18 @@ cut() {
                 number++; block = work "/" number ".block"; sh = work "/" number ".sh"
                 printf "" >block; printf "" >sh; goes_on = 0
                 print NR >(work "/" number ".line")
+            } else if (kind == "rust" || kind == "text" && ran != "") {
+                shown = work "/" ++files ".shown"
+                printf "" >shown
+                file = kind == "rust" ? named : ran "/stdout"
+                print file >(work "/" files ".file")
+                ran = kind == "rust" ? substr(named, 1, index(named, "/src/") - 1) : ""
             } else if (kind != "sh" && kind != "text") print NR ": a block fenced as \"" kind "\"" >(work "/bad")
             next
         }
-        /^```/ { inside = 0; next }
+        /^```/ { inside = 0; shown = ""; next }
+        !inside && match($0, /crates\/[a-z_]*\/src\/main\.rt/) { named = substr($0, RSTART, RLENGTH) }
+        shown != "" { print >shown }
         inside && kind == "console" {
             print >block
             if (goes_on) {
@@ -77,19 +90,91 @@ other() {
             (cd "$top" && eval "$*") >/dev/null 2>&1 || complain "$page: $*: fails"
             ;;
         ./*) [ -x "$top/$1" ] || complain "$page: $1: there is no such command" ;;
+        cd) [ -d "$top/$2" ] && [ "$3 $4 $5" = '&& rt run' ] || complain "$page: $*: not a run of a crate" ;;
         *) complain "$page: $*: no command that is known here" ;;
     esac
 }
 
-# rewrite PAGE: puts the transcripts in the places of the blocks
+# compare PAGE: each program that the page shows, and what it prints, with its file
+compare() {
+    for block in $(ls "$work/blocks" | sed -n 's/\.shown$//p' | sort -n); do
+        file=$(cat "$work/blocks/$block.file")
+        [ -n "$file" ] || complain "$1: a program whose file is not named before it"
+        cmp -s "$work/blocks/$block.shown" "$top/$file" || {
+            complain "$1: shows $file otherwise:"
+            diff "$work/blocks/$block.shown" "$top/$file" >&2
+        }
+        printf '%s\n' "$file" >>"$work/programs"
+    done
+}
+
+# rewrite PAGE: puts the transcripts in the places of the blocks, and programs and what they print in those of theirs
 rewrite() {
-    awk -v work="$work/blocks" '
-        /^```console$/ { print; number++; while ((getline line <(work "/" number ".got")) > 0) print line; skip = 1; next }
+    awk -v work="$work/blocks" -v top="$top" '
+        function put(file, line) { while ((getline line <file) > 0) print line; close(file); skip = 1 }
+        /^```console$/ { print; put(work "/" ++number ".got"); next }
+        /^```rust$/ || /^```text$/ && ran {
+            print
+            ran = $0 == "```rust"
+            getline file <(work "/" ++files ".file")
+            put(top "/" file)
+            next
+        }
         /^```$/ { skip = 0 }
         !skip
     ' "$1" >"$work/page" && cp "$work/page" "$1"
 }
 
+# ---- links
+
+# targets PAGE: the target of each link, one a line
+targets() {
+    awk '/^```/ { inside = !inside }
+        { while (!inside && match($0, /\]\([^)]*\)/)) {
+            print substr($0, RSTART + 2, RLENGTH - 3)
+            $0 = substr($0, RSTART + RLENGTH)
+        } }' "$1"
+}
+
+# has_heading PAGE ANCHOR: whether a heading of the page has this anchor
+has_heading() {
+    sed -n 's/^##* //p' "$1" | tr 'A-Z ' 'a-z-' | sed 's/[^a-z0-9_-]//g' | grep -qx -e "$2"
+}
+
+# paths PAGE: each path from the top of the repository that the page names, but what is built, and but forms with a NAME
+paths() {
+    grep -oE '(^|[^A-Za-z0-9_./-])(bench|conformance|crates|docs|examples|include|tests|tools)/[A-Za-z0-9_./-]+' "$1" |
+        grep -oE '[a-z].*' | sed 's/[.,]*$//' | grep -vE '/out/|[A-Z]{4,}($|/)' | sort -u
+}
+
+# exists PATH: whether it is in the repository, from its top or from the sources of a crate
+exists() {
+    for found in "$top/$1" "$top"/crates/*/src/"$1"; do
+        [ ! -e "$found" ] || return 0
+    done
+    return 1
+}
+
+# linked PAGE: complains of each link and each path of the page that leads nowhere
+linked() {
+    for target in $(targets "$top/$1"); do
+        links=$((links + 1))
+        case $target in http://* | https://*) continue ;; esac
+        file=${target%%#*}
+        to=$top/$(dirname "$1")/$file
+        [ -n "$file" ] || to=$top/$1
+        [ -e "$to" ] || { complain "$1: a link to $target: there is no such page"; continue; }
+        [ "$target" = "$file" ] || has_heading "$to" "${target#*#}" || complain "$1: a link to $target: no such heading"
+    done
+    for path in $(paths "$top/$1"); do
+        links=$((links + 1))
+        exists "$path" || complain "$1: names $path: there is no such file"
+    done
+}
+
+# ---- the pages
+
+: >"$work/programs"
 for page in README.md docs/GUIDE.md; do
     rm -rf "$work/blocks"
     mkdir "$work/blocks" || exit 2
@@ -103,11 +188,47 @@ for page in README.md docs/GUIDE.md; do
         }
     done
     [ "${1:-}" != write ] || rewrite "$top/$page"
+    [ "${1:-}" = write ] || compare "$page"
     [ -n "$(ls "$work/blocks")" ] || complain "$page: shows no command"
     [ ! -f "$work/blocks/others" ] || while read -r line; do
         other $line
         commands=$((commands + 1))
     done <"$work/blocks/others"
 done
-printf 'guide: %s commands of README.md and docs/GUIDE.md\n' "$commands"
+for program in "$top"/crates/example_*/src/main.rt; do
+    file=${program#"$top"/}
+    [ "${1:-}" = write ] || grep -qx -e "$file" "$work/programs" || complain "docs/GUIDE.md does not show $file"
+    [ "$(wc -l <"$program")" -lt 60 ] || complain "$file: 60 lines or more"
+done
+
+links=0
+for page in README.md conformance/README.md examples/README.md $(cd "$top" && ls docs/*.md); do
+    linked "$page"
+done
+for page in "$top"/docs/*.md; do
+    targets "$top/README.md" | grep -qx -e "docs/$(basename "$page")" ||
+        complain "README.md: no link to docs/$(basename "$page")"
+done
+
+# named HEADING: the names in the last column of the table under a heading of the kit's page, patterns of the shell
+named() {
+    awk -v heading="## $1" '/^## / { here = $0 == heading } here && /^\|/ { sub(/ *\|$/, ""); sub(/.*\|/, ""); print }' \
+        "$top/conformance/README.md" | grep -o '`[^`]*`' | tr -d '`'
+}
+
+for script in "$top"/conformance/*.script; do
+    basename "$script" .script
+done | sort >"$work/scripts"
+named 'The rules and their scripts' >"$work/patterns"
+while read -r name; do
+    while read -r pattern; do
+        case $name in $pattern) echo "$name" ;; esac
+    done <"$work/patterns"
+done <"$work/scripts" | sort -u | comm -3 - "$work/scripts" >"$work/unnamed"
+[ ! -s "$work/unnamed" ] || complain "conformance/README.md: its rules name no" $(cat "$work/unnamed")
+for pattern in $(named 'Hold a device against it' | cat - "$work/patterns" | sed 's/[*]/.*/g'); do
+    grep -qx -e "$pattern" "$work/scripts" || complain "conformance/README.md: $pattern names no script"
+done
+printf 'guide: %s commands of README.md and docs/GUIDE.md; %s programs and what they print; %s links and paths\n' \
+    "$commands" "$(($(wc -l <"$work/programs") / 2))" "$links"
 exit "$failed"

@@ -1,7 +1,8 @@
 #!/bin/sh
-# Refuses each growth of memory in turn, of the program and of each library's tests named refused_*, and looks at what
-# is answered. Works on the binaries that the gate leaves in crates/NAME/out; `check` calls it. Needs the GNU C library and
-# a C compiler (CC, or cc).
+# Refuses each growth of memory in turn, of the program and of each library's tests named refused_*, looks at what is
+# answered, and compares how many growths there were with the table of docs/RELIABILITY.md. Works on the binaries that
+# the gate leaves in crates/NAME/out; `check` calls it. Needs the GNU C library and a C compiler (CC, or cc). With the
+# word `write` the numbers in the table are written anew instead (look at each change before you keep it).
 #
 # The Nth growth is refused by tests/refuse.c, for N from 1 until a run meets no refusal. Then
 # - the program ends with status 4 and `dmljob: out of memory`, having written nothing but the beginning of its whole
@@ -11,10 +12,16 @@
 # Where a test has to make something before its call, a test set_up_of_NAME beside refused_NAME makes it alone. The
 # growths of that run come first in refused_NAME too; they are neither refused nor counted, so that each refusal meets
 # the call. Each test has a set-up, or stands in the list of those that need none, since their first growth is the call's.
+#
+# A row of the table names the calls that it is about (the first cell), a test or a run of the program by a key, and
+# behind it how many growths there are: a number, or `A to B` where they depend on how workers share their tasks. Each
+# test and each run has a row, and so has each exported call that takes an allocator: none is left out.
 cd "$(dirname "$0")/.." || exit 2
+page=docs/RELIABILITY.md
 work=$(mktemp -d) || exit 2
 trap 'rm -rf "$work"' EXIT
 failed=0
+: >"$work/counts"
 
 complain() {
     printf 'refusals: %s\n' "$*" >&2
@@ -40,41 +47,47 @@ is_plain() { # STATUS: the last run is as the plain run was
     [ "$1" = "$plain" ] && cmp -s "$work/out" "$work/answer" && cmp -s "$work/err" "$work/said"
 }
 
-# The tests whose calls take no memory, and then those whose calls do. Each has to be there.
-take_none='dml_image:refused_second_bring dml_engine:refused_submit'
-take_some='dml_arena:refused_new dml_image:refused_new dml_image:refused_bring dml_engine:refused_new
-dml_grammar:refused_read_script dml_script:refused_out_text dml_script:refused_job_text
-dml_script:refused_run_script dml_command:refused_command_of dmljob:refused_description dml_levels:refused_levels
-dml_levels:refused_waves dml_pool:refused_run_wave dml_pool:refused_run_wave_of_three
-dml_wave:refused_carry_out_wave dml_wave:refused_carry_out_wave_of_three dml_engine:refused_submit_on_workers
-dml_engine:refused_submit_into dml_engine:refused_submit_list dml_engine:refused_submit_batch dml_engine:refused_waves
-dml_engine:refused_later_growths dml_engine:refused_later_growths_of_a_batch dml_core:refused_new
-dml_core:refused_replay'
+# The tests whose calls take no memory. All others that are found take some.
+take_none='dml_image:refused_second_bring dml_engine:refused_submit dml_engine:refused_second_bring'
 
 # The tests that make nothing before their call.
 make_nothing='dml_arena:refused_new dml_image:refused_new dml_grammar:refused_read_script dml_script:refused_job_text
-dml_script:refused_run_script dml_command:refused_command_of dmljob:refused_description'
+dml_script:refused_out_text_of_a_job dml_script:refused_out_text_of_a_batch dml_script:refused_run_script
+dml_command:refused_command_of dml_command:refused_parse_words dmljob:refused_description'
 
-# Each entry of a table says that it met at least one refusal, so that none is passed over; or that none can come.
-counted() { # NAME GROWTHS [CRATE:TEST]
-    case " $take_none " in
-        *" ${3:-none} "*)
-            [ "$2" = 0 ] || complain "$1: $2 growths were refused, of a call that takes no memory"
-            printf 'refusals: %s: none possible: the call takes no memory\n' "$1"
-            ;;
-        *)
-            [ "$2" -gt 0 ] || complain "$1: no growth was refused"
-            printf 'refusals: %s: %s growths refused in turn\n' "$1" "$2"
-            ;;
+# The tests of lists and batches that take no want of memory for an answer. The last growth of their set-up is the list
+# of records, which in their run is the first growth of the call: where it is refused too, they have to fail by want of
+# memory. So that growth and no other is answered by it.
+want_records='dml_engine:refused_later_growths dml_engine:refused_later_growths_of_a_batch
+dml_engine:refused_later_growths_of_a_fenced_batch dml_engine:refused_list_by_cells
+dml_engine:refused_conflict_chain'
+
+# is_in NAME LIST
+is_in() {
+    case " $(echo $2) " in
+        *" $1 "*) return 0 ;;
+        *) return 1 ;;
     esac
 }
 
-# program INPUT [WORD..]: the program on that input
+# counted KEY GROWTHS: says and keeps how many growths were refused; none only of a call that takes no memory
+counted() {
+    printf '%s %s\n' "$1" "$2" >>"$work/counts"
+    if is_in "$1" "$take_none"; then
+        [ "$2" = 0 ] || complain "$1: $2 growths were refused, of a call that takes no memory"
+        printf 'refusals: %s: none possible: the call takes no memory\n' "$1"
+    else
+        [ "$2" -gt 0 ] || complain "$1: no growth was refused"
+        printf 'refusals: %s: %s growths refused in turn\n' "$1" "$2"
+    fi
+}
+
+# program NAME INPUT [WORD..]: the program on that input
 program() {
     binary=crates/dmljob/out/dmljob
-    input=$1
-    shift
-    name="dmljob${*:+ $*}"
+    key=program:$1
+    input=$2
+    shift 2
     if [ ! -x "$binary" ]; then
         complain "$binary is missing: run rt ci first"
         return
@@ -87,16 +100,16 @@ program() {
         status=$?
         [ -f "$work/log" ] || break
         if ! is_plain "$status"; then
-            [ "$status" = 4 ] || complain "$name: growth $number: status $status"
+            [ "$status" = 4 ] || complain "$key: growth $number: status $status"
             [ "$(cat "$work/err")" = 'dmljob: out of memory' ] ||
-                complain "$name: growth $number: says $(cat "$work/err")"
+                complain "$key: growth $number: says $(cat "$work/err")"
             is_prefix "$work/out" "$work/answer" ||
-                complain "$name: growth $number: writes what is no part of the answer"
+                complain "$key: growth $number: writes what is no part of the answer"
         fi
         number=$((number + 1))
     done
-    is_plain "$status" || complain "$name: differs where no growth is refused"
-    counted "$name" "$((number - 1))"
+    is_plain "$status" || complain "$key: differs where no growth is refused"
+    counted "$key" "$((number - 1))"
 }
 
 # set_up_of TEST: the name of the test that makes alone what this one makes before its call
@@ -104,17 +117,15 @@ set_up_of() {
     printf '%s' "${1%refused_*}set_up_of_${1##*refused_}"
 }
 
-# has_set_up CRATE TEST: whether there is such a test; one of the two, that or an entry of the list, has to be there
+# has_set_up KEY TEST: whether there is such a test; one of the two, that or an entry of the list, has to be there
 has_set_up() {
-    case " $(echo $make_nothing) " in
-        *" $1:${2##*:} "*) listed=1 ;;
-        *) listed=0 ;;
-    esac
+    listed=0
+    is_in "$1" "$make_nothing" && listed=1
     if grep -qxF "$(set_up_of "$2"): test" "$work/list"; then
-        [ "$listed" = 0 ] || complain "$1 $2: has a set-up, and is listed as one that needs none"
+        [ "$listed" = 0 ] || complain "$1: has a set-up, and is listed as one that needs none"
         return 0
     fi
-    [ "$listed" = 1 ] || complain "$1 $2: has no set-up, and is not listed as one that needs none"
+    [ "$listed" = 1 ] || complain "$1: has no set-up, and is not listed as one that needs none"
     return 1
 }
 
@@ -129,6 +140,16 @@ growths() {
     echo "$taken"
 }
 
+# wants_records KEY BINARY TEST N: with its Nth growth refused, the list of records, the test fails by want of memory
+wants_records() {
+    refused "$4" "$2" "$3" >"$work/out" 2>&1 </dev/null
+    status=$?
+    [ -f "$work/log" ] || complain "$1: growth $4, the list of records, did not come"
+    [ "$status" != 0 ] && grep -q 'NoMemory' "$work/out" ||
+        complain "$1: the list of records is refused, and that is not answered: status $status: $(cat "$work/out")"
+    printf 'refusals: %s: of the list of records alone the refusal is answered\n' "$1"
+}
+
 # library NAME: each of its tests named refused_*
 library() {
     grep -rq '#\[test\]' "crates/$1/src" || return 0
@@ -139,13 +160,10 @@ library() {
     fi
     "$binary" --list >"$work/list" || complain "$binary --list fails"
     grep -q 'refused_' "$work/list" || printf 'refusals: %s: no test is named refused_*\n' "$1"
-    for wanted in $take_none $take_some; do
-        [ "${wanted%:*}" != "$1" ] || grep -q "\(^\|:\)${wanted#*:}: test\$" "$work/list" ||
-            complain "$1: there is no test ${wanted#*:}"
-    done
     for test in $(sed -n 's/^\([A-Za-z0-9_:]*refused_[A-Za-z0-9_]*\): test$/\1/p' "$work/list"); do
+        key=$1:${test##*:}
         before=0
-        if has_set_up "$1" "$test"; then
+        if has_set_up "$key" "$test"; then
             before=$(growths "$binary" "$(set_up_of "$test")")
         fi
         number=$((before + 1))
@@ -153,32 +171,130 @@ library() {
             refused "$number" "$binary" "$test" >"$work/out" 2>&1 </dev/null
             status=$?
             if [ "$status" != 0 ]; then
-                complain "$1 $test: growth $number: status $status: $(cat "$work/out")"
+                complain "$key: growth $number: status $status: $(cat "$work/out")"
             fi
             [ -f "$work/log" ] || break
             number=$((number + 1))
         done
-        counted "$1 $test" "$((number - 1 - before))" "$1:${test##*:}"
+        counted "$key" "$((number - 1 - before))"
+        ! is_in "$key" "$want_records" || wants_records "$key" "$binary" "$test" "$before"
     done
 }
 
+# ---- the program
+
 printf 'image 2\npage 0 0102\npoke 4 ff\nnoop\nfill 7 8 16\nmove 0 4 16\ndualcast 0 64 4160 8\nraw %0128d\nshow 0 32\n' 0 >"$work/small.script"
+printf 'image 1\npage 0\nbatch\nfill 1 0 8\nmove 0 8 8 flags 1\nend\nnoop\nshow 0 16\n' >"$work/batch.script"
+{
+    echo 'image 256'
+    page_number=0
+    while [ "$page_number" -lt 256 ]; do
+        echo "page $page_number"
+        page_number=$((page_number + 1))
+    done
+    printf 'compare 0 0 1048576\nmove 0 64 8\ncompare 0 0 1048576\nshow 0 1\nbatch\ncompare 0 0 1048576\n'
+    printf 'compare 0 0 1048576 flags 1\nend\n'
+} >"$work/workers.script"
 printf 'image 2\npage 0\nfill 1 2\n' >"$work/faulty.script"
 descriptor=000000000c000003000000000000000000100000000000000020000000000000
 descriptor=${descriptor}6400000000000000000000000000000000000000000000000000000000000000
 
-program examples/fill.script run
-program "$work/small.script" run --workers 1 --chunk=64 --arena 4096
-program "$work/faulty.script" run
-program /dev/null run
-program /dev/null run --workers x
-program /dev/null run --chunk 12
-program /dev/null help
-program /dev/null run --help
-program /dev/null decode "$descriptor"
-program /dev/null decode 00
-program /dev/null
-for name in $(sed -n 's/^\([a-z0-9_]*\)[^:#]*:.*/\1/p' crates.txt); do
+program fill examples/fill.script run
+program operations "$work/small.script" run --workers 1 --chunk=64 --arena 4096
+program batch "$work/batch.script" run
+program workers "$work/workers.script" run --workers 2 --chunk 1048576
+program script_fault "$work/faulty.script" run
+program empty_script /dev/null run
+program bad_word /dev/null run --workers x
+program bad_setting /dev/null run --chunk 12
+program help /dev/null help
+program help_of_run /dev/null run --help
+program decode /dev/null decode "$descriptor"
+program decode_bad_hex /dev/null decode 00
+program no_word /dev/null
+
+# ---- the libraries
+
+libraries=$(sed -n 's/^\([a-z0-9_]*\)[^:#]*:.*/\1/p' crates.txt)
+for name in $libraries; do
     library "$name"
+done
+for twice in $(cut -d ' ' -f 1 "$work/counts" | sort | uniq -d); do
+    complain "two tests of one crate are named $twice"
+done
+for wanted in $take_none $make_nothing $want_records; do
+    grep -q "^$wanted " "$work/counts" || complain "there is no test $wanted"
+done
+
+# ---- the table
+
+# Of a row with a key: the key, the least and the greatest number of growths.
+rows() {
+    awk -F'|' '/^\|/ {
+        for (i = 2; i < NF; i++) {
+            key = $i; gsub(/[ `]/, "", key)
+            if ($i ~ /^ *`[a-z_]+:[a-z_0-9]+` *$/) {
+                count = split($(i + 1), number, " ")
+                print key, number[1], count == 3 ? number[3] : number[1]
+                next
+            }
+        }
+    }' "$page"
+}
+
+# Of a library's files, lib.rt first: the exported calls that take an allocator, a method behind the name of its type; of
+# the library for C only what is exported to C.
+calls() {
+    awk -v for_c="$([ "$1" = dml_c ] && echo 1)" '
+        FNR == 1 { type = "" }
+        FILENAME ~ /\/lib\.rt$/ {
+            if (/^pub use /) is_use = 1
+            if (is_use) {
+                text = $0; gsub(/[A-Za-z0-9_]+::/, " ", text); gsub(/[^A-Za-z0-9_]+/, " ", text)
+                count = split(text, words, " ")
+                for (i = 1; i <= count; i++) exported[words[i]] = 1
+            }
+            if (/;/) is_use = 0
+        }
+        /^impl/ {
+            type = $0; sub(/^impl(<[^>]*>)? /, "", type); sub(/^.* for /, "", type); sub(/[^A-Za-z0-9_].*/, "", type)
+        }
+        /^}/ { type = "" }
+        /^(    )?pub (extern "C" )?fn [a-z]/ {
+            name = $0; sub(/^.*fn /, "", name); sub(/[^a-z0-9_].*/, "", name)
+            is_method = /^    /; is_exported = is_method ? type in exported && !for_c : /extern/ || name in exported
+            is_inside = 1
+        }
+        is_inside && /alloc: Global/ {
+            if (is_exported) print is_method ? type "::" name : name
+            is_inside = 0
+        }
+        is_inside && /^ *(\{|requires|ensures)|\{ *$|;$/ { is_inside = 0 }
+    ' "crates/$1/src/lib.rt" $(find "crates/$1/src" -name '*.rt' ! -name lib.rt ! -path '*tests*' | sort)
+}
+
+if [ "$1" = write ]; then
+    while read -r key growths; do
+        sed "/\`$key\`/s/\`$key\` | [0-9]* |/\`$key\` | $growths |/" "$page" >"$work/page" && cp "$work/page" "$page"
+    done <"$work/counts"
+fi
+rows >"$work/rows"
+while read -r key growths; do
+    grep -q "^$key " "$work/rows" || complain "$page has no row for $key, which takes $growths"
+done <"$work/counts"
+while read -r key least most; do
+    growths=$(sed -n "s/^$key //p" "$work/counts")
+    if [ -z "$growths" ]; then
+        complain "$page has a row for $key, which is no test and no run of the program"
+    elif [ "$growths" -lt "$least" ] || [ "$growths" -gt "$most" ]; then
+        complain "$key: $growths growths, and $page has $least${most:+ to $most}"
+    fi
+done <"$work/rows"
+for name in $libraries; do
+    [ -f "crates/$name/src/lib.rt" ] || continue
+    calls "$name" >"$work/calls"
+    while read -r call; do
+        grep -q "^| [^|]*\`$call\`" "$page" || complain "$page has no row for the call $call of $name"
+    done <"$work/calls"
 done
 exit "$failed"

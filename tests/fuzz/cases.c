@@ -2,37 +2,27 @@
 // overlap; edges of pages; the end of the image; the end of the address space; limits of sizes.
 #include "cases.h"
 
-#include "jobs.h"
+#include "maker.h"
 
 #include <stdlib.h>
 #include <string.h>
 
-enum { LONGEST_SCRIPT = 4194304, LONGEST_LINE = 16384, PAGES_SHOWN = 16 };
-
-struct maker {
-    uint64_t state, base, last, pattern;
-    uint32_t pages;
-    bool is_in_batch;
-    bool is_plain;   // single spaces between words, and no line that is skipped
-    bool is_of_jobs; // hardly any line but those of jobs, for long lists
-    bool present[MOST_PAGES];
-    struct text *script;
-};
+enum { PAGES_SHOWN = 16 };
 
 // ---- chance
 
-static uint64_t any(struct maker *maker) {
+uint64_t any(struct maker *maker) {
     uint64_t mixed = maker->state += 0x9e3779b97f4a7c15;
     mixed = (mixed ^ mixed >> 30) * 0xbf58476d1ce4e5b9;
     mixed = (mixed ^ mixed >> 27) * 0x94d049bb133111eb;
     return mixed ^ mixed >> 31;
 }
 
-static uint64_t below(struct maker *maker, uint64_t most) {
+uint64_t below(struct maker *maker, uint64_t most) {
     return any(maker) % most;
 }
 
-static bool one_in(struct maker *maker, uint64_t times) {
+bool one_in(struct maker *maker, uint64_t times) {
     return below(maker, times) == 0;
 }
 
@@ -42,7 +32,7 @@ static char letter_of(struct maker *maker, const char *letters) {
 
 // ---- words of a line
 
-static void word(struct maker *maker, const char *word) {
+void word(struct maker *maker, const char *word) {
     static const char *const gaps[] = {" ", "\t", "  ", " \t "};
     struct text *script = maker->script;
     bool begins = script->length == 0 || script->bytes[script->length - 1] == '\n';
@@ -51,7 +41,7 @@ static void word(struct maker *maker, const char *word) {
     text_bytes(script, word, strlen(word));
 }
 
-static void number(struct maker *maker, uint64_t number) {
+void number(struct maker *maker, uint64_t number) {
     char digits[40];
     struct text text = {digits, 0, sizeof digits};
     unsigned long long value = number;
@@ -79,7 +69,7 @@ static void hex_word(struct maker *maker, const uint8_t *bytes, size_t length) {
         text_format(maker->script, is_upper ? "%02X" : "%02x", bytes[i]);
 }
 
-static void end_line(struct maker *maker) {
+void end_line(struct maker *maker) {
     if (!maker->is_plain && one_in(maker, 16))
         text_format(maker->script, "%s", one_in(maker, 2) ? " " : "\t \t");
     text_format(maker->script, "%s", !maker->is_plain && one_in(maker, 6) ? "\r\n" : "\n");
@@ -164,10 +154,11 @@ static uint32_t flags(struct maker *maker) {
     for (int i = 0; i < 5; i++)
         chosen |= one_in(maker, 3) ? accepted[i] : 0;
     if (one_in(maker, 8))
-        chosen |= 1; // the fence
+        chosen |= FLAG_FENCE;
     if (one_in(maker, 20))
         chosen |= (uint32_t)1 << below(maker, 24);
-    return one_in(maker, 40) ? (uint32_t)(any(maker) & 0xffffff) : chosen;
+    chosen = one_in(maker, 40) ? (uint32_t)(any(maker) & 0xffffff) : chosen;
+    return maker->is_free ? chosen & ~(uint32_t)FLAG_FENCE : chosen;
 }
 
 static bool is_present(const struct maker *maker, uint64_t at, uint64_t length) {
@@ -177,7 +168,7 @@ static bool is_present(const struct maker *maker, uint64_t at, uint64_t length) 
     return true;
 }
 
-static uint64_t pattern(struct maker *maker) {
+uint64_t pattern(struct maker *maker) {
     uint64_t turn = 8 * below(maker, 8), known = maker->pattern;
     switch (below(maker, 6)) {
     case 0:
@@ -193,7 +184,7 @@ static uint64_t pattern(struct maker *maker) {
 
 // ---- lines but those of jobs
 
-static void page_line(struct maker *maker, uint64_t page) {
+void page_line(struct maker *maker, uint64_t page) {
     uint8_t bytes[PAGE];
     size_t length = 0;
     word(maker, "page");
@@ -209,7 +200,7 @@ static void page_line(struct maker *maker, uint64_t page) {
     maker->present[page] = true;
 }
 
-static void poke_bytes(struct maker *maker, uint64_t at, const uint8_t *bytes, size_t length) {
+void poke_bytes(struct maker *maker, uint64_t at, const uint8_t *bytes, size_t length) {
     word(maker, "poke");
     number(maker, at);
     hex_word(maker, bytes, length);
@@ -228,7 +219,7 @@ static void poke_line(struct maker *maker) {
     poke_bytes(maker, at, bytes, length);
 }
 
-static void show_line(struct maker *maker, uint64_t at, uint64_t length) {
+void show_line(struct maker *maker, uint64_t at, uint64_t length) {
     if ((whole)at + length > (whole)1 << 64)
         at -= length;
     word(maker, "show");
@@ -278,7 +269,7 @@ static void apply_line(struct maker *maker) {
     }
     for (int tries = 0; tries < 8 && !is_present(maker, at, 10 * entries); tries++)
         at = address(maker);
-    bool is_there = !maker->is_in_batch && is_present(maker, at, 10 * entries);
+    bool is_there = !maker->is_in_batch && !maker->is_in_list && is_present(maker, at, 10 * entries);
     if (is_there)
         poke_bytes(maker, at, bytes, 10 * entries);
     if (is_there && !one_in(maker, 6))
@@ -329,7 +320,7 @@ static void three(struct maker *maker, const char *name, int pattern_place, bool
     suffixes(maker, has_check);
 }
 
-static void plain_job(struct maker *maker, const char *name, const uint64_t *numbers, int count, bool has_check) {
+void plain_job(struct maker *maker, const char *name, const uint64_t *numbers, int count, bool has_check) {
     word(maker, name);
     for (int i = 0; i < count; i++)
         number(maker, numbers[i]);
@@ -344,7 +335,7 @@ static void compare_filled(struct maker *maker) {
     uint64_t turned = turn == 0 ? known : known >> turn | known << (64 - turn);
     uint64_t compare[] = {at + skipped, turned, length - skipped + one_in(maker, 3)};
     plain_job(maker, "fill", fill, 3, false);
-    if (one_in(maker, 3) && !maker->is_in_batch)
+    if (one_in(maker, 3) && !maker->is_in_batch && !maker->is_in_list)
         poke_line(maker);
     plain_job(maker, "compare-pattern", compare, 3, true);
 }
@@ -394,7 +385,7 @@ static void descriptor(struct maker *maker, uint8_t bytes[64]) {
         bytes[opcode == CREATE ? 56 : 40] = (uint8_t)below(maker, 8);
 }
 
-static void job_line(struct maker *maker) {
+void job_line(struct maker *maker) {
     uint8_t bytes[64];
     switch (below(maker, 18)) {
     case 0:
@@ -433,139 +424,6 @@ static void job_line(struct maker *maker) {
         word(maker, "raw");
         hex_word(maker, bytes, 64);
         end_line(maker);
-    }
-}
-
-// ---- broken lines
-
-static void bad_number(struct maker *maker) {
-    static const char *const words[] = {
-        "0X1", "+1", "-1", "0x", "x1", "1x", "0xg", "12a", "1_0", "000000000000000000001", "0x00000000000000001",
-        "18446744073709551616", "99999999999999999999", "0x10000000000000000", "flags", "check", "0b1", "1.0", "''"};
-    word(maker, words[below(maker, sizeof words / sizeof words[0])]);
-}
-
-static void bad_hex(struct maker *maker) {
-    static const char *const words[] = {"0", "0g", "123", "0x12", "zz", "12 34", "-1", "#", "1"};
-    word(maker, words[below(maker, sizeof words / sizeof words[0])]);
-    if (one_in(maker, 6))
-        for (int i = 0; i < 4096; i++)
-            text_bytes(maker->script, "00", 2);
-}
-
-static void padded_line(struct maker *maker) {
-    struct text *script = maker->script;
-    word(maker, "noop");
-    uint64_t length = 4, wanted = LONGEST_LINE - 2 + below(maker, 5);
-    for (; length < wanted; length++)
-        text_bytes(script, " ", 1);
-    if (one_in(maker, 3))
-        text_format(script, "\001");
-    text_format(script, "%s", one_in(maker, 2) ? "\r\n" : "\n");
-}
-
-static void many_jobs(struct maker *maker) {
-    uint64_t jobs = MOST_JOBS - 2 + below(maker, 5);
-    if (!maker->is_in_batch)
-        text_format(maker->script, "batch\n");
-    for (uint64_t i = 0; i < jobs; i++)
-        text_format(maker->script, "noop\n");
-    text_format(maker->script, one_in(maker, 3) ? "fill 1\n" : "end\n");
-    maker->is_in_batch = false;
-}
-
-static void wrong_range(struct maker *maker) {
-    static const char *const lines[] = {
-        "show 0 0", "show 0 65537", "show 0 65536", "show 0xffffffffffffffff 1", "show 0xffffffffffffffff 2",
-        "show 18446744073709551615 65537", "show 0xfffffffffffffff0 17", "poke 0xffffffffffffffff 0000",
-        "poke 18446744073709551615 00", "image 0", "image 4097", "image 0x1000", "image 18446744073709551615",
-        "page 4096", "page 0xffffffffffffffff 00", "page 4095 00", "page 18446744073709551616"};
-    if (one_in(maker, 3)) {
-        static const uint8_t bytes[2] = {1, 2};
-        uint64_t edge = PAGE * below(maker, (uint64_t)maker->pages + 1);
-        poke_bytes(maker, edge + below(maker, 3) - 1, bytes, 2);
-    } else if (one_in(maker, 3)) {
-        page_line(maker, below(maker, (uint64_t)maker->pages + 2) % MOST_PAGES);
-    } else {
-        text_format(maker->script, "%s\n", lines[below(maker, sizeof lines / sizeof lines[0])]);
-    }
-}
-
-static void wrong_words(struct maker *maker) {
-    static const char *const lines[] = {
-        "noop 1", "noop flags", "noop flags 1 flags 2", "noop check 1", "fill 1 0", "fill 1 0 8 8",
-        "fill 1 0 8 check 0", "fill 1 0 flags", "fill 1 flags 2", "compare 0 8 8 flags 2 check 1",
-        "compare 0 8 8 check", "compare 0 8 check 1", "compare 0 8 check", "compare 0 8 8 check 1 flags",
-        "compare 0 8 8 check 256", "compare 0 8 8 check x flags y", "create 0 64 8 128",
-        "create 0 64 8 128 10 check 0x100", "apply 0 10 256", "apply 0 10 256 8 check 1", "dualcast 0 4096 8192",
-        "dualcast 0 4096 8192 8 flags 0x1000000", "noop flags 16777215", "noop flags 0x1000000", "raw", "raw 00 11",
-        "page", "page 0 00 00", "poke 0", "poke 0 00 00", "show 0", "show 0 1 2", "batch 1", "end 1", "image",
-        "image 1 1", "move x 0 0x100000000", "move 0 0 0x100000000", "fill 1 0 4294967296", "poke x y", "page x y",
-        "page 0 y", "show x 0", "show 0 x", "create a b c d e", "noop  flags\t0", "fill flags flags flags"};
-    text_format(maker->script, "%s\n", lines[below(maker, sizeof lines / sizeof lines[0])]);
-}
-
-static void unknown_word(struct maker *maker) {
-    static const char *const words[] = {"Noop", "noop1", "images", "no-op", "comparepattern", "copy", "crc", "0",
-                                        "drain", "flags", "check", "-", "//", "fill,", "END", "\"noop\"",
-                                        "compare_pattern"};
-    word(maker, words[below(maker, sizeof words / sizeof words[0])]);
-    if (one_in(maker, 2))
-        number(maker, any(maker));
-    end_line(maker);
-}
-
-static void bad_number_line(struct maker *maker) {
-    word(maker, one_in(maker, 2) ? "show" : "move");
-    if (one_in(maker, 2))
-        number(maker, 1);
-    bad_number(maker);
-    bad_number(maker);
-    end_line(maker);
-}
-
-static void bad_hex_line(struct maker *maker) {
-    word(maker, one_in(maker, 3) ? "raw" : one_in(maker, 2) ? "poke 0" : "page 0");
-    bad_hex(maker);
-    end_line(maker);
-}
-
-static void bad_line(struct maker *maker) {
-    switch (below(maker, 16)) {
-    case 0:
-        padded_line(maker);
-        break;
-    case 1:
-        text_format(maker->script, "noop flags %c\n",
-                    (int)(one_in(maker, 2) ? 127 + below(maker, 129) : 1 + below(maker, 31)));
-        break;
-    case 2:
-        unknown_word(maker);
-        break;
-    case 3:
-        text_format(maker->script, "image %s\n", one_in(maker, 2) ? "1" : "x");
-        break;
-    case 4:
-        text_format(maker->script, "%s\n", one_in(maker, 2) ? "batch\nbatch" : "batch\nshow 0 1");
-        break;
-    case 5:
-        text_format(maker->script, "end\nend\n");
-        break;
-    case 6:
-        if (one_in(maker, 3))
-            many_jobs(maker);
-        break;
-    case 7: case 8: case 9:
-        wrong_words(maker);
-        break;
-    case 10: case 11:
-        bad_number_line(maker);
-        break;
-    case 12: case 13:
-        bad_hex_line(maker);
-        break;
-    default:
-        wrong_range(maker);
     }
 }
 
@@ -671,11 +529,15 @@ static void lengthen(struct maker *maker) {
 }
 
 static void make_script(struct maker *maker) {
-    bool is_broken = one_in(maker, 3);
+    bool is_broken = one_in(maker, 3), has_long_list = one_in(maker, 200);
     uint64_t lines = 1 + below(maker, one_in(maker, 8) ? 60 : 16), bad = is_broken ? below(maker, 2 * lines) : lines;
     maker->is_plain = !one_in(maker, 3);
     maker->is_of_jobs = one_in(maker, 4);
     maker->pattern = any(maker);
+    if (one_in(maker, 300)) {
+        wide_script(maker);
+        return;
+    }
     if (is_broken && one_in(maker, 20))
         maker->pages = 1; // no image line
     else
@@ -686,6 +548,8 @@ static void make_script(struct maker *maker) {
             bad_line(maker);
         any_line(maker);
     }
+    if (has_long_list)
+        long_list(maker);
     last_lines(maker);
     if (is_broken && bad >= lines)
         mutate(maker);
@@ -695,9 +559,12 @@ static void make_script(struct maker *maker) {
 
 // ---- a case
 
-static void call_word(struct test_case *made, const char *name, uint64_t number) {
-    text_format(&made->words[made->word_count++], "%s", name);
-    text_format(&made->words[made->word_count++], "%llu", (unsigned long long)number);
+// An option with its number, as two words or as one.
+static void call_word(struct maker *maker, struct test_case *made, const char *name, uint64_t number) {
+    bool is_one = one_in(maker, 3);
+    text_format(&made->words[made->word_count++], is_one ? "%s=%llu" : "%s", name, (unsigned long long)number);
+    if (!is_one)
+        text_format(&made->words[made->word_count++], "%llu", (unsigned long long)number);
 }
 
 static void make_settings(struct maker *maker, struct test_case *made) {
@@ -706,15 +573,15 @@ static void make_settings(struct maker *maker, struct test_case *made) {
     bool may_be_refused = one_in(maker, 100);
     if (one_in(maker, 3)) {
         made->settings.staging = arenas[below(maker, may_be_refused ? 13 : 12)];
-        call_word(made, "--arena", made->settings.staging);
+        call_word(maker, made, "--arena", made->settings.staging);
     }
     if (!one_in(maker, 4)) {
         made->settings.chunk = chunks[below(maker, may_be_refused ? 14 : 11)];
-        call_word(made, "--chunk", made->settings.chunk);
+        call_word(maker, made, "--chunk", made->settings.chunk);
     }
     if (!one_in(maker, 4)) {
         made->settings.workers = may_be_refused ? below(maker, 20) : 1 + below(maker, one_in(maker, 4) ? 16 : 4);
-        call_word(made, "--workers", made->settings.workers);
+        call_word(maker, made, "--workers", made->settings.workers);
     }
 }
 
@@ -746,6 +613,7 @@ void make_case(struct test_case *made, uint64_t seed, uint64_t number) {
         text_clear(&made->words[i]);
     made->settings = (struct settings){1048576, 4096, 4};
     made->is_decode = one_in(&maker, 40);
+    made->pieces = one_in(&maker, 8) ? any(&maker) | 1 : 0;
     made->word_count = 1;
     text_format(&made->words[0], made->is_decode ? "decode" : "run");
     if (made->is_decode) {

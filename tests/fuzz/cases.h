@@ -14,6 +14,7 @@ struct test_case {
     int word_count;
     struct text words[MOST_CALL_WORDS]; // behind the program's name
     struct text script;
+    uint64_t pieces; // where it is not 0, the script comes in pieces through a pipe; their lengths go by this number
 };
 
 // The case of this seed and number: always the same one.

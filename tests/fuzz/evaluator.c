@@ -8,7 +8,8 @@
 #include <stdlib.h>
 #include <string.h>
 
-enum { LONGEST_SCRIPT = 4194304, LONGEST_LINE = 16384, MOST_WORDS = 12, LONGEST_SHOW = 65536 };
+enum { LONGEST_SCRIPT = 4194304, LONGEST_LINE = 16384, MOST_WORDS = 12, LONGEST_SHOW = 65536,
+       WIDE = 1572864 };
 
 enum fault {
     LONG_LINE, NOT_ASCII, UNKNOWN_WORD, MISSING_IMAGE, SECOND_IMAGE, IN_BATCH, STRAY_END, TOO_MANY_JOBS, WRONG_WORDS,
@@ -279,6 +280,8 @@ struct run {
     uint64_t staging;
     uint32_t jobs;
     bool is_in_batch;
+    uint32_t in_list;  // successive jobs so far
+    uint64_t compared; // the bytes that their compares and creates name
     struct batch batch;
     struct text *out;
     struct tally *tally;
@@ -313,7 +316,18 @@ static struct job job_of(const struct line *line) {
     return job;
 }
 
+// Counts a list of more than MOST_JOBS successive jobs once, and one whose compares and creates pay for two workers.
+static void count_in_list(struct run *run, const struct job *job) {
+    bool is_compared = job->opcode == COMPARE || job->opcode == COMPARE_PATTERN || job->opcode == CREATE;
+    uint64_t before = run->compared;
+    run->compared += is_compared ? job->size : 0;
+    run->in_list++;
+    run->tally->long_lists += run->in_list == MOST_JOBS + 1;
+    run->tally->wide_lists += before < WIDE && run->compared >= WIDE;
+}
+
 static void run_job(struct run *run, const struct job *job) {
+    count_in_list(run, job);
     struct record record = run->is_in_batch ? batch_step(&run->batch, &run->image, job, run->staging)
                                             : step(&run->image, job, run->staging, false);
     run->tally->job[record.status]++;
@@ -335,6 +349,8 @@ static void run_show(struct run *run, uint64_t address, uint64_t length) {
 static void run_line(struct run *run, const struct line *line) {
     uint64_t number = line->numbers[0];
     struct job job;
+    if (!is_job(line->sort))
+        run->in_list = 0, run->compared = 0;
     switch (line->sort) {
     case IMAGE:
         run->image.pages = (uint32_t)number;

@@ -30,6 +30,7 @@ struct answer {
 enum { FAULT_KINDS = 14 }; // the kinds of a script's faults, and last a script that is too long
 struct tally {
     uint64_t job[256], batch[256], fault[FAULT_KINDS];
+    uint64_t long_lists, wide_lists; // of more jobs than one list has; worth two workers and more
 };
 extern const char *const fault_texts[FAULT_KINDS];
 

@@ -5,6 +5,8 @@
 #include "cases.h"
 
 #include <errno.h>
+#include <fcntl.h>
+#include <poll.h>
 #include <signal.h>
 #include <spawn.h>
 #include <stdio.h>
@@ -19,7 +21,7 @@ enum { MOST_PROCESSES = 64, MOST_TOLD = 3, SECONDS_A_RUN = 60 };
 
 struct shared {
     struct tally tally;
-    uint64_t cases, decoded, refused_settings, done, wrong, bytes;
+    uint64_t cases, decoded, refused_settings, done, wrong, bytes, in_pieces;
 };
 
 struct runner {
@@ -79,28 +81,57 @@ static int status_of(pid_t process) {
     return WIFEXITED(status) ? WEXITSTATUS(status) : 256 + WTERMSIG(status);
 }
 
+// Writes the script into the pipe piece by piece, as long as the program reads; a piece has 1 to 4,096 bytes, and one in
+// eight just one.
+static void feed(int pipe, const char *bytes, size_t length, uint64_t pieces) {
+    while (length > 0) {
+        struct pollfd end = {.fd = pipe, .events = POLLOUT};
+        pieces = pieces * 6364136223846793005 + 1442695040888963407;
+        size_t piece = pieces >> 61 == 0 || length < 64 ? 1 : 1 + (size_t)(pieces >> 33) % 4096;
+        if (poll(&end, 1, SECONDS_A_RUN * 1000) <= 0)
+            break;
+        ssize_t taken = write(pipe, bytes, piece < length ? piece : length);
+        if (taken <= 0)
+            break;
+        bytes += taken;
+        length -= (size_t)taken;
+    }
+    close(pipe);
+}
+
 static void run_program(struct runner *runner, const struct test_case *made, const char *script, size_t length) {
     extern char **environ;
     char *words[MOST_CALL_WORDS + 2] = {(char *)(uintptr_t)runner->program};
     posix_spawn_file_actions_t actions;
     posix_spawnattr_t attributes;
-    sigset_t none;
+    sigset_t none, broken;
     pid_t process;
+    int ends[2] = {-1, -1};
     for (int i = 0; i < made->word_count; i++)
         words[1 + i] = made->words[i].bytes;
-    write_input(runner->in, script, length);
+    if (made->pieces == 0)
+        write_input(runner->in, script, length);
+    else if (pipe2(ends, O_CLOEXEC) != 0)
+        stop("fuzz: pipe2");
     sigemptyset(&none);
+    sigemptyset(&broken);
+    sigaddset(&broken, SIGPIPE);
     posix_spawn_file_actions_init(&actions);
-    posix_spawn_file_actions_adddup2(&actions, runner->in, 0);
+    posix_spawn_file_actions_adddup2(&actions, made->pieces == 0 ? runner->in : ends[0], 0);
     posix_spawn_file_actions_adddup2(&actions, runner->out, 1);
     posix_spawn_file_actions_adddup2(&actions, runner->err, 2);
     posix_spawnattr_init(&attributes);
     posix_spawnattr_setsigmask(&attributes, &none);
-    posix_spawnattr_setflags(&attributes, POSIX_SPAWN_SETSIGMASK);
+    posix_spawnattr_setsigdefault(&attributes, &broken);
+    posix_spawnattr_setflags(&attributes, POSIX_SPAWN_SETSIGMASK | POSIX_SPAWN_SETSIGDEF);
     if (posix_spawn(&process, runner->program, &actions, &attributes, words, environ) != 0)
         stop("fuzz: cannot start the program");
     posix_spawn_file_actions_destroy(&actions);
     posix_spawnattr_destroy(&attributes);
+    if (made->pieces != 0) {
+        close(ends[0]);
+        feed(ends[1], script, length, made->pieces);
+    }
     runner->got.status = status_of(process);
     read_file(runner->out, &runner->got.out);
     read_file(runner->err, &runner->got.err);
@@ -206,6 +237,7 @@ static void run_cases(struct runner *runner, uint64_t first, uint64_t count, uin
         own->done += !made.is_decode && runner->wanted.status == 0;
         own->refused_settings += !made.is_decode && runner->wanted.status == 3;
         own->bytes += made.script.length;
+        own->in_pieces += !made.is_decode && made.pieces != 0;
         if (!is_alike && own->wrong++ < MOST_TOLD)
             tell(runner, &made, number);
     }
@@ -219,6 +251,9 @@ static void report(const struct shared *all, double seconds, uint64_t seed, uint
     printf("fuzz: %llu scripts carried out, %llu descriptors, %llu settings refused, %llu bytes of script\n",
            (unsigned long long)all->done, (unsigned long long)all->decoded, (unsigned long long)all->refused_settings,
            (unsigned long long)all->bytes);
+    printf("fuzz: %llu scripts came in pieces; %llu lists of more than 1,024 jobs, %llu that are worth workers\n",
+           (unsigned long long)all->in_pieces, (unsigned long long)all->tally.long_lists,
+           (unsigned long long)all->tally.wide_lists);
     printf("fuzz: statuses of jobs:");
     for (int status = 0; status < 256; status++)
         if (all->tally.job[status] > 0)
@@ -229,12 +264,13 @@ static void report(const struct shared *all, double seconds, uint64_t seed, uint
         printf("fuzz: %8llu times: %s\n", (unsigned long long)all->tally.fault[kind], fault_texts[kind]);
 }
 
-// Whether each status and each kind of fault came up; asked of runs that are long enough. A script that is too long,
+// Whether each status, each kind of fault and each kind of list came up; asked of runs that are long enough. A script that is too long,
 // the last kind, is left out: it is rare, since it costs much.
 static bool is_broad(const struct shared *all) {
     static const uint8_t statuses[] = {0x00, 0x01, 0x02, 0x03, 0x07, 0x08, 0x10, 0x11, 0x13, 0x15, 0x16, 0x17, 0x1c, 0x7d,
                                        0x7e, 0x83};
-    bool is_missing = all->tally.batch[1] == 0 || all->tally.batch[5] == 0;
+    bool is_missing = all->tally.batch[1] == 0 || all->tally.batch[5] == 0 || all->in_pieces == 0;
+    is_missing |= all->tally.long_lists == 0 || all->tally.wide_lists == 0;
     for (size_t i = 0; i < sizeof statuses; i++)
         is_missing |= all->tally.job[statuses[i]] == 0;
     for (int kind = 0; kind + 1 < FAULT_KINDS; kind++)
@@ -260,6 +296,7 @@ static bool run_processes(struct runner *runner, uint64_t first, uint64_t count,
     sigemptyset(&child);
     sigaddset(&child, SIGCHLD);
     sigprocmask(SIG_BLOCK, &child, NULL); // waits until status_of asks for it; each process has its own
+    signal(SIGPIPE, SIG_IGN);             // a program may end before its input does
     for (uint64_t i = 0; i < processes; i++) {
         pid_t process = fork();
         if (process < 0)

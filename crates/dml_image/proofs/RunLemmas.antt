@@ -1,8 +1,9 @@
 -- Runs of present bytes, page by page.
-use Rattle.std.proofs.Common.{◌≡◌, ℕ, ◌+◌, ◌-◌, ◌/◌, ◌%◌, ◌<◌, ◌≤◌, min, Bool, true, false, not, ◌&&◌, get_or, ap, sym, ◌∙◌, arith, ⊎_elim}
+use Rattle.std.proofs.Common.{◌≡◌, ℕ, ◌+◌, ◌-◌, ◌/◌, ◌%◌, ◌<◌, ◌≤◌, min, Bool, true, false, not, ◌&&◌, absurd, get_or, ap, sym, ◌∙◌, arith, ⊎_elim}
 use Rattle.std.proofs.lemmas.Bool.{cases_lt, not-false, not-true, and_from, and_left, and_right}
 use Rattle.dml_types.specs.Memory.{first, Memory, has, present_toward, worked_offset}
 use Rattle.dml_types.specs.declared.operations.Direction.{Direction}
+use Rattle.dml_types.specs.declared.operations.Direction.TheVariants.{Forward, Backward}
 use Rattle.dml_types.proofs.FirstLemmas.{first_le, first_is, fails_before, passes_at}
 
 -- the rest of a page upwards and downwards is as present as one of its bytes
@@ -23,6 +24,23 @@ present_toward_is direction memory address n k within before here =
 pub present_toward_stops : (direction : Direction) (memory : Memory) (address n k : ℕ) → k < n → ((i : ℕ) → i < k → has memory (address + worked_offset direction n i) ≡ true) → has memory (address + worked_offset direction n k) ≡ false → k ≡ present_toward direction memory address n
 present_toward_stops direction memory address n k within before here =
     present_toward_is direction memory address n k (omega arith) before (λ _. here)
+
+-- of bytes in one page all are as present as the first
+in_page : (direction : Direction) (memory : Memory) (address n i : ℕ) → address % 4096 + n ≤ 4096 → i < n → has memory (address + worked_offset direction n i) ≡ has memory address
+in_page Forward memory address n i within low =
+    let same : (address + i) / 4096 ≡ address / 4096 = omega arith in
+    ap (λ page. get_or memory.present page false) same
+in_page Backward memory address n i within low =
+    let same : (address + (n - 1 - i)) / 4096 ≡ address / 4096 = omega arith in
+    ap (λ page. get_or memory.present page false) same
+
+pub all_of_page : (direction : Direction) (memory : Memory) (address n : ℕ) → address % 4096 + n ≤ 4096 → has memory address ≡ true → n ≡ present_toward direction memory address n
+all_of_page direction memory address n within here =
+    present_toward_is direction memory address n n (omega arith) (λ i low. in_page direction memory address n i within low ∙ here) (λ low. absurd (omega arith))
+
+pub none_of_page : (direction : Direction) (memory : Memory) (address n : ℕ) → address % 4096 + n ≤ 4096 → has memory address ≡ false → 0 ≡ present_toward direction memory address n
+none_of_page direction memory address n within absent =
+    present_toward_is direction memory address n 0 (omega arith) (λ i low. absurd (omega arith)) (λ some. in_page direction memory address n 0 within some ∙ absent)
 
 -- the first index at which one of two facts fails is the lesser of their own
 pub first_both : (n : ℕ) (p q : ℕ → Bool) → first n (λ i. not (p i && q i)) ≡ min (first n (λ i. not (p i))) (first n (λ i. not (q i)))

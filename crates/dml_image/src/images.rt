@@ -7,7 +7,8 @@ ghost use Rattle.dml_image.specs.Kept.{kept_by, lent_memory};
 use crate::MAX_PAGES;
 use crate::errors::ImageError;
 use crate::lent::Lent;
-use crate::runs::{present_downwards, present_upwards};
+use crate::ranges::rest_of_page;
+use crate::runs::{present_downwards, present_in_page, present_upwards};
 use crate::tables::Table;
 use dml_types::Direction;
 use std::alloc::{AllocError, Global};
@@ -258,6 +259,9 @@ impl Image<'_> {
         ensures memory { IsMemory self.now }
     {
         let _ = &self.pages; // what is looked at is an image
+        if len as usize <= rest_of_page(addr) {
+            return present_in_page(self, addr, len);
+        }
         match direction {
             Direction::Forward => present_upwards(self, addr, len),
             Direction::Backward => present_downwards(self, addr, len),

@@ -17,9 +17,13 @@ impl Pages<'_> {
         requires target { IsTrue (has_all (kept_by self.old) target len) }
         ensures { kept_by self.new ≡ put (kept_by self.old) target (bytes_at (kept_by self.old) source len) }
     {
+        let bytes = len as usize;
+        if bytes > 0 && self.part_behind(source, target, bytes) == bytes {
+            return self.copy_part(source, target, bytes);
+        }
         match Direction::of_move(source, target, len) {
-            Direction::Backward => self.move_down(source, target, len as usize),
-            Direction::Forward => self.move_up(source, target, len as usize),
+            Direction::Backward => self.move_down(source, target, bytes),
+            Direction::Forward => self.move_up(source, target, bytes),
         }
     }
 

@@ -1,9 +1,20 @@
-ghost use Rattle.std.specs.Prelude.{◌≡◌, ◌+◌, ◌^◌, ◌≤◌};
+ghost use Rattle.std.specs.Prelude.{◌≡◌, ◌+◌, ◌%◌, ◌^◌, ◌≤◌};
 ghost use Rattle.dml_types.specs.Memory.{has, present_toward};
 
 use crate::PAGE_SIZE;
 use crate::images::Image;
 use dml_types::Direction;
+
+/// How many of `len` bytes of one page come before the first absent one, in either order: all or none.
+#[inline(always)]
+#[tactic(auto, using(crate::proofs::RunLemmas::all_of_page, crate::proofs::RunLemmas::none_of_page))]
+pub fn present_in_page(image: &Image, addr: u64, len: u32) -> u32
+    requires { addr % 4096 + len ≤ 4096 }
+    ensures within { result ≤ len }
+    ensures value { (direction : Direction) → result ≡ present_toward direction image.now addr len }
+{
+    if image.has(addr) { len } else { 0 }
+}
 
 /// How many of `len` bytes come before the first absent one upwards.
 #[tactic(auto, using(crate::proofs::RunLemmas::present_toward_is, crate::proofs::RunLemmas::present_toward_stops, crate::proofs::RunLemmas::has_above))]

@@ -1,5 +1,5 @@
 -- Runs of present bytes, page by page.
-use Rattle.std.proofs.Common.{◌≡◌, ℕ, ◌+◌, ◌-◌, ◌/◌, ◌%◌, ◌<◌, ◌≤◌, min, Bool, true, false, not, ◌&&◌, absurd, get_or, ap, sym, ◌∙◌, arith, ⊎_elim}
+use Rattle.std.proofs.Common.{◌≡◌, ℕ, ◌+◌, ◌-◌, ◌/◌, ◌%◌, ◌<◌, ◌≤◌, min, Bool, true, false, not, ◌&&◌, get_or, ap, sym, ◌∙◌, arith, ⊎_elim}
 use Rattle.std.proofs.lemmas.Bool.{cases_lt, not-false, not-true, and_from, and_left, and_right}
 use Rattle.dml_types.specs.Memory.{first, Memory, has, present_toward, worked_offset}
 use Rattle.dml_types.specs.declared.operations.Direction.{Direction}

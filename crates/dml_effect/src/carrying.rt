@@ -76,18 +76,28 @@ pub fn carry_out(image: &mut Image, arena: &mut Arena, job: &Checked) -> Record
     ensures arena { arena.new ≡ arena.old }
 {
     match job.op() {
-        Op::CreateDelta => {
-            let room = arena.open();
-            let effect = create_in(image, job, room);
-            by_fields(commit(image, effect))
-        }
-        Op::ApplyDelta => {
-            let room = arena.open();
-            let effect = apply_in(image, job, room);
-            by_fields(commit(image, effect))
-        }
+        Op::CreateDelta | Op::ApplyDelta => carry_out_staged(image, arena, job),
         _ => carry_out_straight(image, job),
     }
+}
+
+/// Carries out a create or an apply as one chunk, staged in the arena. It stands apart, so that a job that goes straight
+/// has none of its frame.
+#[inline(never)]
+fn carry_out_staged(image: &mut Image, arena: &mut Arena, job: &Checked) -> Record
+    requires operation { IsDelta job.now }
+    requires staging { need job.now ≤ arena.old.size }
+    ensures image { image.new ≡ (checked_step image.old job.now).0 }
+    ensures answer { result ≡ (checked_step image.old job.now).1 }
+    ensures arena { arena.new ≡ arena.old }
+{
+    let room = arena.open();
+    let effect = if job.op() == Op::CreateDelta {
+        create_in(image, job, room)
+    } else {
+        apply_in(image, job, room)
+    };
+    by_fields(commit(image, effect))
 }
 
 /// Carries out a job that stages nothing as one chunk, within the image, and returns its completion record.
@@ -100,11 +110,19 @@ pub fn carry_out_straight(image: &mut Image, job: &Checked) -> Record
         Op::NoOp => ended(Status::Success, 0, 0),
         Op::Move => by_fields(move_straight(image, job)),
         Op::Dualcast => by_fields(dualcast_straight(image, job)),
-        _ => {
-            let effect = scan_in(image, job);
-            by_fields(commit(image, effect))
-        }
+        _ => carry_out_scanned(image, job),
     }
+}
+
+/// Carries out a fill or a compare as one chunk, apart from the jobs that have no effect to commit.
+#[inline(never)]
+fn carry_out_scanned(image: &mut Image, job: &Checked) -> Record
+    requires operation { IsScanned job.now }
+    ensures image { image.new ≡ (checked_step image.old job.now).0 }
+    ensures answer { result ≡ (checked_step image.old job.now).1 }
+{
+    let effect = scan_in(image, job);
+    by_fields(commit(image, effect))
 }
 
 /// Carries out a move within the image, with no stage.

@@ -19,11 +19,23 @@ impl Pages<'_> {
     {
         let bytes = len as usize;
         if bytes > 0 && self.part_behind(source, target, bytes) == bytes {
-            return self.copy_part(source, target, bytes);
+            self.copy_part(source, target, bytes);
+        } else {
+            self.move_by_parts(source, target, len);
         }
+    }
+
+    /// The same in parts. It stands apart, so that a move of one part has none of its frame.
+    #[inline(never)]
+    fn move_by_parts(&mut self, source: u64, target: u64, len: u32)
+        requires memory { IsMemory (kept_by self.old) }
+        requires source { IsTrue (has_all (kept_by self.old) source len) }
+        requires target { IsTrue (has_all (kept_by self.old) target len) }
+        ensures { kept_by self.new ≡ put (kept_by self.old) target (bytes_at (kept_by self.old) source len) }
+    {
         match Direction::of_move(source, target, len) {
-            Direction::Backward => self.move_down(source, target, bytes),
-            Direction::Forward => self.move_up(source, target, bytes),
+            Direction::Backward => self.move_down(source, target, len as usize),
+            Direction::Forward => self.move_up(source, target, len as usize),
         }
     }
 

@@ -7,7 +7,8 @@ use Rattle.dml_types.specs.declared.operations.Op.TheVariants.{CreateDelta, Appl
 use Rattle.dml_types.specs.Job.{op_of}
 use Rattle.dml_types.specs.Memory.{Memory}
 pub use Rattle.dml_types.specs.Chunk.{scan_size}
-use Rattle.dml_types.specs.Chunk.{scan_found, scan_staged, create_fault, create_staged, apply_bad, apply_first, apply_last, apply_staged}
+use Rattle.dml_types.specs.Chunk.{scan_found, scan_staged, create_fault, create_staged}
+use Rattle.dml_types.specs.Chunk.{apply_bad, apply_first, apply_last, apply_staged}
 use Rattle.dml_arena.specs.Piece.{Piece}
 use Rattle.dml_scan.specs.declared.scans.ScanPiece.{ScanPiece}
 use Rattle.dml_delta.specs.declared.applies.ApplyPiece.{ApplyPiece}

@@ -1,5 +1,6 @@
 -- How two neighbouring chunks of a job end together, and what a job does whose scan ended so.
-use Rattle.std.specs.Prelude.{ℕ, ◌+◌, ◌*◌, Bool, true, false, Option, None, Some, List, [], ◌∷◌, ◌++◌, if◌then◌else◌, ◌==◌, nat_eq, take}
+use Rattle.std.specs.Prelude.{ℕ, ◌+◌, ◌*◌, Bool, true, false, Option, None, Some, List, [], ◌∷◌, ◌++◌, take}
+use Rattle.std.specs.Prelude.{if◌then◌else◌, ◌==◌, nat_eq}
 use Rattle.dml_types.specs.declared.findings.Found.{Found}
 use Rattle.dml_types.specs.declared.findings.Found.TheVariants.{All, Differs, Fault as Stopped}
 use Rattle.dml_types.specs.declared.jobs.Job.{Job}

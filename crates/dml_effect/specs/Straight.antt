@@ -1,5 +1,5 @@
 -- Jobs that are carried out as one chunk: only a create and an apply stage bytes, and all else goes straight.
-use Rattle.std.specs.Prelude.{◌≡◌, ◌⊎◌, ℕ, ◌≤◌, Some}
+use Rattle.std.specs.Prelude.{◌≡◌, ◌⊎◌, ℕ, ◌<◌, ◌≤◌, None, Some}
 use Rattle.dml_types.specs.declared.findings.Found.{Found}
 use Rattle.dml_types.specs.declared.jobs.Job.{Job}
 use Rattle.dml_types.specs.declared.operations.Op.{Op}
@@ -7,14 +7,15 @@ use Rattle.dml_types.specs.declared.operations.Op.TheVariants.{ApplyDelta, Compa
 use Rattle.dml_types.specs.Chunk.{scan_found, scan_size}
 use Rattle.dml_types.specs.Job.{op_of}
 use Rattle.dml_types.specs.Memory.{Memory}
-use Rattle.dml_types.specs.Refusal.{need}
+use Rattle.dml_types.specs.Refusal.{need, refusal}
 
 abbrev pub IsDelta : Job → Type 0
 IsDelta job = (op_of job ≡ Some CreateDelta) ⊎ (op_of job ≡ Some ApplyDelta)
 
--- a job that is not refused for want of staging, and stages bytes
+-- a create or an apply that is not refused, and has bytes to stage: they are within the limit then
 abbrev pub TakesStaging : Job → ℕ → Type 0
-TakesStaging job staging = IsDelta job × (need job ≤ staging)
+TakesStaging job staging =
+    IsDelta job × (refusal job staging ≡ None) × (0 < need job) × (need job ≤ staging)
 
 -- a fill or a compare
 abbrev pub IsScanned : Job → Type 0

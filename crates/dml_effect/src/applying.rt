@@ -1,5 +1,6 @@
 //! The pieces of an apply's chunks, joined to its effect.
-ghost use Rattle.std.specs.Prelude.{◌≡◌, ◌+◌, ◌*◌, ◌^◌, ◌<◌, ◌≤◌, false, None, Some, is_some, option_map, if◌then◌else◌, IfSome, IsTrue};
+ghost use Rattle.std.specs.Prelude.{◌≡◌, ◌+◌, ◌*◌, ◌^◌, ◌<◌, ◌≤◌, false, None, Some, IfSome, IsTrue};
+ghost use Rattle.std.specs.Prelude.{is_some, option_map, if◌then◌else◌};
 ghost use Rattle.std.specs.Iterator.{IsFinite};
 ghost use Rattle.std.specs.Option.{option_or};
 ghost use Rattle.dml_types.specs.declared.operations.Op.TheVariants.{ApplyDelta};
@@ -77,7 +78,8 @@ fn join_neighbours<'a>(
     ensures value { IsApplyFrom _image.now _job.now 0 result }
     ensures to { result.to ≡ above.entry.to }
     ensures opening { is_some result.bad ≡ false → result.staged.opening ≡ above.entry.staged.opening }
-    ensures end { is_some result.bad ≡ false → result.staged.start + result.staged.room ≡ above.entry.staged.start + above.entry.staged.room }
+    ensures end { is_some result.bad ≡ false
+        → result.staged.start + result.staged.room ≡ above.entry.staged.start + above.entry.staged.room }
 {
     let (from, to) = (below.from, above.to);
     let stop = stop_before(below.bad, below.last, above.from, above.first);
@@ -113,7 +115,8 @@ fn stop_before(
     entry: u32,
     first: Option<u16>,
 ) -> Option<BadEntry>
-    ensures { option_map bad_of result ≡ option_or (option_map bad_of bad) (if falls last first then Some (entry, record { status = NotRising; address = 0 }) else None) }
+    ensures { option_map bad_of result ≡ option_or (option_map bad_of bad)
+        (if falls last first then Some (entry, record { status = NotRising; address = 0 }) else None) }
 {
     match (bad, last, first) {
         (Some(bad), _, _) => Some(bad),
@@ -127,7 +130,7 @@ fn stop_before(
 }
 
 /// The effect of an apply whose pieces are joined to one, or of one that has none.
-fn effect_of<'a>(image: &Image, job: &Checked, whole: Option<ApplyPiece<'a>>) -> Effect<'a>
+pub fn effect_of<'a>(image: &Image, job: &Checked, whole: Option<ApplyPiece<'a>>) -> Effect<'a>
     requires operation { op_of job.now ≡ Some ApplyDelta }
     requires whole { IsWholeApply image.now job.now whole }
     ensures answer { result.answer ≡ (checked_step image.now job.now).1 }

@@ -1,19 +1,19 @@
 //! Jobs carried out on an image, each as one chunk.
 ghost use Rattle.std.specs.Prelude.{◌≡◌, ◌↔◌, ◌⊎◌, ◌≤◌, ℕ, List, [], Some, IsTrue};
-ghost use Rattle.dml_types.specs.declared.operations.Op.TheVariants.{ApplyDelta, Compare, ComparePattern, CreateDelta, Dualcast, Fill, Move};
+ghost use Rattle.dml_types.specs.declared.operations.Op.TheVariants.{Compare, ComparePattern, Dualcast, Fill, Move};
+ghost use Rattle.dml_types.specs.declared.operations.Op.TheVariants.{ApplyDelta, CreateDelta};
 ghost use Rattle.dml_types.specs.Job.{op_of};
 ghost use Rattle.dml_types.specs.Memory.{puts_made};
 ghost use Rattle.dml_types.specs.Refusal.{need};
 ghost use Rattle.dml_types.specs.Step.{step};
 ghost use Rattle.dml_desc.specs.Checked.{checked_step};
 ghost use Rattle.dml_types.specs.declared.operations.Direction.TheVariants.{Forward};
-ghost use Rattle.dml_effect.specs.Chunks.{GoesByOffsets};
 ghost use Rattle.dml_effect.specs.Effects.{are_present, puts_of};
 ghost use Rattle.dml_effect.specs.Joined as joined;
 ghost use Rattle.dml_effect.specs.Straight.{IsDelta, IsScanned, IsWholeFound, TakesStaging};
 
-use crate::applying::join_apply;
-use crate::creating::join_create;
+use crate::applying::{self, join_apply};
+use crate::creating::{self, join_create};
 use crate::effects::{Effect, Puts, commit};
 use crate::records::{by_fields, copied_record, ended, scanned_record};
 use dml_arena::{Arena, Region};
@@ -29,7 +29,7 @@ use std::iter;
 /// Checks a job and carries it out on an image, or answers its refusal. A refused job changes nothing.
 ///
 /// Room is asked for where the job takes staging: [`takes_staging`] is the test.
-#[tactic(auto, using(dml_types::proofs::StepLemmas::effect_refused, crate::proofs::WholeLemmas::effect_at_need, crate::proofs::WholeLemmas::need_under))]
+#[tactic(auto, using(crate::proofs::WholeLemmas::effect_at_need, crate::proofs::WholeLemmas::need_under))]
 pub fn submit_to(image: &mut Image, arena: &mut Arena, job: &Job, staging: u32) -> Record
     requires staging { TakesStaging job.now staging → need job.now ≤ arena.old.size }
     ensures image { image.new ≡ (step image.old job.now staging).0 }
@@ -43,7 +43,7 @@ pub fn submit_to(image: &mut Image, arena: &mut Arena, job: &Job, staging: u32) 
 }
 
 /// The same for a job that takes no staging.
-#[tactic(auto, using(dml_types::proofs::StepLemmas::effect_refused, crate::proofs::WholeLemmas::effect_at_need, crate::proofs::WholeLemmas::need_under))]
+#[tactic(auto, using(crate::proofs::WholeLemmas::effect_at_need, crate::proofs::WholeLemmas::need_under))]
 pub fn submit_straight_to(image: &mut Image, job: &Job, staging: u32) -> Record
     requires staging { TakesStaging job.now staging → ⊥ }
     ensures image { image.new ≡ (step image.old job.now staging).0 }
@@ -55,13 +55,16 @@ pub fn submit_straight_to(image: &mut Image, job: &Job, staging: u32) -> Record
     }
 }
 
-/// Whether a job that is carried out as one chunk takes staging: it is a create or an apply, and its need is within the
-/// limit. Any other job goes straight within the image, or is refused.
+/// Whether a job that is carried out as one chunk takes staging: it is a create or an apply that is not refused, and has
+/// bytes to stage. Any other job goes straight within the image, or is refused.
+#[tactic(auto, using(dml_desc::proofs::CheckedLemmas::need_within))]
 pub fn takes_staging(job: &Job, staging: u32) -> bool
     ensures { IsTrue result ↔ TakesStaging job.now staging }
 {
     match job.op() {
-        Some(Op::CreateDelta | Op::ApplyDelta) => dml_desc::need(job) <= u64::from(staging),
+        Some(Op::CreateDelta | Op::ApplyDelta) => {
+            dml_desc::need(job) > 0 && check(job, staging).is_ok()
+        }
         _ => false,
     }
 }
@@ -102,7 +105,7 @@ fn carry_out_staged(image: &mut Image, arena: &mut Arena, job: &Checked) -> Reco
 
 /// Carries out a job that stages nothing as one chunk, within the image, and returns its completion record.
 pub fn carry_out_straight(image: &mut Image, job: &Checked) -> Record
-    requires operation { GoesByOffsets job.now }
+    requires staging { IsDelta job.now → need job.now ≡ 0 }
     ensures image { image.new ≡ (checked_step image.old job.now).0 }
     ensures answer { result ≡ (checked_step image.old job.now).1 }
 {
@@ -110,18 +113,22 @@ pub fn carry_out_straight(image: &mut Image, job: &Checked) -> Record
         Op::NoOp => ended(Status::Success, 0, 0),
         Op::Move => by_fields(move_straight(image, job)),
         Op::Dualcast => by_fields(dualcast_straight(image, job)),
-        _ => carry_out_scanned(image, job),
+        _ => carry_out_effect(image, job),
     }
 }
 
-/// Carries out a fill or a compare as one chunk, apart from the jobs that have no effect to commit.
+/// Carries out a fill, a compare, or an empty create or apply, apart from the jobs that have no effect to commit.
 #[inline(never)]
-fn carry_out_scanned(image: &mut Image, job: &Checked) -> Record
-    requires operation { IsScanned job.now }
+fn carry_out_effect(image: &mut Image, job: &Checked) -> Record
+    requires operation { IsDelta job.now ⊎ IsScanned job.now }
+    requires staging { IsDelta job.now → need job.now ≡ 0 }
     ensures image { image.new ≡ (checked_step image.old job.now).0 }
     ensures answer { result ≡ (checked_step image.old job.now).1 }
 {
-    let effect = scan_in(image, job);
+    let effect = match job.op() {
+        Op::CreateDelta | Op::ApplyDelta => empty_in(image, job),
+        _ => scan_in(image, job),
+    };
     by_fields(commit(image, effect))
 }
 
@@ -216,6 +223,20 @@ fn scanned_puts<'a>(op: Op, job: &Job, done: u32) -> Puts<'a>
         }
     } else {
         Puts::Nothing
+    }
+}
+
+/// The effect of a create or an apply that has nothing to stage.
+fn empty_in<'a>(image: &Image, job: &Checked) -> Effect<'a>
+    requires operation { IsDelta job.now }
+    requires empty { need job.now ≡ 0 }
+    ensures answer { result.answer ≡ (checked_step image.now job.now).1 }
+    ensures image { puts_made image.now result.puts ≡ (checked_step image.now job.now).0 }
+    ensures present { IsTrue (are_present image.now result.puts) }
+{
+    match job.op() {
+        Op::CreateDelta => creating::effect_of(image, job, None),
+        _ => applying::effect_of(image, job, None),
     }
 }
 

@@ -72,9 +72,11 @@ fn join_neighbours<'a>(below: CreatePiece<'a>, above: CreatePiece<'a>) -> Create
     requires beside { is_some below.fault ≡ false → IsBehind below.staged above.staged }
     ensures chunk { (result.from ≡ below.entry.from) × (result.to ≡ above.entry.to) }
     ensures fault { result.fault ≡ fault_joined below.entry.fault above.entry.fault }
-    ensures staged { result.staged.bytes ≡ entries_joined below.entry.fault below.entry.staged.bytes above.entry.staged.bytes }
+    ensures staged { result.staged.bytes
+        ≡ entries_joined below.entry.fault below.entry.staged.bytes above.entry.staged.bytes }
     ensures opening { is_some result.fault ≡ false → result.staged.opening ≡ above.entry.staged.opening }
-    ensures end { is_some result.fault ≡ false → result.staged.start + result.staged.room ≡ above.entry.staged.start + above.entry.staged.room }
+    ensures end { is_some result.fault ≡ false
+        → result.staged.start + result.staged.room ≡ above.entry.staged.start + above.entry.staged.room }
 {
     let (from, to) = (below.from, above.to);
     match below.fault {
@@ -94,7 +96,7 @@ fn join_neighbours<'a>(below: CreatePiece<'a>, above: CreatePiece<'a>) -> Create
 }
 
 /// The effect of a create whose pieces are joined to one, or of one that has none.
-fn effect_of<'a>(image: &Image, job: &Checked, whole: Option<CreatePiece<'a>>) -> Effect<'a>
+pub fn effect_of<'a>(image: &Image, job: &Checked, whole: Option<CreatePiece<'a>>) -> Effect<'a>
     requires operation { op_of job.now ≡ Some CreateDelta }
     requires whole { IsWholeCreate image.now job.now whole }
     ensures answer { result.answer ≡ (checked_step image.now job.now).1 }

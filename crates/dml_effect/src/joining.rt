@@ -81,10 +81,13 @@ fn join_neighbours<'a>(
     requires below_done { done_count 0 below.found ≤ below.to - below.from }
     requires above_done { done_count 0 above.found ≤ above.to - above.from }
     ensures chunk { (result.from ≡ below.entry.from) × (result.to ≡ above.entry.to) }
-    ensures found { result.found ≡ found_joined direction (below.entry.to - below.entry.from) below.entry.found (above.entry.to - above.entry.from) above.entry.found }
-    ensures staged { result.staged.bytes ≡ staged_joined direction below.entry.found below.entry.staged.bytes above.entry.found above.entry.staged.bytes }
+    ensures found { result.found ≡ found_joined direction (below.entry.to - below.entry.from) below.entry.found
+        (above.entry.to - above.entry.from) above.entry.found }
+    ensures staged { result.staged.bytes ≡ staged_joined direction below.entry.found below.entry.staged.bytes
+        above.entry.found above.entry.staged.bytes }
     ensures opening { is_over direction result.found ≡ false → result.staged.opening ≡ above.entry.staged.opening }
-    ensures end { is_over direction result.found ≡ false → result.staged.start + result.staged.room ≡ above.entry.staged.start + above.entry.staged.room }
+    ensures end { is_over direction result.found ≡ false
+        → result.staged.start + result.staged.room ≡ above.entry.staged.start + above.entry.staged.room }
 {
     let (from, to) = (below.from, above.to);
     match direction {

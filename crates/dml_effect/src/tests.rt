@@ -259,8 +259,8 @@ pub fn carried_over(rt: &impl Abort, bytes: &mut [u8], arena: &mut Arena, job: &
     submit_over(bytes, arena, job, staging)
 }
 
-/// A job over so many whole pages of a caller's, which hold 01, 02, 03, 04, 05 and then 0; its answer, and what it leaves
-/// in two places. All other bytes stay as they were.
+/// A job over so many whole pages of a caller's, which hold 01, 02, 03, 04, 05 and then 0; its answer, and what it
+/// leaves in two places. All other bytes stay as they were.
 #[derive(Clone, Copy)]
 struct LentRow {
     pages: u16,

@@ -11,7 +11,7 @@ use Rattle.dml_types.specs.declared.findings.Found.{Found}
 use Rattle.dml_types.specs.declared.findings.Found.TheVariants.{All as Passed}
 use Rattle.dml_types.specs.declared.statuses.Status.{Status}
 use Rattle.dml_types.specs.declared.operations.Op.TheVariants.{Move, Fill, Compare, ComparePattern, Dualcast}
-use Rattle.dml_types.specs.Chunk.{scan_found, scan_staged, create_fault, create_staged, apply_bad, apply_first, apply_last, apply_staged}
+use Rattle.dml_types.specs.Chunk.{chunk_units, units, scan_found, scan_staged, create_fault, create_staged, apply_bad, apply_first, apply_last, apply_staged}
 use Rattle.dml_types.specs.Effect.{Fault}
 use Rattle.dml_types.specs.Job.{op_of}
 use Rattle.dml_types.specs.Limits.{IsChunk, IsValid}
@@ -28,7 +28,7 @@ use Rattle.dml_effect.specs.Chunks.{AreChunksFrom, AreScans, GoesByOffsets, IsAp
 use Rattle.dml_levels.specs.Tasks.{task_count, task_count_by}
 use Rattle.dml_levels.specs.Waves.{job_at}
 use Rattle.dml_core.specs.Types.{Job, Op, NoOp, CreateDelta, ApplyDelta, Fetched, Task}
-use Rattle.dml_core.specs.Plan.{entry_at, jobs_of, is_refused, units, chunk_units, task_for, chunks_of}
+use Rattle.dml_core.specs.Plan.{entry_at, jobs_of, is_refused, task_for, chunks_of}
 use Rattle.dml_core.specs.World.{Value, Nothing, Scanned, Created, Applied, value_by, value_of, World}
 use Rattle.dml_core.specs.Laws.{kept_with, job_tasks}
 use Rattle.dml_core.specs.Joins.{CarriesScan, CarriesCreate, CarriesApply, AreNeighbours, KeptMeetJoins}

@@ -1,16 +1,16 @@
 -- What is fetched, the waves of the jobs that are not yet committed, and the tasks of a wave.
-use Rattle.std.specs.Prelude.{None, ℕ, ◌+◌, ◌*◌, ◌/◌, min, Bool, not, ◌||◌, List, [], ◌∷◌, filter, flat_map, length, map, is_none, is_some, if◌then◌else◌, slice_index, slice_index_or}
+use Rattle.std.specs.Prelude.{None, ℕ, ◌+◌, ◌*◌, min, Bool, not, ◌||◌, List, [], ◌∷◌, filter, flat_map, length, map, is_none, is_some, if◌then◌else◌, slice_index, slice_index_or}
 use Rattle.std.specs.List.{range_with_len}
 use Rattle.dml_types.specs.Job.{no_op_job}
 use Rattle.dml_types.specs.Refusal.{refusal}
+use Rattle.dml_types.specs.Chunk.{chunk_units, units}
 use Rattle.dml_types.specs.Conflict.{levels}
 use Rattle.dml_desc.specs.Checked.{operation_of}
-use Rattle.dml_effect.specs.Chunks.{scan_size}
 use Rattle.dml_order.specs.Order.{is_in}
 use Rattle.dml_order.specs.Waves.{is_nil}
 use Rattle.dml_levels.specs.Tasks.{task_count}
 use Rattle.dml_levels.specs.Waves.{job_at, waves}
-use Rattle.dml_core.specs.Types.{Job, Op, CreateDelta, ApplyDelta, Fetched, Task}
+use Rattle.dml_core.specs.Types.{Job, Op, Fetched, Task}
 
 abbrev pub no_entry : Fetched
 no_entry = record { client = 0; job = no_op_job; answer = None }
@@ -57,17 +57,6 @@ planned jobs staging chunk places =
 -- the waves of all jobs that are not committed
 abbrev pub plan_of : List Fetched → ℕ → ℕ → List (List ℕ)
 plan_of fetched staging chunk = planned (jobs_of fetched) staging chunk (open_places fetched)
-
--- how many offsets, blocks or entries a job is cut into chunks by, and how many of them a chunk has
-abbrev pub units : Op → Job → ℕ
-units CreateDelta job = job.size / 8
-units ApplyDelta job = job.delta_size / 10
-units op job = scan_size op job
-
-abbrev pub chunk_units : Op → ℕ → ℕ
-chunk_units CreateDelta chunk = chunk / 8
-chunk_units ApplyDelta chunk = chunk / 8
-chunk_units _ chunk = chunk
 
 -- chunk k of the job at a place: of so many units each, up to the last
 abbrev pub task_for : ℕ → ℕ → ℕ → ℕ → Task

@@ -1,6 +1,7 @@
 //! The tasks of a wave.
 ghost use Rattle.std.specs.Prelude.{◌≡◌, ◌≤◌, ◌<◌, ◌++◌, All, IfOk, OnOk, length, map};
 ghost use Rattle.std.specs.List.{range_with_len};
+ghost use Rattle.dml_types.specs.Chunk as unit;
 ghost use Rattle.dml_types.specs.Limits.{IsValid};
 ghost use Rattle.dml_desc.specs.Checked.{operation_of};
 ghost use Rattle.dml_levels.specs.Tasks.{IsChunk};
@@ -83,7 +84,7 @@ fn push_chunks(
 
 /// How many units a job is cut by: offsets, blocks of a create, entries of an apply.
 fn units(op: Op, job: &Job) -> u64
-    ensures { result ≡ word.units op job.now }
+    ensures { result ≡ unit.units op job.now }
 {
     match op {
         Op::NoOp => 0,
@@ -98,7 +99,7 @@ fn units(op: Op, job: &Job) -> u64
 /// How many units a chunk of so many bytes has.
 fn chunk_units(op: Op, chunk: u32) -> u64
     requires { chunk ≤ 1048576 }
-    ensures count { result ≡ word.chunk_units op chunk }
+    ensures count { result ≡ unit.chunk_units op chunk }
     ensures most { result ≤ 1048576 }
 {
     match op {

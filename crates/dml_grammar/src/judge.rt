@@ -14,11 +14,8 @@ use crate::progress::Progress;
 use crate::table::{MOST_PARTS, Word, parts_of, word_named};
 use crate::words::next_word;
 use dml_desc::decode;
-use dml_types::{Job, Op};
+use dml_types::{Job, MOST_JOBS, Op};
 use std::alloc::Global;
-
-/// The most jobs of a batch.
-pub const MOST_JOBS: u32 = 1024;
 
 /// The most bytes of a line.
 const LONGEST_LINE: usize = 16_384;

@@ -14,7 +14,6 @@ mod table;
 mod words;
 
 pub use faults::{Kind, ScriptError, ScriptFault, fault_text};
-pub use judge::MOST_JOBS;
 pub use laws::law_of_first_fault;
 pub use lines::{Bytes, Line};
 pub use script::{MAX_SCRIPT, Script, ScriptLines, read_script};

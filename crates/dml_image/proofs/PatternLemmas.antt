@@ -2,6 +2,7 @@
 use Rattle.std.proofs.Common.{◌≡◌, ℕ, ◌+◌, ◌-◌, ◌*◌, ◌/◌, ◌%◌, ◌<◌, ◌≤◌, List, [], ◌∷◌, ◌++◌, length, get_or, take, drop, refl, ap, sym, ◌∙◌, arith, ⊎_elim}
 use Rattle.std.proofs.lemmas.Bool.{cases_lt}
 use Rattle.std.proofs.lemmas.List.{drop_all, length-append, length-drop, append-nil, get_or_append_left, get_or-append_right, same_lists}
+use Rattle.std.proofs.lemmas.Slice.{overwrites}
 use Rattle.std.proofs.lemmas.List.FromFn.{length-map-range_with_len, get_or-map-range_with_len, take-map-range_with_len}
 use Rattle.std.specs.Int.{to_le_bytes, w64}
 use borrow.Rule.Slice.PartMut.{put_mid}
@@ -20,7 +21,7 @@ unfolding pattern_bytes
 none_to_fill pattern [] none = refl
 none_to_fill pattern (byte ∷ bytes) none = absurd (omega arith)
 
-get_or_pattern_bytes : (pattern n i : ℕ) (d : ℕ) → i < n → get_or (pattern_bytes pattern n) i d ≡ pattern_byte pattern i
+pub get_or_pattern_bytes : (pattern n i d : ℕ) → i < n → get_or (pattern_bytes pattern n) i d ≡ pattern_byte pattern i
 unfolding pattern_bytes
 get_or_pattern_bytes pattern n i d h = get_or-map-range_with_len (pattern_byte pattern) 0 n i i d h (omega arith)
 
@@ -60,3 +61,6 @@ repeated target part pattern k n rest front long whole done is =
     let before : take (8 * (n / 8)) target ≡ pattern_bytes pattern (8 * (n / 8)) = ap (λ k. take (8 * k) target) (sym whole) ∙ (front ∙ ap (λ k. pattern_bytes pattern (8 * k)) whole) in
     let end : 8 * (n / 8) + rest ≡ n = omega arith in
     rw (none, append-nil, before, done) (pattern_bytes_append pattern (8 * (n / 8)) rest (omega arith) ∙ ap (pattern_bytes pattern) end)
+
+-- what decides the repeated words of a pattern
+pub ruleset repeat_steps = (pattern_bytes_none, pattern_words_more, overwrites)

@@ -2,7 +2,6 @@
 use Rattle.std.proofs.Common.{◌≡◌, ℕ, ◌+◌, ◌-◌, ◌^◌, ◌<◌, ◌≤◌, Bool, true, false, cond, nat_eq, List, [], ◌∷◌, ◌++◌, length, get_or, refl, sym, ◌∙◌, ap, ap₂, arith, rules, ⊎_elim, eq-eqb, ne_eqb, length-append}
 use Rattle.std.proofs.lemmas.Bool.{cases_lt, cases_eq}
 use Rattle.std.proofs.lemmas.List.{places, same_lists, get_or_append_left, get_or-append_right}
-use Rattle.std.proofs.lemmas.List.FromFn.{get_or-map-range_with_len}
 use Rattle.dml_types.specs.declared.jobs.Job.{Job}
 use Rattle.dml_types.specs.declared.records.Record.{Record}
 use Rattle.dml_types.specs.declared.statuses.Status.TheVariants.{Success}
@@ -12,7 +11,7 @@ use Rattle.dml_types.specs.Bytewise.{pattern_byte, pattern_bytes}
 use Rattle.dml_types.specs.Step.{turned}
 use Rattle.dml_types.proofs.FirstLemmas.{first_none, first_right, first_agree}
 use Rattle.dml_types.proofs.MemoryLemmas.{has_all_within, put_nil, put_append}
-use Rattle.dml_image.proofs.PatternLemmas.{length_pattern_bytes}
+use Rattle.dml_image.proofs.PatternLemmas.{get_or_pattern_bytes, length_pattern_bytes}
 use Rattle.dml_resume.proofs.TurnLemmas.{turned_byte}
 
 -- the first index where k indices fail before it
@@ -37,10 +36,6 @@ pub bytes_parts : (memory : Memory) (a b k m : ℕ) → b ≡ a + k → bytes_at
 bytes_parts memory a b k m beside = rw beside (sym (same_lists _ _ (search (rules, places)) (λ i d h. grind (arith, places))))
 
 -- a pattern, and behind k bytes the pattern turned by them
-pub get_pattern_byte : (pattern n i d : ℕ) → i < n → get_or (pattern_bytes pattern n) i d ≡ pattern_byte pattern i
-unfolding pattern_bytes
-get_pattern_byte pattern n i d below = get_or-map-range_with_len (pattern_byte pattern) 0 n i i d below (omega arith)
-
 pub pattern_parts : (pattern k m : ℕ) → pattern < 2 ^ 64 → pattern_bytes pattern (k + m) ≡ pattern_bytes pattern k ++ pattern_bytes (turned pattern k) m
 pattern_parts pattern k m below =
     let front = length_pattern_bytes pattern k in
@@ -51,13 +46,13 @@ pattern_parts pattern k m below =
     let within : i < k + m = omega (arith, all) in
     ⊎_elim (λ low.
     get_or_append_left (pattern_bytes pattern k) (pattern_bytes (turned pattern k) m) d i (omega (arith, front))
-    ∙ (get_pattern_byte pattern k i d low ∙ sym (get_pattern_byte pattern (k + m) i d within)))
+    ∙ (get_or_pattern_bytes pattern k i d low ∙ sym (get_or_pattern_bytes pattern (k + m) i d within)))
     (λ high.
     let place : k + (i - k) ≡ i = omega arith in
     get_or-append_right (pattern_bytes pattern k) (pattern_bytes (turned pattern k) m) k i d front high
-    ∙ (get_pattern_byte (turned pattern k) m (i - k) d (omega arith)
+    ∙ (get_or_pattern_bytes (turned pattern k) m (i - k) d (omega arith)
     ∙ (turned_byte pattern k (i - k) below
-    ∙ (ap (pattern_byte pattern) place ∙ sym (get_pattern_byte pattern (k + m) i d within)))))
+    ∙ (ap (pattern_byte pattern) place ∙ sym (get_or_pattern_bytes pattern (k + m) i d within)))))
     (cases_lt i k)))
 
 -- a record of the second part, with k bytes more

@@ -19,7 +19,7 @@ use std::sync::Wait;
 use std::thread::Threads;
 
 /// The most jobs of a list or a batch.
-pub const MOST_JOBS: usize = dml_grammar::MOST_JOBS as usize;
+pub const MOST_JOBS: usize = dml_types::MOST_JOBS as usize;
 
 /// Adds the jobs of job lines to a list that has room for them, until another line comes or the list has 1,024 jobs.
 /// Answers the line behind them, which is read ahead.

@@ -23,6 +23,12 @@ units CreateDelta job = job.size / 8
 units ApplyDelta job = job.delta_size / 10
 units op job = scan_size op job
 
+-- how many of these a chunk of so many bytes has: one block or entry for each 8 bytes
+abbrev pub chunk_units : Op → ℕ → ℕ
+chunk_units CreateDelta chunk = chunk / 8
+chunk_units ApplyDelta chunk = chunk / 8
+chunk_units _ chunk = chunk
+
 -- Scans: move, fill, dualcast and both compares, by offsets.
 -- the offset that comes i-th in the order of work
 abbrev pub scan_offset : Op → Job → ℕ → ℕ → ℕ → ℕ

@@ -23,7 +23,7 @@ pub use laws::{
     law_of_batches, law_of_first, law_of_folds, law_of_homes, law_of_moves, law_of_puts,
     law_of_steps,
 };
-pub use limits::Settings;
+pub use limits::{MOST_JOBS, Settings};
 pub use operations::{Direction, Op};
 pub use records::{BatchRecord, Record};
 pub use spans::Span;

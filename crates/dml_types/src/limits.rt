@@ -1,6 +1,9 @@
 ghost use Rattle.std.specs.Prelude.{◌↔◌, IsTrue};
 ghost use Rattle.dml_types.specs.Limits.{IsValid};
 
+/// The most jobs of a batch.
+pub const MOST_JOBS: u32 = 1024;
+
 /// How an engine works. `chunk` and `workers` are meant to change no answer.
 #[derive(Clone, Copy, PartialEq, Eq, Debug)]
 pub struct Settings {

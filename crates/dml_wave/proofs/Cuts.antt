@@ -12,13 +12,14 @@ use Rattle.dml_types.specs.declared.jobs.Job.{Job}
 use Rattle.dml_types.specs.declared.operations.Op.{Op}
 use Rattle.dml_types.specs.declared.operations.Op.TheVariants.{NoOp, Move, Fill, Compare, ComparePattern, CreateDelta, ApplyDelta, Dualcast}
 use Rattle.dml_types.specs.Refusal.{need, operation_need}
+use Rattle.dml_types.specs.Chunk.{chunk_units}
 use Rattle.dml_desc.specs.Checked.{KeepsRules, operation_of}
 use Rattle.dml_arena.specs.Piece.{Piece}
 use Rattle.dml_effect.specs.Chunks.{AreChunksFrom}
 use Rattle.dml_levels.specs.Tasks.{IsChunk, task_count, task_count_by}
 use Rattle.dml_pool.specs.declared.tasks.Task.{Task}
 use Rattle.dml_pool.specs.Tasks.{units, room_for, IsRunnable}
-use Rattle.dml_wave.specs.Tasks.{chunk_units, IsTaskFrom, AddsTasks}
+use Rattle.dml_wave.specs.Tasks.{IsTaskFrom, AddsTasks}
 use Rattle.dml_wave.proofs.Chunks.{LastIsBefore, last_pushed, chunks_pushed}
 
 -- Chunks and units

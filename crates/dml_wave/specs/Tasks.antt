@@ -1,21 +1,14 @@
 -- The tasks of a wave's jobs, job after job.
-use Rattle.std.specs.Prelude.{◌≡◌, ℕ, ◌+◌, ◌/◌, ◌≤◌, min, List, [], ◌∷◌, ◌++◌, length}
+use Rattle.std.specs.Prelude.{◌≡◌, ℕ, ◌+◌, ◌≤◌, min, List, [], ◌∷◌, ◌++◌, length}
 use Rattle.std.specs.List.{All}
 use Rattle.dml_types.specs.declared.jobs.Job.{Job}
-use Rattle.dml_types.specs.declared.operations.Op.{Op}
-use Rattle.dml_types.specs.declared.operations.Op.TheVariants.{CreateDelta, ApplyDelta}
+use Rattle.dml_types.specs.Chunk.{chunk_units}
 use Rattle.dml_desc.specs.Checked.{operation_of}
 use Rattle.dml_effect.specs.Chunks.{AreChunksFrom}
 use Rattle.dml_levels.specs.Tasks.{task_count}
 use Rattle.dml_levels.specs.Waves.{job_at}
 use Rattle.dml_pool.specs.declared.tasks.Task.{Task}
 use Rattle.dml_pool.specs.Tasks.{units, IsRunnable}
-
--- how many offsets, blocks or entries a chunk of so many bytes has: one block or entry for each 8 bytes
-abbrev pub chunk_units : Op → ℕ → ℕ
-chunk_units CreateDelta chunk = chunk / 8
-chunk_units ApplyDelta chunk = chunk / 8
-chunk_units _ chunk = chunk
 
 -- the task is a chunk of the job from an offset on, in the units that its operation is cut by: of as many as a
 -- chunk of so many bytes has, or of what is left

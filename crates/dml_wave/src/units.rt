@@ -1,8 +1,8 @@
 //! The units that a job is cut by: offsets, blocks of a create, entries of an apply.
 ghost use Rattle.std.specs.Prelude.{◌≡◌, ◌≤◌};
+ghost use Rattle.dml_types.specs.Chunk as unit;
 ghost use Rattle.dml_desc.specs.Checked.{KeepsRules};
 ghost use Rattle.dml_pool.specs.Tasks as word;
-ghost use Rattle.dml_wave.specs.Tasks as cut;
 
 use dml_types::{ENTRY, Job, Op};
 
@@ -25,7 +25,7 @@ pub fn units(op: Op, job: &Job) -> u32
 
 /// How many units a chunk of so many bytes has.
 pub fn chunk_units(op: Op, chunk: u32) -> u32
-    ensures count { result ≡ cut.chunk_units op chunk }
+    ensures count { result ≡ unit.chunk_units op chunk }
     ensures most { result ≤ chunk }
 {
     match op {

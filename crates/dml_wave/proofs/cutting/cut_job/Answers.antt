@@ -1,8 +1,8 @@
 use Rattle.std.proofs.Common.{◌≡◌, ◌+◌, ◌<◌, min, ap, refl, List, arith, subst, sym, ◌∙◌}
+use Rattle.dml_types.specs.Chunk.{chunk_units}
 use Rattle.dml_levels.specs.Tasks.{task_count}
 use Rattle.dml_pool.specs.declared.tasks.Task.{Task}
 use Rattle.dml_pool.specs.Tasks.{units}
-use Rattle.dml_wave.specs.Tasks.{chunk_units}
 use Rattle.dml_wave.proofs.Cuts.{IsCutUpTo, cut_none, cut_more, cut_all}
 use Rattle.dml_wave.proofs.cutting.cut_job.Goals as goal
 

@@ -86,7 +86,8 @@ impl Arena {
 
     fn lend(&mut self) -> Span<'_>
         ensures* stays { sem 𝓛 (arena_stays self.entry result.tie) }
-        ensures whole { (block_of result.ptr ≡ self.old.block) × (count_of result.ptr ≡ 0) × (result.room ≡ self.old.size) × (result.bytes ≡ []) }
+        ensures whole { (block_of result.ptr ≡ self.old.block) × (count_of result.ptr ≡ 0)
+            × (result.room ≡ self.old.size) × (result.bytes ≡ []) }
     {
         let ptr = self.memory.ptr;
         Span {

@@ -32,7 +32,8 @@ impl<A: Allocator> Model for Lease<A> {
 impl Memory {
     pub(crate) fn new<A: Allocator>(alloc: &A, size: usize) -> Option<(Memory, Lease<A>)>
         requires { size < 2 ^ 63 }
-        ensures { IfSome result (λ m. (m.0.size ≡ size) × (m.1.alloc ≡ alloc.now) × (m.1.ptr ≡ m.0.ptr) × (m.1.size ≡ size)) }
+        ensures { IfSome result (λ m. (m.0.size ≡ size)
+            × (m.1.alloc ≡ alloc.now) × (m.1.ptr ≡ m.0.ptr) × (m.1.size ≡ size)) }
     {
         match alloc.allocate(size, 1) {
             Ok(ptr) => {

@@ -60,7 +60,8 @@ impl<'a> Region<'a> {
         requires empty { self.bytes ≡ [] }
         ensures opening { (result.0.opening ≡ self.entry.opening) × (result.1.opening ≡ self.entry.opening) }
         ensures front { (result.0.start ≡ self.entry.start) × (result.0.room ≡ n) × (result.0.bytes ≡ []) }
-        ensures back { (result.1.start ≡ self.entry.start + n) × (result.1.room ≡ self.entry.room - n) × (result.1.bytes ≡ []) }
+        ensures back { (result.1.start ≡ self.entry.start + n) × (result.1.room ≡ self.entry.room - n)
+            × (result.1.bytes ≡ []) }
     {
         let Region {
             span,
@@ -110,7 +111,8 @@ impl<'a> Region<'a> {
     pub fn join(self, next: Region<'a>) -> Region<'a>
         requires opening { next.opening ≡ self.opening }
         requires beside { next.start ≡ self.start + self.room }
-        ensures place { (result.opening ≡ self.entry.opening) × (result.start ≡ self.entry.start) × (result.room ≡ self.entry.room + next.entry.room) }
+        ensures place { (result.opening ≡ self.entry.opening) × (result.start ≡ self.entry.start)
+            × (result.room ≡ self.entry.room + next.entry.room) }
         ensures bytes { result.bytes ≡ self.entry.bytes ++ next.entry.bytes }
     {
         let Region {

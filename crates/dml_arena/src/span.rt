@@ -31,7 +31,8 @@ impl<'a> Model for Span<'a> {
     ghost also_shares = { λ s _. span_lent 'a s.ptr s.bytes };
 }
 
-// SAFETY: what a span owns, `span_owns`, is a `&mut` to bytes that no other span has, and bytes may move between threads.
+// SAFETY: what a span owns, `span_owns`, is a `&mut` to bytes that no other span has, and bytes may move between
+// threads.
 unsafe impl Send for Span<'_> {}
 
 impl<'a> Span<'a> {
@@ -39,8 +40,8 @@ impl<'a> Span<'a> {
         requires { len ≡ length self.now.bytes }
         ensures { result.now ≡ self.now.bytes }
     {
-        // SAFETY: `len` is the number of bytes held, by the `requires`. They hold values and are lent for as long as `self`
-        // is, by `span_lent`; `fits` keeps their end within the block.
+        // SAFETY: `len` is the number of bytes held, by the `requires`. They hold values and are lent for as long as
+        // `self` is, by `span_lent`; `fits` keeps their end within the block.
         unsafe { std::slice::from_raw_parts(self.ptr, len) }
     }
 
@@ -48,10 +49,13 @@ impl<'a> Span<'a> {
     pub(crate) fn cut(self, n: usize) -> (Span<'a>, Span<'a>)
         requires { (n ≤ self.room) × (self.bytes ≡ []) }
         ensures front { (result.0.ptr ≡ self.entry.ptr) × (result.0.room ≡ n) × (result.0.bytes ≡ []) }
-        ensures back { (block_of result.1.ptr ≡ block_of self.entry.ptr) × (count_of result.1.ptr ≡ count_of self.entry.ptr + n) × (result.1.room ≡ self.entry.room - n) × (result.1.bytes ≡ []) }
+        ensures back { (block_of result.1.ptr ≡ block_of self.entry.ptr)
+            × (count_of result.1.ptr ≡ count_of self.entry.ptr + n) × (result.1.room ≡ self.entry.room - n)
+            × (result.1.bytes ≡ []) }
     {
         let Span { ptr, mark } = self;
-        // SAFETY: `n` is at most the room, by the `requires`, and the whole room is of one block, by `solid` and `fits`.
+        // SAFETY: `n` is at most the room, by the `requires`, and the whole room is of one block, by `solid` and
+        // `fits`.
         let back = unsafe { ptr.add(n) };
         (
             Span { ptr, mark },
@@ -65,26 +69,30 @@ impl<'a> Span<'a> {
     // Puts `src` behind the bytes that it holds, `len` of them.
     pub(crate) fn extend(&mut self, len: usize, src: &[u8])
         requires { (len ≡ length self.old.bytes) × (len + length src.now ≤ self.old.room) }
-        ensures place { (self.new.ptr ≡ self.old.ptr) × (self.new.room ≡ self.old.room) × (self.new.tie ≡ self.old.tie) }
+        ensures place { (self.new.ptr ≡ self.old.ptr) × (self.new.room ≡ self.old.room)
+            × (self.new.tie ≡ self.old.tie) }
         ensures bytes { self.new.bytes ≡ self.old.bytes ++ src.now }
     {
-        // SAFETY: `len` bytes are held and `src` fits behind them, by the `requires`: what `span_owns` has there is room,
-        // which `fill` asks for. `src` is borrowed, so it lies elsewhere.
+        // SAFETY: `len` bytes are held and `src` fits behind them, by the `requires`: what `span_owns` has there is
+        // room, which `fill` asks for. `src` is borrowed, so it lies elsewhere.
         unsafe { fill(self.ptr.add(len), src) }
     }
 
     // The bytes past the first `_len` become room again.
     pub(crate) fn shorten(&mut self, _len: usize)
         requires { _len ≤ length self.old.bytes }
-        ensures place { (self.new.ptr ≡ self.old.ptr) × (self.new.room ≡ self.old.room) × (self.new.tie ≡ self.old.tie) }
+        ensures place { (self.new.ptr ≡ self.old.ptr) × (self.new.room ≡ self.old.room)
+            × (self.new.tie ≡ self.old.tie) }
         ensures bytes { self.new.bytes ≡ take _len self.old.bytes }
     {}
 
     // Two neighbours as one, where the second's bytes already stand right behind the first's.
     pub(crate) fn meet(self, next: Span<'a>) -> Span<'a>
-        requires beside { (block_of next.ptr ≡ block_of self.ptr) × (count_of next.ptr ≡ count_of self.ptr + self.room) }
+        requires beside { (block_of next.ptr ≡ block_of self.ptr)
+            × (count_of next.ptr ≡ count_of self.ptr + self.room) }
         requires touching { (length self.bytes ≡ self.room) ⊎ (next.bytes ≡ []) }
-        ensures place { (result.ptr ≡ self.entry.ptr) × (result.room ≡ self.entry.room + next.entry.room) × (result.tie ≡ self.entry.tie) }
+        ensures place { (result.ptr ≡ self.entry.ptr) × (result.room ≡ self.entry.room + next.entry.room)
+            × (result.tie ≡ self.entry.tie) }
         ensures bytes { result.bytes ≡ self.entry.bytes ++ next.entry.bytes }
     {
         let Span { ptr, mark } = self;
@@ -94,16 +102,18 @@ impl<'a> Span<'a> {
 
     // Two neighbours as one, where the second's `count` bytes move down to the first's `len`.
     pub(crate) fn join(self, len: usize, next: Span<'a>, count: usize) -> Span<'a>
-        requires beside { (block_of next.ptr ≡ block_of self.ptr) × (count_of next.ptr ≡ count_of self.ptr + self.room) }
+        requires beside { (block_of next.ptr ≡ block_of self.ptr)
+            × (count_of next.ptr ≡ count_of self.ptr + self.room) }
         requires counts { (len ≡ length self.bytes) × (count ≡ length next.bytes) }
         requires apart { len < self.room }
-        ensures place { (result.ptr ≡ self.entry.ptr) × (result.room ≡ self.entry.room + next.entry.room) × (result.tie ≡ self.entry.tie) }
+        ensures place { (result.ptr ≡ self.entry.ptr) × (result.room ≡ self.entry.room + next.entry.room)
+            × (result.tie ≡ self.entry.tie) }
         ensures bytes { result.bytes ≡ self.entry.bytes ++ next.entry.bytes }
     {
         let Span { ptr, mark } = self;
         let Span { ptr: from, mark: _ } = next;
-        // SAFETY: by `beside` the second's room begins where the first's ends, by `counts` it holds `count` bytes, and by
-        // `apart` they move down into the first's room. `copy` allows source and destination to overlap.
+        // SAFETY: by `beside` the second's room begins where the first's ends, by `counts` it holds `count` bytes, and
+        // by `apart` they move down into the first's room. `copy` allows source and destination to overlap.
         unsafe { copy(from as *const u8, ptr.add(len), count) };
         Span { ptr, mark }
     }
@@ -116,8 +126,8 @@ unsafe fn fill(dst: *mut u8, src: &[u8])
     requires* { sem 𝓛 (room_of dst (length src.now)) }
     ensures* { sem 𝓛 (holds_at dst src.now) }
 {
-    // SAFETY: the row is made of the room that the `requires*` hands over, as long as `src`; `filled` says that all of it is
-    // filled when it is taken apart again.
+    // SAFETY: the row is made of the room that the `requires*` hands over, as long as `src`; `filled` says that all of
+    // it is filled when it is taken apart again.
     unsafe {
         let filled = filled_with(Slots::from_raw_parts(dst, src.len()), src);
         let _ = filled.into_raw_parts();

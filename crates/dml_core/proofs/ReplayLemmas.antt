@@ -60,3 +60,6 @@ replay_done w world steps i past before = subst (λ (list : List Step). Reaches 
 
 pub replay_memory : (w world same : World) (steps : List Step) (i : ℕ) → Reaches w (take i steps) world → same ≡ world → Reaches w (take i steps) same
 replay_memory w world same steps i before is = subst (λ (x : World). Reaches w (take i steps) x) (sym is) before
+
+-- what decides a replay's turns and its end
+pub ruleset replay_steps = (replay_more, replay_stop, replay_done, replay_memory)

@@ -189,7 +189,7 @@ impl World {
     /// # Errors
     /// The place of the first step that is not allowed, or for which the allocator has no memory left, with the world
     /// before it.
-    #[tactic(auto, using(crate::proofs::ReplayLemmas::replay_more, crate::proofs::ReplayLemmas::replay_stop, crate::proofs::ReplayLemmas::replay_done, crate::proofs::ReplayLemmas::replay_memory))]
+    #[tactic(auto, using(crate::proofs::ReplayLemmas::replay_steps))]
     pub fn replay(self, alloc: Global, steps: &[Step]) -> Result<World, (World, StepFault)>
         ensures ok { IfOk result (λ world. Reaches self.entry steps.now world) }
         ensures err { IfErr result (λ stopped. StopsAt self.entry steps.now stopped.0 stopped.1) }

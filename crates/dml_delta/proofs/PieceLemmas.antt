@@ -10,6 +10,7 @@ use Rattle.dml_delta.specs.Bad.{bad_of}
 use Rattle.dml_delta.specs.declared.applies.BadEntry.{BadEntry}
 use Rattle.dml_delta.specs.Entries.{gathered}
 use Rattle.dml_delta.proofs.RecordLemmas.{none_behind}
+use Rattle.dml_delta.proofs.UnitLemmas.{readable_source, readable_target, not_readable}
 
 pub create_fault_is : (memory : Memory) (job : Job) (from to n : ℕ) (fault : Option (ℕ × ℕ)) → n ≡ readable_blocks memory job from to → fault ≡ cond (eqb (from + n) to) None (Some (from + n, (block_fault memory job (from + n)).address)) → fault ≡ create_fault memory job from to
 unfolding create_fault
@@ -37,3 +38,6 @@ pub apply_staged_is : (memory : Memory) (job : Job) (from to n : ℕ) (old new :
 unfolding apply_staged
 apply_staged_is memory job from to n old new count empty is =
     is ∙ ap₂ (λ (xs : List ℕ) (k : ℕ). xs ++ bytes_at memory (job.source + 10 * from) (10 * k)) empty count
+
+-- what decides the scan of a create's chunk
+pub ruleset create_steps = (readable_source, readable_target, not_readable, create_fault_is, create_staged_is)

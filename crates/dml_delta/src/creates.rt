@@ -31,7 +31,7 @@ pub struct CreatePiece<'a> {
 ///
 /// It stops at the first block with an absent byte in a source. It looks neither at the maximum size of the record
 /// nor at the record's pages. The region is empty, with room for 10 bytes a block, and keeps its place and its room.
-#[tactic(auto, using(crate::proofs::UnitLemmas::readable_source, crate::proofs::UnitLemmas::readable_target, crate::proofs::UnitLemmas::not_readable, crate::proofs::PieceLemmas::create_fault_is, crate::proofs::PieceLemmas::create_staged_is))]
+#[tactic(auto, using(crate::proofs::PieceLemmas::create_steps))]
 pub fn scan_create<'a>(
     image: &Image,
     job: &Checked,

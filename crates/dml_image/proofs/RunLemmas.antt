@@ -59,3 +59,8 @@ first_both n p q =
     let is : min a b ≡ b = omega arith in
     ap (λ k. not (p k && q k)) is ∙ ap not (and_right (p b) (q b) (not-true (q b) (passes_at n (λ i. not (q i)) (omega arith)))))
     (cases_lt a b))
+
+-- what decides where the present bytes end, upwards and downwards
+pub ruleset run_upwards = (present_toward_is, present_toward_stops, has_above)
+
+pub ruleset run_downwards = (present_toward_is, present_toward_stops, has_below)

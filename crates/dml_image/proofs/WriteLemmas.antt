@@ -6,6 +6,7 @@ use Rattle.dml_types.specs.Memory.{Memory, IsMemory, has, has_all, bytes_at, put
 use Rattle.dml_types.proofs.MemoryLemmas.{length_overwrite, overwrite_nil, overwrite_below, overwrite_past, has_all_within, put_keeps}
 use Rattle.std.specs.declared.alloc.AllocError.{AllocError}
 use Rattle.dml_image.specs.Brought.{brought}
+use Rattle.dml_image.proofs.PatternLemmas.{length_pattern_bytes}
 
 all_now : (inside now : Memory) (address n : ℕ) → inside ≡ now → has_all now address n ≡ true → has_all inside address n ≡ true
 all_now inside now address n is all = subst (λ (memory : Memory). has_all memory address n ≡ true) (sym is) all
@@ -61,3 +62,8 @@ kept_after_put inside now after address bytes is good all done =
 pub kept_after_bring : (inside after : Memory) (page : ℕ) (bytes : List ℕ) (result : Result Unit AllocError) → IsMemory inside → page < length inside.present → length bytes ≡ 4096 → OnOk result (after ≡ brought inside page bytes) → OnErr result (after ≡ inside) → IsMemory after
 kept_after_bring inside after page bytes (Ok _) good below long done same = rw done (brought_keeps inside page bytes good below long)
 kept_after_bring inside after page bytes (Err _) good below long done same = rw same good
+
+-- what decides a fill of lent memory, and that a fill leaves a memory
+pub ruleset fill_steps = (range_within, put_behind, length_pattern_bytes)
+
+pub ruleset fill_keeps = (put_keeps, length_pattern_bytes)

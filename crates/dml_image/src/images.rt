@@ -221,7 +221,7 @@ impl Image<'_> {
     }
 
     /// Repeats the 8 bytes of a pattern, low byte first, over `len` bytes from this address on.
-    #[tactic(auto, using(dml_types::proofs::MemoryLemmas::put_keeps, crate::proofs::PatternLemmas::length_pattern_bytes))]
+    #[tactic(auto, using(crate::proofs::WriteLemmas::fill_keeps))]
     pub fn fill(&mut self, addr: u64, len: u32, pattern: u64)
         requires { IsTrue (has_all self.old addr len) }
         ensures bytes { self.new ≡ put self.old addr (pattern_bytes pattern len) }

@@ -125,8 +125,8 @@ impl<'a> Lent<'a> {
         write_at(self.content, place, bytes);
     }
 
-    #[tactic(auto, using(crate::proofs::WriteLemmas::range_within, crate::proofs::WriteLemmas::put_behind, crate::proofs::PatternLemmas::length_pattern_bytes))]
     /// Repeats the 8 bytes of a pattern, low byte first, over `len` bytes from this address on.
+    #[tactic(auto, using(crate::proofs::WriteLemmas::fill_steps))]
     pub(crate) fn fill(&mut self, addr: u64, len: u32, pattern: u64)
         requires memory { IsMemory (lent_memory self.old) }
         requires present { IsTrue (has_all (lent_memory self.old) addr len) }

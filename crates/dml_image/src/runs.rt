@@ -17,7 +17,7 @@ pub fn present_in_page(image: &Image, addr: u64, len: u32) -> u32
 }
 
 /// How many of `len` bytes come before the first absent one upwards.
-#[tactic(auto, using(crate::proofs::RunLemmas::present_toward_is, crate::proofs::RunLemmas::present_toward_stops, crate::proofs::RunLemmas::has_above))]
+#[tactic(auto, using(crate::proofs::RunLemmas::run_upwards))]
 pub fn present_upwards(image: &Image, addr: u64, len: u32) -> u32
     requires { addr + len ≤ 2 ^ 64 }
     ensures within { result ≤ len }
@@ -36,7 +36,7 @@ pub fn present_upwards(image: &Image, addr: u64, len: u32) -> u32
 }
 
 /// How many of `len` bytes come before the first absent one downwards, from the last byte on.
-#[tactic(auto, using(crate::proofs::RunLemmas::present_toward_is, crate::proofs::RunLemmas::present_toward_stops, crate::proofs::RunLemmas::has_below))]
+#[tactic(auto, using(crate::proofs::RunLemmas::run_downwards))]
 pub fn present_downwards(image: &Image, addr: u64, len: u32) -> u32
     requires { addr + len ≤ 2 ^ 64 }
     ensures within { result ≤ len }

@@ -48,7 +48,7 @@ pub fn fill_at(target: &mut [u8], place: usize, len: usize, pattern: u64)
 }
 
 /// Repeats the 8 bytes of a pattern, low byte first, over a slice.
-#[tactic(auto, using(crate::proofs::PatternLemmas::pattern_bytes_none, crate::proofs::PatternLemmas::pattern_words_more, std::proofs::lemmas::Slice::overwrites))]
+#[tactic(auto, using(crate::proofs::PatternLemmas::repeat_steps))]
 fn repeat(target: &mut [u8], pattern: u64)
     ensures { target.new ≡ pattern_bytes pattern (length target.old) }
 {

@@ -227,3 +227,6 @@ pattern_stops memory job from to at bytes order within passed part k is below =
     found_differs ComparePattern memory job from to (at + k - from)
     (pattern_done memory job from to (at + k) (omega arith) (omega arith) before (λ _. ap₂ (λ a b. a && b) clear unlike)) (omega arith)
     (ap (λ n. is_clear memory (faults_at ComparePattern job n)) here ∙ clear)
+
+-- what decides how far a compare comes
+pub ruleset compare_steps = (part_none, passed_none, first_absent)

@@ -15,6 +15,7 @@ use Rattle.dml_types.specs.Chunk.{scan_done, scan_found, scan_offset, fault_foun
 use Rattle.dml_scan.specs.Found.{done_count}
 use Rattle.dml_types.proofs.FirstLemmas.{first_le, first_agree, passes_at}
 use Rattle.dml_image.proofs.RunLemmas.{first_both}
+use Rattle.dml_scan.proofs.LimitLemmas.{dualcast_limits, fill_limits, move_limits}
 
 -- how many of n bytes come before the first that is absent in one of two ranges, in a direction, or of three, upwards
 abbrev pub run_of_two : Direction → Memory → ℕ → ℕ → ℕ → ℕ
@@ -250,3 +251,10 @@ scan_done_within op memory job from to = first_le (to - from) (λ i. not (passes
 -- the number that is read from how a scan ended
 pub done_told : (op : Op) (memory : Memory) (job : Job) (from to k : ℕ) (found : Found) → found ≡ scan_found op memory job from to → k ≡ done_count (to - from) found → k ≡ scan_done op memory job from to
 done_told op memory job from to k found is tells = tells ∙ (ap (done_count (to - from)) is ∙ done_found op memory job from to)
+
+-- what decides how far a fill, a move and a dualcast come
+pub ruleset fill_steps = (fill_limits, found_none, fill_all, fill_stops)
+
+pub ruleset move_steps = (move_limits, found_none, move_all, move_reads, move_writes)
+
+pub ruleset dualcast_steps = (dualcast_limits, found_none, dualcast_all, dualcast_reads, dualcast_writes, dualcast_writes_second)

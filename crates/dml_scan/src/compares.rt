@@ -33,7 +33,7 @@ fn next_part<'a>(image: &'a Image, rest: &'a [u8], addr: u64, len: u32) -> Optio
 
 /// How the scan of a chunk of a compare ends: at one offset an absent byte comes before a difference, and that of the
 /// first range before that of the second.
-#[tactic(auto, using(crate::proofs::CompareLemmas::part_none, crate::proofs::CompareLemmas::passed_none, crate::proofs::CompareLemmas::first_absent))]
+#[tactic(auto, using(crate::proofs::CompareLemmas::compare_steps))]
 pub fn compare_found(image: &Image, job: &Checked, from: u32, to: u32) -> Found
     requires operation { op_of job.now ≡ Some Compare }
     requires order { from ≤ to }

@@ -1,4 +1,5 @@
-//! What one chunk of a move, a fill, a dualcast or a compare gives: how far it goes, why it stops, and the bytes that it stages.
+//! What one chunk of a move, a fill, a dualcast or a compare gives: how far it goes, why it stops, and the bytes that
+//! it stages.
 //!
 //! Scans only read the image. They look up each page once for each range, and stage whole page parts. A piece
 //! says nothing of the other chunks of its job: of several stops, the first in the order of work is the job's.

@@ -46,7 +46,7 @@ fn write_fault(done: u32, place: u64) -> Found
 }
 
 /// How the scan of a chunk of a fill ends.
-#[tactic(auto, using(crate::proofs::LimitLemmas::fill_limits, crate::proofs::ReachLemmas::found_none, crate::proofs::ReachLemmas::fill_all, crate::proofs::ReachLemmas::fill_stops))]
+#[tactic(auto, using(crate::proofs::ReachLemmas::fill_steps))]
 pub fn fill_found(image: &Image, job: &Checked, from: u32, to: u32) -> Found
     requires operation { op_of job.now ≡ Some Fill }
     requires order { from ≤ to }
@@ -98,7 +98,7 @@ fn next_offset(direction: Direction, len: u32, done: u32) -> u64
 }
 
 /// How the scan of a chunk of a move ends: at one offset the read comes before the write.
-#[tactic(auto, using(crate::proofs::LimitLemmas::move_limits, crate::proofs::ReachLemmas::found_none, crate::proofs::ReachLemmas::move_all, crate::proofs::ReachLemmas::move_reads, crate::proofs::ReachLemmas::move_writes))]
+#[tactic(auto, using(crate::proofs::ReachLemmas::move_steps))]
 pub fn move_found(image: &Image, job: &Checked, from: u32, to: u32) -> Found
     requires operation { op_of job.now ≡ Some Move }
     requires order { from ≤ to }
@@ -127,7 +127,7 @@ pub fn move_found(image: &Image, job: &Checked, from: u32, to: u32) -> Found
 }
 
 /// How the scan of a chunk of a dualcast ends: at one offset the read comes first, and then the writes in their order.
-#[tactic(auto, using(crate::proofs::LimitLemmas::dualcast_limits, crate::proofs::ReachLemmas::found_none, crate::proofs::ReachLemmas::dualcast_all, crate::proofs::ReachLemmas::dualcast_reads, crate::proofs::ReachLemmas::dualcast_writes, crate::proofs::ReachLemmas::dualcast_writes_second))]
+#[tactic(auto, using(crate::proofs::ReachLemmas::dualcast_steps))]
 pub fn dualcast_found(image: &Image, job: &Checked, from: u32, to: u32) -> Found
     requires operation { op_of job.now ≡ Some Dualcast }
     requires order { from ≤ to }

@@ -5,6 +5,7 @@ use Rattle.dml_grammar.specs.declared.lines.Line.{Line}
 use Rattle.dml_grammar.specs.Grammar.{parse}
 use Rattle.dml_script.specs.Run.{answer, answer_from, parsed_answer, longest_script, opening}
 use Rattle.dml_script.specs.Watching.{AppendsFront}
+use Rattle.dml_script.proofs.FitLemmas.{runnable}
 
 pub on_error : {T E : Type 0} (r : Result T E) (P : Type 0) → P → OnErr r P
 on_error (Ok x) P h = tt
@@ -25,3 +26,6 @@ pub front_of_answer : {T E : Type 0} (r : Result T E) (old new : Option (List �
     → parse bytes ≡ Ok lines → AppendsFront old new (answer_from staging opening lines) → OnErr r (AppendsFront old new (answer bytes staging))
 front_of_answer r old new bytes staging lines within parsed front =
     on_error r _ (subst (AppendsFront old new) (answer_is bytes staging lines within parsed) front)
+
+-- what decides the answer of a whole input
+pub ruleset input_steps = (runnable, answer_is, front_of_answer)

@@ -126,7 +126,7 @@ pub fn run_script<T: Threads + Wait + Sync, R: Read, W: Write>(
 }
 
 /// Checks a whole script and writes its answer.
-#[tactic(auto, using(crate::proofs::FitLemmas::runnable, crate::proofs::RunLemmas::answer_is, crate::proofs::RunLemmas::front_of_answer))]
+#[tactic(auto, using(crate::proofs::RunLemmas::input_steps))]
 fn answer_input<T: Threads + Wait + Sync, W: Write>(
     rt: &T,
     alloc: Global,

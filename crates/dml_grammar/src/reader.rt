@@ -104,8 +104,7 @@ fn find_line<'a>(
     ensures fault { (fault : TheFault) → IsErrOf result (errors.Fault fault) →
         left_from number opened progress.now (lines text.now) ≡ nothing_but (Some fault) }
 {
-    let mut rest = text;
-    let mut number = number;
+    let (mut rest, mut number) = (text, number);
     while !rest.is_empty() {
         let (text, after) = next_line(rest);
         number += 1;
@@ -113,12 +112,11 @@ fn find_line<'a>(
         match judge(alloc, progress, text) {
             Ok(None) => {}
             Ok(Some(line)) => {
-                let opened = opening_number(number - 1, &line, opened);
                 return Ok(Some(FoundLine {
+                    opened: opening_number(number - 1, &line, opened),
                     line,
                     rest,
                     number,
-                    opened,
                 }));
             }
             Err(ReadError::NoMemory) => return Err(ScriptError::NoMemory),

@@ -360,10 +360,17 @@ fn longest_lines_and_words(rt: HostRuntime) -> Result<(), Fail> {
     Ok(())
 }
 
+/// A script with a line of each kind.
+const EACH_LINE: &[u8] =
+    b"image 4096\npage 4095 00fF\npage 0\npoke 4094 0102\nnoop flags 0x10\nfill 0x0807 4090 12\nshow 4088 65536\n\
+      raw 000000000C00000400000000000000000010000000000000002000000000000064000000000000000000000000000000000000000\
+      00000000000000000000000\nmove 1 2 3 flags 4\ndualcast 1 2 0xffffffffffffffff 0xffffffff flags 0xffffff\n\
+      dualcast 4 3 2 1\ncompare 1 2 3\ncompare 1 2 3 check 255 flags 0x100\ncompare-pattern 1 0x0807 3 check 0\n\
+      create 1 2 3 4 5 flags 0x80\ncreate 1 2 3 4 5 check 2 flags 0xffff7f\napply 1 2 3 4 flags 2\nbatch\nnoop\n\
+      end\n";
+
 #[test]
 fn each_line_is_read(rt: HostRuntime) -> Result<(), Fail> {
-    let text =
-        b"image 4096\npage 4095 00fF\npage 0\npoke 4094 0102\nnoop flags 0x10\nfill 0x0807 4090 12\nshow 4088 65536\nraw 000000000C0000040000000000000000001000000000000000200000000000006400000000000000000000000000000000000000000000000000000000000000\nmove 1 2 3 flags 4\ndualcast 1 2 0xffffffffffffffff 0xffffffff flags 0xffffff\ndualcast 4 3 2 1\ncompare 1 2 3\ncompare 1 2 3 check 255 flags 0x100\ncompare-pattern 1 0x0807 3 check 0\ncreate 1 2 3 4 5 flags 0x80\ncreate 1 2 3 4 5 check 2 flags 0xffff7f\napply 1 2 3 4 flags 2\nbatch\nnoop\nend\n";
     let lines = [
         "Image { pages: 4096 }",
         "Page { page: 4095, bytes: Bytes { list: [0, 255] } }",
@@ -372,9 +379,11 @@ fn each_line_is_read(rt: HostRuntime) -> Result<(), Fail> {
         "Job(Job { opcode: 0, flags: 16, source: 0, target: 0, size: 0, extra: 0, delta_size: 0, expected: 0 })",
         "Job(Job { opcode: 4, flags: 0, source: 2055, target: 4090, size: 12, extra: 0, delta_size: 0, expected: 0 })",
         "Show { addr: 4088, len: 65536 }",
-        "Job(Job { opcode: 4, flags: 12, source: 4096, target: 8192, size: 100, extra: 0, delta_size: 0, expected: 0 })",
+        "Job(Job { opcode: 4, flags: 12, source: 4096, target: 8192, size: 100, extra: 0, \
+         delta_size: 0, expected: 0 })",
         "Job(Job { opcode: 3, flags: 4, source: 1, target: 2, size: 3, extra: 0, delta_size: 0, expected: 0 })",
-        "Job(Job { opcode: 9, flags: 16777215, source: 1, target: 2, size: 4294967295, extra: 18446744073709551615, delta_size: 0, expected: 0 })",
+        "Job(Job { opcode: 9, flags: 16777215, source: 1, target: 2, size: 4294967295, extra: 18446744073709551615, \
+         delta_size: 0, expected: 0 })",
         "Job(Job { opcode: 9, flags: 0, source: 4, target: 3, size: 1, extra: 2, delta_size: 0, expected: 0 })",
         "Job(Job { opcode: 5, flags: 0, source: 1, target: 2, size: 3, extra: 0, delta_size: 0, expected: 0 })",
         "Job(Job { opcode: 5, flags: 384, source: 1, target: 2, size: 3, extra: 0, delta_size: 0, expected: 255 })",
@@ -386,7 +395,7 @@ fn each_line_is_read(rt: HostRuntime) -> Result<(), Fail> {
         "Job(Job { opcode: 0, flags: 0, source: 0, target: 0, size: 0, extra: 0, delta_size: 0, expected: 0 })",
         "End",
     ];
-    let Ok(script) = read_script(rt.alloc(), text) else {
+    let Ok(script) = read_script(rt.alloc(), EACH_LINE) else {
         panic!(rt; "not read");
     };
     let found = lines_of(rt.alloc(), &script)?;

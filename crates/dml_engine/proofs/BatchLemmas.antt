@@ -101,20 +101,24 @@ module _ (memory : Memory) (jobs : List Job) (staging : ℕ) (blank : List Recor
   as_long done image records is =
       omega (arith, ap length is.records, length-append (records_of memory (take done free) staging) (drop done blank), length_done done is.within, length-drop done blank, size, is.within)
 
-  -- the batch ends before no job that is not fenced, nor where all have succeeded
-  passes : (i done : ℕ) (image : Memory) (records : List Record) → IsCarried memory jobs staging blank done image records → i < done ⊎ ((i ≡ done) × (have_succeeded (take done records) ≡ true)) ⊎ (is_fenced (get_or jobs i no_op_job) ≡ false) → ends_before jobs all i ≡ false
+  -- whether it ends there is read off the records so far
+  ends_alike : (done : ℕ) (image : Memory) (records : List Record) → IsCarried memory jobs staging blank done image records → ends_before jobs all done ≡ ends_before jobs records done
+  ends_alike done image records is =
+      ap (λ (rs : List Record). is_fenced (get_or jobs done no_op_job) && not (have_succeeded rs)) (take_records memory free staging done ∙ sym (take_done done image records is))
+
+  -- the batch ends before no job that was carried out, nor before one that is not fenced
+  passes : (i done : ℕ) (image : Memory) (records : List Record) → IsCarried memory jobs staging blank done image records → i < done ⊎ ((i ≡ done) × (ends_before jobs records done ≡ false)) ⊎ (is_fenced (get_or jobs i no_op_job) ≡ false) → ends_before jobs all i ≡ false
   passes i done image records is which =
       ⊎_elim (λ before. is.passed i before)
       (λ rest.
-      ⊎_elim (λ at. and_right (is_fenced (get_or jobs i no_op_job)) (not (have_succeeded (take i all)))
-      (ap (λ b. not b) (ap have_succeeded (ap (λ n. take n all) at.0 ∙ (take_records memory free staging done ∙ sym (take_done done image records is))) ∙ at.1)))
+      ⊎_elim (λ at. ap (ends_before jobs all) at.0 ∙ (ends_alike done image records is ∙ at.1))
       (λ unfenced_there. and_left (is_fenced (get_or jobs i no_op_job)) (not (have_succeeded (take i all))) unfenced_there)
       rest)
       which
 
   -- jobs up to a later place are carried out
   pub carried_more : (done end : ℕ) (image next : Memory) (records after : List Record) → IsCarried memory jobs staging blank done image records → done ≤ end → end ≤ length jobs
-      → (is_fenced (get_or jobs done no_op_job) ≡ false) ⊎ (have_succeeded (take done records) ≡ true)
+      → ends_before jobs records done ≡ false
       → ((i : ℕ) → done + 1 ≤ i → i < end → is_fenced (get_or jobs i no_op_job) ≡ false)
       → next ≡ memory_after image (slice_range free done end) staging
       → after ≡ take done records ++ (records_of image (slice_range free done end) staging ++ drop end records)
@@ -140,15 +144,14 @@ module _ (memory : Memory) (jobs : List Job) (staging : ℕ) (blank : List Recor
         passed = λ i below.
             passes i done image records is
             (⊎_elim (λ low. inl low)
-            (λ high. ⊎_elim (λ same.
-            ⊎_elim (λ unfenced_there. inr (inr (ap (λ n. is_fenced (get_or jobs n no_op_job)) same ∙ unfenced_there))) (λ succeeded. inr (inl (same, succeeded))) tested)
+            (λ high. ⊎_elim (λ same. inr (inl (same, tested)))
             (λ other. inr (inr (none i (omega (arith, high, other)) below))) (cases_eq i done))
             (cases_lt i done));
       }
 
   -- one job more
   pub carried_one : (done : ℕ) (image next : Memory) (records : List Record) (answer : Record) → IsCarried memory jobs staging blank done image records → done < length jobs
-      → (is_fenced (get_or jobs done no_op_job) ≡ false) ⊎ (have_succeeded (take done records) ≡ true)
+      → ends_before jobs records done ≡ false
       → next ≡ (step image (unfenced (get_or jobs done no_op_job)) staging).0 → answer ≡ (step image (unfenced (get_or jobs done no_op_job)) staging).1
       → IsCarried memory jobs staging blank (done + 1) next (set records done answer)
   carried_one done image next records answer is below tested next_is answer_is =
@@ -176,14 +179,7 @@ module _ (memory : Memory) (jobs : List Job) (staging : ℕ) (blank : List Recor
   -- where it ends, these are the jobs of the batch
   pub these_are : (done : ℕ) (image : Memory) (records : List Record) → IsCarried memory jobs staging blank done image records → EndsAt jobs done records → take done free ≡ batch_jobs memory jobs staging
   these_are done image records is ends =
-      sym (batch_jobs_are memory jobs staging done is.within is.passed (λ below.
-      let here = ends below in
-      let failed : have_succeeded (take done all) ≡ false =
-      ap have_succeeded (take_records memory free staging done ∙ sym (take_done done image records is)) ∙ here.1 in
-      ends_there (is_fenced (get_or jobs done no_op_job)) (have_succeeded (take done all)) here.0 failed))
-    where
-      ends_there : (fenced succeeded : Bool) → fenced ≡ true → succeeded ≡ false → (fenced && not succeeded) ≡ true
-      ends_there fenced succeeded is_so has_not = ap (λ b. b && not succeeded) is_so ∙ ap (λ b. not b) has_not
+      sym (batch_jobs_are memory jobs staging done is.within is.passed (λ below. ends_alike done image records is ∙ ends below))
 
   -- the answers of a batch
   pub batch_image : (done : ℕ) (image : Memory) (records : List Record) → IsCarried memory jobs staging blank done image records → EndsAt jobs done records → image ≡ (batch memory jobs staging).0

@@ -1,10 +1,10 @@
 -- How far a batch is carried out.
-use Rattle.std.specs.Prelude.{◌≡◌, ℕ, ◌<◌, ◌≤◌, true, false, List, ◌++◌, length, map, take, drop, slice_index_or}
+use Rattle.std.specs.Prelude.{◌≡◌, ℕ, ◌<◌, ◌≤◌, true, false, List, ◌++◌, length, map, take, drop}
 use Rattle.dml_types.specs.declared.jobs.Job.{Job}
 use Rattle.dml_types.specs.declared.records.Record.{Record}
-use Rattle.dml_types.specs.Job.{is_fenced, no_op_job, unfenced}
+use Rattle.dml_types.specs.Job.{unfenced}
 use Rattle.dml_types.specs.Memory.{Memory}
-use Rattle.dml_types.specs.Step.{ends_before, have_succeeded, memory_after, records_of}
+use Rattle.dml_types.specs.Step.{ends_before, memory_after, records_of}
 
 -- the first jobs of a batch are carried out: it ends before none of them, and the other records are as they
 -- were
@@ -16,8 +16,6 @@ pub record IsCarried
   pub records : written ≡ records_of memory (take done (map unfenced jobs)) staging ++ drop done blank
   pub passed : (i : ℕ) → i < done → ends_before jobs (records_of memory (map unfenced jobs) staging) i ≡ false
 
--- the next job, if there is one, is fenced, and one of those before it has not succeeded
+-- it ends before the next job, if there is one
 abbrev pub EndsAt : List Job → ℕ → List Record → Type 0
-EndsAt jobs done records =
-    done < length jobs
-    → (is_fenced (slice_index_or jobs done no_op_job) ≡ true) × (have_succeeded (take done records) ≡ false)
+EndsAt jobs done records = done < length jobs → ends_before jobs records done ≡ true

@@ -2,7 +2,7 @@
 ghost use Rattle.std.specs.Prelude.{◌≡◌, ◌↔◌, ◌+◌, ◌<◌, ◌≤◌, ◌++◌, ℕ, false, true, IfOk, IsErrOf, OnErr, OnOk, drop, length, map, replicate, slice_index_or, take, vec_capacity};
 ghost use Rattle.dml_types.specs.Job.{is_fenced, no_op_job, unfenced};
 ghost use Rattle.dml_types.specs.Effect.{ended};
-ghost use Rattle.dml_types.specs.Step.{batch, batch_answer, batch_jobs, have_succeeded, memory_after, records_of};
+ghost use Rattle.dml_types.specs.Step.{batch, batch_answer, batch_jobs, ends_before, have_succeeded, memory_after, records_of};
 ghost use Rattle.dml_types.specs.declared.statuses.Status.TheVariants.{Abandoned};
 ghost use Rattle.dml_engine.specs.Batches.{EndsAt, IsCarried};
 
@@ -92,7 +92,7 @@ impl<G: Gate + Sync> Engine<G> {
         ensures watched { self.new.watched ≡ self.old.watched }
     {
         let mut done = 0;
-        while done < jobs.len() && have_succeeded(&records[..done]) {
+        while done < jobs.len() && !ends_before(jobs, records, done) {
             let end = next_fence(jobs, done + 1);
             self.carry_out_piece(rt, alloc, &free[done..end], &mut records[done..end]);
             done = end;
@@ -136,7 +136,7 @@ impl<G> Engine<G> {
         ensures watched { self.new.watched ≡ self.old.watched }
     {
         for i in 0..jobs.len() {
-            if jobs[i].is_fenced() && !have_succeeded(&records[..i]) {
+            if ends_before(jobs, records, i) {
                 return i;
             }
             let free = jobs[i].unfenced();
@@ -176,6 +176,15 @@ fn next_fence(jobs: &[Job], start: usize) -> usize
         place += 1;
     }
     place
+}
+
+/// Whether a batch ends before the job at a place: it is fenced, and one of all those before it has not succeeded.
+fn ends_before(jobs: &[Job], records: &[Record], place: usize) -> bool
+    requires place { place < length jobs.now }
+    requires records { place ≤ length records.now }
+    ensures { result ≡ ends_before jobs.now records.now place }
+{
+    jobs[place].is_fenced() && !have_succeeded(&records[..place])
 }
 
 /// The record of a batch whose jobs that were carried out have these.

@@ -24,23 +24,22 @@ loop-done-preserved g c =
     let part = c.carry_out_piece.new.records in
     let next = c.carry_out_piece.new.self in
     let order : from ≤ to = omega (arith, within.0) in
-    let inside : to ≤ length records = omega (arith, within.1, known.2) in
+    let inside : to ≤ length records = omega (arith, within.1, known.1) in
     let image : next.image ≡ memory_after now.image (slice_range free from to) staging =
     c.carry_out_piece.ensures.image
-    ∙ (ap (λ (s : Settings). memory_after now.image (slice_range c.args.free.now from to) s.staging) known.3
+    ∙ (ap (λ (s : Settings). memory_after now.image (slice_range c.args.free.now from to) s.staging) known.2
     ∙ ap (λ (these : List Job). memory_after now.image (slice_range these from to) staging) c.requires.free) in
     let written : part ≡ records_of now.image (slice_range free from to) staging =
     c.carry_out_piece.ensures.records
-    ∙ (ap (λ (s : Settings). records_of now.image (slice_range c.args.free.now from to) s.staging) known.3
+    ∙ (ap (λ (s : Settings). records_of now.image (slice_range c.args.free.now from to) s.staging) known.2
     ∙ ap (λ (these : List Job). records_of now.image (slice_range these from to) staging) c.requires.free) in
     let size : length part ≡ to - from =
     omega (arith, ap length written, length_records_of now.image (slice_range free from to) staging, length-take (to - from) (drop from free), length-drop from free, length-map jobs unfenced, within.1) in
     let whole = put_between from to records part order inside size in (
       carried_more c.args.self.now.image jobs staging c.args.records.now c.requires.size from to now.image next.image records _ known.0 order within.1
-          (inr (sym c.have_succeeded.ensures ∙ c.if-have_succeeded.true)) (λ i low high. c.next_fence-end.ensures.none_before i low high) image
+          (sym c.ends_before.ensures ∙ c.if-not-ends_before.true) (λ i low high. c.next_fence-end.ensures.none_before i low high) image
           (whole ∙ ap (λ (rs : List Record). take from records ++ (rs ++ drop to records)) written),
-      λ above below. c.next_fence-end.ensures.fenced below,
-      ap length whole ∙ omega (arith, length-append (take from records) (part ++ drop to records), length-append part (drop to records), length-take from records, length-drop to records, size, inside, order, known.2),
-      c.carry_out_piece.ensures.settings ∙ known.3,
-      c.carry_out_piece.ensures.watched ∙ known.4,
+      ap length whole ∙ omega (arith, length-append (take from records) (part ++ drop to records), length-append part (drop to records), length-take from records, length-drop to records, size, inside, order, known.1),
+      c.carry_out_piece.ensures.settings ∙ known.2,
+      c.carry_out_piece.ensures.watched ∙ known.3,
     )

@@ -1,12 +1,11 @@
-use Rattle.std.proofs.Common.{◌≡◌, ◌+◌, ◌<◌, ◌⊎◌, inl, inr, true, false, length, get_or, ap, sym, ◌∙◌, subst, arith, take}
+use Rattle.std.proofs.Common.{◌≡◌, ◌+◌, ◌<◌, false, length, get_or, ap, sym, ◌∙◌, arith}
 use Rattle.std.proofs.lemmas.List.{length-set}
 use Rattle.dml_types.specs.declared.jobs.Job.{Job}
 use Rattle.dml_types.specs.declared.limits.Settings.{Settings}
-use Rattle.dml_types.specs.Job.{is_fenced, no_op_job, unfenced}
-use Rattle.dml_types.specs.Step.{have_succeeded, step}
+use Rattle.dml_types.specs.Job.{no_op_job, unfenced}
+use Rattle.dml_types.specs.Step.{ends_before, step}
 use Rattle.dml_engine.proofs.BatchLemmas.{carried_one}
 use Rattle.dml_engine.proofs.engines.Engine.batch_in_list_order.Goals as goal
-use Rattle.dml_engine.proofs.engines.Engine.batch_in_list_order.Goals.{else-is_fenced-via-then-is_fenced+else-not-have_succeeded, else-is_fenced-via-else-is_fenced}
 
 pub loop-i-preserved : goal.loop-i-preserved
 loop-i-preserved g c =
@@ -16,11 +15,7 @@ loop-i-preserved g c =
     let records = c.loop-i.records in
     let known = c.loop-i.invariant in
     let below : i < length jobs = omega arith in
-    let tested : (is_fenced (get_or jobs i no_op_job) ≡ false) ⊎ (have_succeeded (take i records) ≡ true) =
-    elim c.else-is_fenced.branch [
-      | else-is_fenced-via-then-is_fenced+else-not-have_succeeded w ↦ inr (sym w.have_succeeded.ensures ∙ w.if-not-have_succeeded.false)
-      | else-is_fenced-via-else-is_fenced w ↦ inl (sym c.is_fenced.ensures ∙ w.if-is_fenced.false)
-    ] in
+    let tested : ends_before jobs records i ≡ false = sym c.ends_before.ensures ∙ c.if-ends_before.false in
     let job : c.unfenced-free.result ≡ unfenced (get_or jobs i no_op_job) = c.unfenced-free.ensures.job in
     let image : c.carry_out_alone.new.self.image ≡ (step now.image (unfenced (get_or jobs i no_op_job)) c.args.self.now.settings.staging).0 =
     c.carry_out_alone.ensures.image

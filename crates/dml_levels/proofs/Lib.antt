@@ -19,3 +19,4 @@ pub mod WaveFacts
 pub mod FenceLaws
 pub mod FenceLemmas
 pub mod PartLaws
+pub mod PieceLaws

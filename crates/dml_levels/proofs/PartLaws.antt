@@ -1,7 +1,7 @@
 -- A fence parts the waves of a list.
-use Rattle.std.proofs.Common.{◌≡◌, ℕ, ◌+◌, ◌-◌, ◌<◌, ◌≤◌, ◌⊎◌, Bool, true, false, List, [], ◌∷◌, ◌++◌, length, map, take, drop, Option, None, Some, refl, sym, ◌∙◌, ap, ap₂, subst, arith, ⊎_elim}
+use Rattle.std.proofs.Common.{◌≡◌, ℕ, ◌+◌, ◌-◌, ◌<◌, ◌≤◌, Bool, true, List, [], ◌∷◌, ◌++◌, length, map, take, drop, Option, None, Some, refl, sym, ◌∙◌, ap, ap₂, subst, arith, ⊎_elim}
 use Rattle.std.proofs.lemmas.Bool.{cases_Bool, cases_lt, eqb-true, false≢true, le-ltb, lt-ltb, or_cases}
-use Rattle.std.proofs.lemmas.List.{drop-drop, drop-take, get_or-drop, get_or-map, get_or-take, get_or_default, get_or_past, length-drop, length-map, length-take, take-take}
+use Rattle.std.proofs.lemmas.List.{drop-drop, drop-take, get_or-drop, get_or-map, get_or-take, length-drop, length-map, length-take, take-take}
 use Rattle.std.proofs.lemmas.List.Folds.{list_any-append}
 use Rattle.std.specs.List.{list_any}
 use Rattle.std.specs.Prelude.{nat_eq, nat_lt, option_map, slice_range, unwrap_or, ◌||◌}
@@ -10,21 +10,20 @@ use Rattle.dml_types.specs.declared.operations.Op.{Op}
 use Rattle.dml_types.specs.declared.operations.Op.TheVariants.{NoOp, Move, Fill, Compare, ComparePattern, CreateDelta, ApplyDelta, Dualcast}
 use Rattle.dml_types.specs.declared.spans.Span.{Span}
 use Rattle.dml_types.specs.Job.{any_shares, is_fenced, no_op_job, op_of, reads, unfenced, writes}
-use Rattle.dml_types.specs.Conflict.{clash_of, conflict, fenced_clash, fenced_levels, levels_of, ranges_of}
+use Rattle.dml_types.specs.Conflict.{conflict, fenced_clash, fenced_levels, levels_of, ranges_of}
 use Rattle.dml_order.specs.Order.{is_in, IsOrder}
 use Rattle.dml_order.specs.Waves.{depth, further, joined, waves_of}
 use Rattle.dml_order.proofs.LevelLemmas.{length_levels_of}
 use Rattle.dml_order.proofs.PartLemmas.{waves_both}
 use Rattle.dml_order.proofs.WaveLemmas.{joined_append, waves_order}
 use Rattle.dml_levels.specs.Waves.{job_at}
-use Rattle.dml_levels.specs.Laws.{HoldsConflicts, unless_refused}
-use Rattle.dml_levels.specs.Fences.{ArePartedAt, BatchesHoldConflicts, FencesPartWaves, IsFence}
+use Rattle.dml_levels.specs.Fences.{BatchesHoldConflicts, FencesPartWaves, IsFence}
 use Rattle.dml_levels.proofs.FenceLaws.{fences_only_add, front_is_fold}
 use Rattle.dml_levels.proofs.FenceLemmas.{fence_clashes, levels_raised}
 use Rattle.dml_levels.proofs.LawLemmas.{own_clashes_hold}
 
 -- places that clash alike have the same levels
-levels_alike : (clash own : ℕ → ℕ → Bool) (n : ℕ) → ((j k : ℕ) → j < k → k < n → clash j k ≡ own j k) → levels_of clash n ≡ levels_of own n
+pub levels_alike : (clash own : ℕ → ℕ → Bool) (n : ℕ) → ((j k : ℕ) → j < k → k < n → clash j k ≡ own j k) → levels_of clash n ≡ levels_of own n
 levels_alike clash own n same =
     let start : (k : ℕ) → 0 + k ≡ k = λ k. omega arith in
     ap (levels_of clash) (sym (start n))
@@ -139,7 +138,7 @@ writes_unfenced job CreateDelta = refl
 writes_unfenced job ApplyDelta = refl
 writes_unfenced job Dualcast = refl
 
-conflict_unfenced : (a b : Job) → conflict (unfenced a) (unfenced b) ≡ conflict a b
+pub conflict_unfenced : (a b : Job) → conflict (unfenced a) (unfenced b) ≡ conflict a b
 conflict_unfenced a b =
     let read : (job : Job) → ranges_of reads (unfenced job) ≡ ranges_of reads job = λ job. ranges_unfenced reads job (reads_unfenced job) in
     let written : (job : Job) → ranges_of writes (unfenced job) ≡ ranges_of writes job = λ job. ranges_unfenced writes job (writes_unfenced job) in

@@ -1,5 +1,6 @@
 use Rattle.dml_levels.proofs.FenceLaws.{fences_only_add, fences_part, front_is_fold, waves_before_fence}
 use Rattle.dml_levels.proofs.PartLaws.{batches_hold_conflicts, fences_part_waves}
+use Rattle.dml_levels.proofs.PieceLaws.{pieces_are_waves}
 use Rattle.dml_levels.proofs.laws.law_of_fences.Goals as goal
 
 pub returns-clause-only_add : goal.returns-clause-only_add
@@ -19,3 +20,6 @@ returns-clause-of_batches c = batches_hold_conflicts
 
 pub returns-clause-waves : goal.returns-clause-waves
 returns-clause-waves c = fences_part_waves
+
+pub returns-clause-pieces : goal.returns-clause-pieces
+returns-clause-pieces c = pieces_are_waves

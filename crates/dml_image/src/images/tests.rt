@@ -197,7 +197,7 @@ fn some_bytes() -> [u8; 12_288] {
 }
 
 /// Source, target and length of moves inside three pages.
-const MOVES: [(u64, u64, u32); 30] = [
+const MOVES: [(u64, u64, u32); 37] = [
     (0, 0, 100),
     (10, 20, 8),
     (20, 10, 8),
@@ -229,6 +229,14 @@ const MOVES: [(u64, u64, u32); 30] = [
     (4101, 7, 4096),
     (1, 4098, 8190),
     (4098, 1, 8190),
+    // of 64 bytes: whole words, unaligned, over one another, and over the edges of one page or of two
+    (0, 4096, 64),
+    (3, 4165, 64),
+    (8, 16, 64),
+    (17, 10, 64),
+    (4064, 4100, 64),
+    (4100, 4064, 64),
+    (4065, 8150, 64),
 ];
 
 /// The bytes of three pages after a move inside them, by hand.

@@ -4,7 +4,8 @@ use Rattle.std.specs.Prelude.{ℕ, ◌+◌, ◌-◌, ◌%◌, ◌^◌, ◌||◌,
 use Rattle.dml_types.specs.declared.jobs.Job.{Job}
 use Rattle.dml_types.specs.declared.records.Record.{Record}
 use Rattle.dml_types.specs.declared.operations.Op.{Op}
-use Rattle.dml_types.specs.declared.operations.Op.TheVariants.{Move, Fill, Compare, ComparePattern, CreateDelta, ApplyDelta, Dualcast}
+use Rattle.dml_types.specs.declared.operations.Op.TheVariants.{Move, Fill, Compare, ComparePattern}
+use Rattle.dml_types.specs.declared.operations.Op.TheVariants.{CreateDelta, ApplyDelta, Dualcast}
 use Rattle.dml_types.specs.Effect.{code_of}
 use Rattle.dml_types.specs.Job.{op_of}
 
@@ -23,7 +24,8 @@ counted_by (Some Compare) base job = record job { source = distance base job.sou
 counted_by (Some ComparePattern) base job = record job { source = distance base job.source }
 counted_by (Some CreateDelta) base job =
     record job { source = distance base job.source; target = distance base job.target; extra = distance base job.extra }
-counted_by (Some ApplyDelta) base job = record job { source = distance base job.source; target = distance base job.target }
+counted_by (Some ApplyDelta) base job =
+    record job { source = distance base job.source; target = distance base job.target }
 counted_by (Some Dualcast) base job =
     record job { source = distance base job.source; target = distance base job.target; extra = distance base job.extra }
 counted_by _ base job = job

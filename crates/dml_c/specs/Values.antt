@@ -56,7 +56,13 @@ record_for_c outcome =
 abbrev pub record_from_c : CRecord → Option Record
 record_from_c outcome =
     option_map
-    (λ status. record { status = status; result = outcome.result; completed = outcome.completed; fault = outcome.fault; delta_size = outcome.delta_size })
+    (λ status. record {
+      status = status;
+      result = outcome.result;
+      completed = outcome.completed;
+      fault = outcome.fault;
+      delta_size = outcome.delta_size;
+    })
     (status_with outcome.status)
 
 -- the bytes of a record in the layout of C, and a record's fields
@@ -68,4 +74,5 @@ fields_of bytes = option_map record_for_c (recorded bytes)
 
 -- the descriptor of what is left of a descriptor's job after a record
 abbrev pub rest_of : List ℕ → List ℕ → Option (List ℕ)
-rest_of descriptor bytes = option_and_then (λ outcome. option_and_then encoded (rest (decoded descriptor) outcome)) (recorded bytes)
+rest_of descriptor bytes =
+    option_and_then (λ outcome. option_and_then encoded (rest (decoded descriptor) outcome)) (recorded bytes)

@@ -1,5 +1,6 @@
 //! The engine behind a handle.
-ghost use Rattle.std.specs.Prelude.{◌≡◌, ◌≢◌, ◌↔◌, ◌≤◌, IfOk, IsOk, IsTrue, OnErr, OnOk, Err, if◌then◌else◌, length, map};
+ghost use Rattle.std.specs.Prelude.{◌≡◌, ◌≢◌, ◌↔◌, ◌≤◌, IfOk, IsOk, IsTrue, OnErr, OnOk, Err, length, map};
+ghost use Rattle.std.specs.Prelude.{if◌then◌else◌};
 ghost use Rattle.dml_types.specs.Memory.{bytes_at, has_all, put};
 ghost use Rattle.dml_types.specs.Step.{memory_after, records_of, step};
 ghost use Rattle.dml_desc.specs.Descriptor.{bytes_of_record, decoded};
@@ -73,7 +74,8 @@ impl Engine {
     /// Writes bytes from an address on, where all of them are present, and answers whether they are.
     pub fn write(&mut self, address: u64, bytes: &[u8]) -> bool
         ensures present { result ≡ has_all self.old.image address (length bytes.now) }
-        ensures written { self.new ≡ (if result then with_image self.old (put self.old.image address bytes.now) else self.old) }
+        ensures written { self.new
+            ≡ (if result then with_image self.old (put self.old.image address bytes.now) else self.old) }
     {
         let is_present = has_range(&self.image, address, bytes.len());
         if is_present {
@@ -86,7 +88,8 @@ impl Engine {
     /// are.
     pub fn read(&self, address: u64, buffer: &mut [u8]) -> bool
         ensures present { result ≡ has_all self.now.image address (length buffer.old) }
-        ensures read { buffer.new ≡ (if result then bytes_at self.now.image address (length buffer.old) else buffer.old) }
+        ensures read { buffer.new
+            ≡ (if result then bytes_at self.now.image address (length buffer.old) else buffer.old) }
     {
         let is_present = has_range(&self.image, address, buffer.len());
         if is_present {
@@ -97,7 +100,8 @@ impl Engine {
 
     /// Carries out the job of a descriptor, and answers the bytes of its record.
     pub fn submit(&mut self, descriptor: &[u8; 64]) -> [u8; 32]
-        ensures image { self.new ≡ with_image self.old (step self.old.image (decoded descriptor.now) self.old.staging).0 }
+        ensures image { self.new
+            ≡ with_image self.old (step self.old.image (decoded descriptor.now) self.old.staging).0 }
         ensures record { result ≡ bytes_of_record (step self.old.image (decoded descriptor.now) self.old.staging).1 }
     {
         let job = dml_desc::decode(descriptor);
@@ -108,8 +112,10 @@ impl Engine {
     /// Carries out the jobs of some descriptors one after another, and writes the bytes of their records.
     pub fn submit_all(&mut self, descriptors: &[[u8; 64]], answers: &mut [[u8; 32]])
         requires { length answers.old ≡ length descriptors.now }
-        ensures image { self.new ≡ with_image self.old (memory_after self.old.image (map decoded descriptors.now) self.old.staging) }
-        ensures records { answers.new ≡ map bytes_of_record (records_of self.old.image (map decoded descriptors.now) self.old.staging) }
+        ensures image { self.new
+            ≡ with_image self.old (memory_after self.old.image (map decoded descriptors.now) self.old.staging) }
+        ensures records { answers.new
+            ≡ map bytes_of_record (records_of self.old.image (map decoded descriptors.now) self.old.staging) }
     {
         for i in 0..descriptors.len() {
             answers[i] = self.submit(&descriptors[i]);

@@ -1,5 +1,6 @@
 //! Jobs over an image of the library's own, behind a handle.
-ghost use Rattle.std.specs.Prelude.{◌≡◌, ◌≢◌, ◌↔◌, ◌+◌, ◌<◌, ◌≤◌, ◌⊎◌, None, Some, IfSome, IsSome, IsTrue, length, map, option_map, false};
+ghost use Rattle.std.specs.Prelude.{◌≡◌, ◌≢◌, ◌↔◌, ◌+◌, ◌<◌, ◌≤◌, ◌⊎◌, None, Some, IfSome, IsSome, IsTrue, false};
+ghost use Rattle.std.specs.Prelude.{length, map, option_map};
 ghost use Rattle.dml_types.specs.Memory.{bytes_at, has_all, put};
 ghost use Rattle.dml_desc.specs.Descriptor.{decoded};
 ghost use Rattle.dml_image.specs.Brought.{brought, has_page};
@@ -28,7 +29,8 @@ pub extern "C" fn kazovuni_create(
     ensures codes { (result ≡ 0) ⊎ (result ≡ 2) ⊎ ((5 ≤ result) × (result ≤ 7)) }
     ensures has_engine { (result ≡ 5) ↔ IsSome engine.old.handle.state }
     ensures bad_pages { engine.old.handle.state ≡ None → ((result ≡ 6) ↔ ((pages < 1) ⊎ (4096 < pages))) }
-    ensures bad_settings { engine.old.handle.state ≡ None → 1 ≤ pages → pages ≤ 4096 → ((result ≡ 7) ↔ (16777216 < staging)) }
+    ensures bad_settings { engine.old.handle.state ≡ None → 1 ≤ pages → pages ≤ 4096
+        → ((result ≡ 7) ↔ (16777216 < staging)) }
     ensures made { result ≡ 0 → engine.new.handle.state ≡ Some (opened pages staging) }
     ensures unchanged { result ≢ 0 → engine.new.handle.state ≡ engine.old.handle.state }
 {
@@ -94,7 +96,8 @@ pub extern "C" fn kazovuni_write(
 ) -> u8
     ensures codes { (result ≡ 0) ⊎ (result ≡ 4) ⊎ (result ≡ 9) }
     ensures no_engine { (result ≡ 4) ↔ (engine.old.handle.state ≡ None) }
-    ensures absent { IfSome engine.old.handle.state (λ s. (result ≡ 9) ↔ (has_all s.image address (length bytes.now) ≡ false)) }
+    ensures absent { IfSome engine.old.handle.state
+        (λ s. (result ≡ 9) ↔ (has_all s.image address (length bytes.now) ≡ false)) }
     ensures written { result ≡ 0 → engine.new.handle.state
         ≡ option_map (λ s. with_image s (put s.image address bytes.now)) engine.old.handle.state }
     ensures unchanged { result ≢ 0 → engine.new.handle.state ≡ engine.old.handle.state }
@@ -121,8 +124,10 @@ pub extern "C" fn kazovuni_read(
 ) -> u8
     ensures codes { (result ≡ 0) ⊎ (result ≡ 4) ⊎ (result ≡ 9) }
     ensures no_engine { (result ≡ 4) ↔ (engine.old.handle.state ≡ None) }
-    ensures absent { IfSome engine.old.handle.state (λ s. (result ≡ 9) ↔ (has_all s.image address (length bytes.old) ≡ false)) }
-    ensures read { IfSome engine.old.handle.state (λ s. result ≡ 0 → bytes.new ≡ bytes_at s.image address (length bytes.old)) }
+    ensures absent { IfSome engine.old.handle.state
+        (λ s. (result ≡ 9) ↔ (has_all s.image address (length bytes.old) ≡ false)) }
+    ensures read { IfSome engine.old.handle.state
+        (λ s. result ≡ 0 → bytes.new ≡ bytes_at s.image address (length bytes.old)) }
     ensures unread { result ≢ 0 → bytes.new ≡ bytes.old }
     ensures unchanged { engine.new.handle.state ≡ engine.old.handle.state }
 {
@@ -169,9 +174,12 @@ pub extern "C" fn kazovuni_submit_list(
 ) -> u8
     ensures codes { (result ≡ 0) ⊎ (result ≡ 3) ⊎ (result ≡ 4) }
     ensures no_engine { (result ≡ 4) ↔ (engine.old.handle.state ≡ None) }
-    ensures not_as_many { IsSome engine.old.handle.state → ((result ≢ 3) ↔ (length answers.old ≡ length descriptors.now)) }
-    ensures image { result ≡ 0 → engine.new.handle.state ≡ submitted_all engine.old.handle.state (map decoded descriptors.now) }
-    ensures records { result ≡ 0 → answers.new ≡ answered_all engine.old.handle.state (map decoded descriptors.now) answers.old }
+    ensures not_as_many { IsSome engine.old.handle.state
+        → ((result ≢ 3) ↔ (length answers.old ≡ length descriptors.now)) }
+    ensures image { result ≡ 0 → engine.new.handle.state
+        ≡ submitted_all engine.old.handle.state (map decoded descriptors.now) }
+    ensures records { result ≡ 0 → answers.new
+        ≡ answered_all engine.old.handle.state (map decoded descriptors.now) answers.old }
     ensures unchanged { result ≢ 0 → (engine.new.handle.state ≡ engine.old.handle.state) × (answers.new ≡ answers.old) }
 {
     if !engine.is_open() {

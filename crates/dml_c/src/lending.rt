@@ -1,15 +1,16 @@
 //! Jobs over the caller's own pages.
-ghost use Rattle.std.specs.Prelude.{◌≡◌, ◌≢◌, ◌↔◌, ◌≤◌, IfSome, IsSome, IsTrue, MatchOption, None, length, map};
-ghost use Rattle.std.specs.List.{All};
+ghost use Rattle.std.specs.Prelude.{◌≡◌, ◌≢◌, ◌↔◌, ◌≤◌, IfOk, IfSome, IsErr, IsSome, None, length, map};
+ghost use Rattle.dml_types.specs.Refusal.{need};
 ghost use Rattle.dml_types.specs.Step.{memory_after, records_of, step};
 ghost use Rattle.dml_desc.specs.Descriptor.{bytes_of_record, decoded};
 ghost use Rattle.dml_c.specs.Bases as bases;
+ghost use Rattle.dml_c.specs.Needs.{IsEnough, IsGreatestNeed, TakesSome, room_of};
 ghost use Rattle.dml_effect.specs.Pages.{IsPages, all_present};
 ghost use Rattle.dml_effect.specs.Straight.{TakesStaging};
 
 use crate::bases::{answered_at, counted};
 use crate::codes::{DONE, NO_MEMORY, NOT_AS_MANY, NOT_PAGES};
-use dml_arena::Arena;
+use dml_arena::{Arena, ArenaError};
 use dml_effect::{are_pages, submit_over, submit_straight_over, takes_staging};
 use dml_types::{Job, Record};
 use std::alloc::Global;
@@ -28,7 +29,8 @@ pub extern "C" fn kazovuni_submit_over(
     ensures not_pages { (result ≢ 1) ↔ IsPages bytes.old }
     ensures no_memory { result ≡ 2 → TakesStaging (decoded descriptor.now) staging }
     ensures content { result ≡ 0 → bytes.new ≡ (step (all_present bytes.old) (decoded descriptor.now) staging).0.bytes }
-    ensures record { result ≡ 0 → answer.new ≡ bytes_of_record (step (all_present bytes.old) (decoded descriptor.now) staging).1 }
+    ensures record { result ≡ 0 → answer.new
+        ≡ bytes_of_record (step (all_present bytes.old) (decoded descriptor.now) staging).1 }
     ensures unchanged { result ≢ 0 → (bytes.new ≡ bytes.old) × (answer.new ≡ answer.old) }
 {
     if !are_pages(bytes) {
@@ -54,9 +56,11 @@ pub extern "C" fn kazovuni_submit_list_over(
     ensures codes { result ≤ 3 }
     ensures not_pages { (result ≢ 1) ↔ IsPages bytes.old }
     ensures not_as_many { IsPages bytes.old → ((result ≢ 3) ↔ (length answers.old ≡ length descriptors.now)) }
-    ensures no_memory { result ≡ 2 → All (λ d. TakesStaging (decoded d) staging → ⊥) descriptors.now → ⊥ }
-    ensures content { result ≡ 0 → bytes.new ≡ (memory_after (all_present bytes.old) (map decoded descriptors.now) staging).bytes }
-    ensures records { result ≡ 0 → answers.new ≡ map bytes_of_record (records_of (all_present bytes.old) (map decoded descriptors.now) staging) }
+    ensures no_memory { result ≡ 2 → TakesSome descriptors.now staging }
+    ensures content { result ≡ 0 → bytes.new
+        ≡ (memory_after (all_present bytes.old) (map decoded descriptors.now) staging).bytes }
+    ensures records { result ≡ 0 → answers.new
+        ≡ map bytes_of_record (records_of (all_present bytes.old) (map decoded descriptors.now) staging) }
     ensures unchanged { result ≢ 0 → (bytes.new ≡ bytes.old) × (answers.new ≡ answers.old) }
 {
     if !are_pages(bytes) {
@@ -65,13 +69,9 @@ pub extern "C" fn kazovuni_submit_list_over(
     if descriptors.len() != answers.len() {
         return NOT_AS_MANY;
     }
-    let mut arena = None;
-    if !go_straight(descriptors, staging) {
-        let Ok(made) = Arena::new(alloc, staging) else {
-            return NO_MEMORY;
-        };
-        arena = Some(made);
-    }
+    let Ok(mut arena) = arena_for(alloc, descriptors, staging) else {
+        return NO_MEMORY;
+    };
     submit_all(bytes, &mut arena, descriptors, staging, answers);
     DONE
 }
@@ -85,10 +85,11 @@ fn submit_all(
     answers: &mut [[u8; 32]],
 )
     requires pages { IsPages bytes.old }
-    requires staging { MatchOption arena.old (All (λ d. TakesStaging (decoded d) staging → ⊥) descriptors.now) (λ a. staging ≤ a.size) }
+    requires staging { IsEnough (room_of arena.old) descriptors.now staging }
     requires as_many { length answers.old ≡ length descriptors.now }
     ensures content { bytes.new ≡ (memory_after (all_present bytes.old) (map decoded descriptors.now) staging).bytes }
-    ensures records { answers.new ≡ map bytes_of_record (records_of (all_present bytes.old) (map decoded descriptors.now) staging) }
+    ensures records { answers.new
+        ≡ map bytes_of_record (records_of (all_present bytes.old) (map decoded descriptors.now) staging) }
 {
     for i in 0..descriptors.len() {
         let job = dml_desc::decode(&descriptors[i]);
@@ -96,17 +97,43 @@ fn submit_all(
     }
 }
 
-/// Whether no job of these descriptors takes staging.
-fn go_straight(descriptors: &[[u8; 64]], staging: u32) -> bool
-    ensures { IsTrue result ↔ All (λ d. TakesStaging (decoded d) staging → ⊥) descriptors.now }
+/// The arena of a list, of as many bytes as the job needs that takes most; none where no job takes staging.
+///
+/// # Errors
+/// There is no memory.
+fn arena_for(
+    alloc: Global,
+    descriptors: &[[u8; 64]],
+    staging: u32,
+) -> Result<Option<Arena>, ArenaError>
+    ensures size { IfOk result (λ arena. IsGreatestNeed (room_of arena) descriptors.now staging) }
+    ensures no_memory { IsErr result → TakesSome descriptors.now staging }
 {
-    descriptors.iter().all(|descriptor| !takes_staging(&dml_desc::decode(descriptor), staging))
+    let most = greatest_need(descriptors, staging);
+    if most == 0 {
+        return Ok(None);
+    }
+    Ok(Some(Arena::new(alloc, most)?))
+}
+
+/// The greatest need of the jobs that take staging; 0 where none does.
+fn greatest_need(descriptors: &[[u8; 64]], staging: u32) -> u32
+    ensures { IsGreatestNeed result descriptors.now staging }
+{
+    let mut most = 0;
+    for i in 0..descriptors.len() {
+        let job = dml_desc::decode(&descriptors[i]);
+        if takes_staging(&job, staging) {
+            most = most.max(dml_desc::need(&job) as u32);
+        }
+    }
+    most
 }
 
 /// Carries out a job in an arena, or without one where it takes no staging.
 fn submit_in(bytes: &mut [u8], arena: &mut Option<Arena>, job: &Job, staging: u32) -> Record
     requires pages { IsPages bytes.old }
-    requires staging { MatchOption arena.old (TakesStaging job.now staging → ⊥) (λ a. staging ≤ a.size) }
+    requires staging { TakesStaging job.now staging → need job.now ≤ room_of arena.old }
     ensures content { bytes.new ≡ (step (all_present bytes.old) job.now staging).0.bytes }
     ensures answer { result ≡ (step (all_present bytes.old) job.now staging).1 }
     ensures arena { arena.new ≡ arena.old }
@@ -148,9 +175,10 @@ pub extern "C" fn kazovuni_submit_pointers(
     ensures codes { result ≤ 2 }
     ensures not_pages { (result ≢ 1) ↔ IsPages bytes.old }
     ensures no_memory { result ≡ 2 → TakesStaging (bases.counted base (decoded descriptor.now)) staging }
-    ensures content { result ≡ 0 → bytes.new ≡ (step (all_present bytes.old) (bases.counted base (decoded descriptor.now)) staging).0.bytes }
-    ensures record { result ≡ 0 → answer.new
-        ≡ bytes_of_record (bases.answered_at base (step (all_present bytes.old) (bases.counted base (decoded descriptor.now)) staging).1) }
+    ensures content { result ≡ 0 → bytes.new
+        ≡ (step (all_present bytes.old) (bases.counted base (decoded descriptor.now)) staging).0.bytes }
+    ensures record { result ≡ 0 → answer.new ≡ bytes_of_record (bases.answered_at base
+        (step (all_present bytes.old) (bases.counted base (decoded descriptor.now)) staging).1) }
     ensures unchanged { result ≢ 0 → (bytes.new ≡ bytes.old) × (answer.new ≡ answer.old) }
 {
     if !are_pages(bytes) {

@@ -56,8 +56,8 @@ pub extern "C" fn kazovuni_encode(job: &CJob, descriptor: &mut [u8; 64]) -> bool
     true
 }
 
-/// Writes the 32 bytes of a completion record, and answers true; false where its status is the code of none, and nothing
-/// is written.
+/// Writes the 32 bytes of a completion record, and answers true; false where its status is the code of none, and
+/// nothing is written.
 #[unsafe(no_mangle)]
 pub extern "C" fn kazovuni_record_encode(fields: &CRecord, answer: &mut [u8; 32]) -> bool
     ensures fits { IsTrue result ↔ IsSome (bytes_from_c fields.now) }

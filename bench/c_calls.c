@@ -36,8 +36,7 @@ static void over_pointers(void)
 
 static void over_list(void)
 {
-    seen = kazovuni_submit_list_over(
-        bytes, 2 * HALF, (const uint8_t (*)[64])descriptors, LIST, STAGING, records, LIST);
+    seen = kazovuni_submit_list_over(bytes, 2 * HALF, descriptors[0], LIST, STAGING, records[0], LIST);
 }
 
 static void by_handle(void)

@@ -39,7 +39,7 @@ enum {
     KAZOVUNI_BAD_PAGES = 6,    /* an engine has 1 to 4,096 pages */
     KAZOVUNI_BAD_SETTINGS = 7, /* an engine has at most 16,777,216 bytes of staging */
     KAZOVUNI_NO_SUCH_PAGE = 8, /* the engine has no page of this number */
-    KAZOVUNI_ABSENT = 9,       /* a byte of the range is absent */
+    KAZOVUNI_ABSENT = 9        /* a byte of the range is absent */
 };
 
 /*
@@ -68,7 +68,8 @@ typedef struct kazovuni_record {
 
 /*
  * The handle of an engine: an image of pages that are present or absent, and its staging. It is zeroed before its first
- * call and never written by the caller afterwards, nor copied; kazovuni_free zeroes it again. One call at a time.
+ * call, and the caller never sets a field of it afterwards; kazovuni_free zeroes it again. Between calls it may be
+ * copied to another place, and from then on one of the two copies alone is used. One call at a time.
  */
 typedef struct kazovuni_engine {
     void *engine;
@@ -112,10 +113,14 @@ bool kazovuni_rest(const uint8_t descriptor[64], const uint8_t record[32], uint8
 uint8_t kazovuni_submit_over(
     uint8_t *bytes, size_t length, const uint8_t descriptor[64], uint32_t staging, uint8_t record[32]);
 
-/* Carries out the jobs of some descriptors one after another, and writes the completion record of each. */
+/*
+ * Carries out the jobs of some descriptors one after another, and writes the completion record of each. There are
+ * `jobs` descriptors of 64 bytes and `answers` records of 32, each behind the other: of `uint8_t descriptors[8][64]`
+ * the first, `descriptors[0]`, is passed.
+ */
 uint8_t kazovuni_submit_list_over(
-    uint8_t *bytes, size_t length, const uint8_t (*descriptors)[64], size_t jobs, uint32_t staging,
-    uint8_t (*records)[32], size_t answers);
+    uint8_t *bytes, size_t length, const uint8_t *descriptors, size_t jobs, uint32_t staging, uint8_t *records,
+    size_t answers);
 
 /*
  * As kazovuni_submit_over, with the caller's own pointers as addresses: `base` is the address of the first byte, and
@@ -153,11 +158,11 @@ uint8_t kazovuni_read(kazovuni_engine *engine, uint64_t address, uint8_t *bytes,
 uint8_t kazovuni_submit(kazovuni_engine *engine, const uint8_t descriptor[64], uint8_t record[32]);
 
 /*
- * Carries out the jobs of some descriptors one after another on the image, and writes the completion record of each:
- * KAZOVUNI_NO_ENGINE, or KAZOVUNI_NOT_AS_MANY.
+ * Carries out the jobs of some descriptors one after another on the image, and writes the completion record of each,
+ * both as in kazovuni_submit_list_over: KAZOVUNI_NO_ENGINE, or KAZOVUNI_NOT_AS_MANY.
  */
 uint8_t kazovuni_submit_list(
-    kazovuni_engine *engine, const uint8_t (*descriptors)[64], size_t jobs, uint8_t (*records)[32], size_t answers);
+    kazovuni_engine *engine, const uint8_t *descriptors, size_t jobs, uint8_t *records, size_t answers);
 
 #ifdef __cplusplus
 }

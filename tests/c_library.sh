@@ -1,8 +1,9 @@
 #!/bin/sh
 # Builds and installs the C library into a folder of its own, as both of the kit's compilers make it, holds it against
-# include/kazovuni.h, and runs the worked rows through it: in C under the address, leak and undefined-behaviour
-# sanitizers, with each growth of memory refused in turn, and over the shared library. `check` calls it. Wants a C compiler as $CC
-# or cc, and nm; where c++ and python3 are there, they try the header and the shared library too.
+# include/kazovuni.h and against what docs/C.md says that it takes from outside, and runs the worked rows through it: in
+# C under the address, leak and undefined-behaviour sanitizers, with each growth of memory refused in turn, and over the
+# shared library. `check` calls it. Wants a C compiler as $CC or cc, and nm; where c++ and python3 are there, they try
+# the header and the shared library too.
 cd "$(dirname "$0")/.." || exit 2
 work=$(mktemp -d) || exit 2
 trap 'rm -rf "$work"' EXIT
@@ -19,6 +20,24 @@ complain() {
 # The names that the header declares, and those that the library has.
 grep -o '\bkazovuni_[a-z_]*(' include/kazovuni.h | tr -d '(' | sort -u >"$work/declared"
 
+# The functions that it may take from outside: docs/C.md names them.
+printf '%s\n' free malloc memcpy memmove memset realloc >"$work/allowed"
+
+# A caller whose arrays are not constant, for compilers that are strict: in C99 and later, and in C++.
+cat >"$work/strict.c" <<'END'
+#include "kazovuni.h"
+static uint8_t page[KAZOVUNI_PAGE_BYTES], descriptors[2][KAZOVUNI_DESCRIPTOR_BYTES], records[2][KAZOVUNI_RECORD_BYTES];
+int main(void)
+{
+    kazovuni_engine engine = {NULL, false};
+    uint8_t code = kazovuni_submit_list_over(page, sizeof page, descriptors[0], 2, 0, records[0], 2);
+    if (code != KAZOVUNI_OK || kazovuni_version() != KAZOVUNI_VERSION || kazovuni_check(descriptors[1], 0) != 0)
+        return 1;
+    return kazovuni_submit_list(&engine, descriptors[0], 2, records[0], 2) != KAZOVUNI_NO_ENGINE;
+}
+END
+strict='-pedantic -Wall -Wextra -Werror -Wcast-qual -Wconversion'
+
 # try COMPILER: the library as this compiler of the kit makes it
 try() {
     prefix=$work/$1
@@ -29,9 +48,17 @@ try() {
     }
     nm -g --defined-only "$prefix/lib/libkazovuni.a" | sed -n 's/.* T \(kazovuni_.*\)/\1/p' | sort -u >"$work/names"
     cmp -s "$work/declared" "$work/names" || complain "$1: the header and the library have not the same names"
-    "$cc" -std=c11 -Wall -Wextra -Werror -O1 -g -fsanitize=address,undefined -I"$prefix/include" -o "$work/rows" \
-        tests/c/rows.c "$prefix/lib/libkazovuni.a" && ASAN_OPTIONS=detect_leaks=1 "$work/rows" >"$work/log" ||
-        complain "$1: the rows"
+    nm -g --defined-only "$prefix/lib/libkazovuni.a" | sed -n 's/.* [A-Z] //p' | sort -u >"$work/own"
+    nm -u "$prefix/lib/libkazovuni.a" | sed -n 's/^ *[Uwv] //p' | sort -u | comm -23 - "$work/own" >"$work/taken"
+    outside=$(comm -23 "$work/taken" "$work/allowed")
+    [ -z "$outside" ] || complain "$1: taken from outside, and not named in docs/C.md: $outside"
+    "$cc" -std=c11 -Wall -Wextra -Werror -O1 -g -fsanitize=address,undefined -fno-sanitize-recover=all \
+        -I"$prefix/include" -o "$work/rows" tests/c/rows.c "$prefix/lib/libkazovuni.a" &&
+        ASAN_OPTIONS=detect_leaks=1 "$work/rows" >"$work/log" || complain "$1: the rows"
+    for standard in c99 c11; do
+        "$cc" -std=$standard $strict -I"$prefix/include" -o "$work/strict" "$work/strict.c" \
+            "$prefix/lib/libkazovuni.a" && "$work/strict" || complain "$1: a strict caller in $standard"
+    done
     "$cc" -std=c11 -O1 -I"$prefix/include" -o "$work/linked" tests/c/rows.c -L"$prefix/lib" -lkazovuni &&
         LD_LIBRARY_PATH=$prefix/lib "$work/linked" >"$work/log" || complain "$1: the rows over the shared library"
     "$cc" -std=c11 -Wall -Wextra -Werror -O1 -I"$prefix/include" -o "$work/refused" tests/c/refused.c \
@@ -52,9 +79,10 @@ try() {
 try llvm
 try rattle
 if command -v c++ >/dev/null; then
-    printf '#include "kazovuni.h"\nint main() { return kazovuni_version() != KAZOVUNI_VERSION; }\n' >"$work/try.cpp"
-    c++ -Wall -Wextra -Werror -I"$work/llvm/include" -o "$work/plus" "$work/try.cpp" "$work/llvm/lib/libkazovuni.a" &&
-        "$work/plus" || complain "C++"
+    for standard in c++98 c++11 c++20; do
+        c++ -x c++ -std=$standard $strict -I"$work/llvm/include" -o "$work/plus" "$work/strict.c" -x none \
+            "$work/llvm/lib/libkazovuni.a" && "$work/plus" || complain "a strict caller in $standard"
+    done
 fi
 if command -v python3 >/dev/null; then
     python3 - "$work/llvm/lib/libkazovuni.so" <<'END' || complain "Python"

@@ -19,7 +19,7 @@ static uint8_t over_pages(void)
 
 static uint8_t as_a_list(void)
 {
-    return kazovuni_submit_list_over(bytes, sizeof bytes, (const uint8_t (*)[64])descriptor, 1, 4096, record, 1);
+    return kazovuni_submit_list_over(bytes, sizeof bytes, descriptor[0], 1, 4096, record[0], 1);
 }
 
 static uint8_t by_pointers(void)
@@ -37,18 +37,59 @@ static uint8_t bring(void)
     return kazovuni_bring(&engine, 1, bytes);
 }
 
-/* What needs no memory: a page that is present, a job on the image, and a job over pages that stages nothing. */
+/* What needs no memory: a page that is present, and jobs on the image. */
 static uint8_t again(void)
 {
     uint8_t fill[64] = {[7] = 0x04, [16] = 7, [24] = 64, [32] = 1};
     if (kazovuni_bring(&engine, 1, bytes) != KAZOVUNI_OK || kazovuni_submit(&engine, fill, record[0]) != KAZOVUNI_OK)
         return KAZOVUNI_NO_MEMORY;
-    return kazovuni_submit_over(bytes, sizeof bytes, fill, 4096, record[0]);
+    return kazovuni_submit_list(&engine, descriptor[0], 1, record[0], 1);
+}
+
+/*
+ * Jobs that stage nothing, and the statuses of their records: a fill; creates and applies that are refused, by each of
+ * their rules; and those that have nothing to stage.
+ */
+static const struct {
+    uint8_t descriptor[64], status;
+} unstaged[] = {
+    {{[7] = 0x04, [16] = 7, [24] = 64, [32] = 1}, 0x01},
+    {{[4] = 0x10, [7] = 0x07, [24] = 8, [32] = 8, [40] = 16, [48] = 80}, 0x11},
+    {{[7] = 0x07, [24] = 8, [32] = 12, [40] = 16, [48] = 80}, 0x13},
+    {{[7] = 0x07, [24] = 8, [32] = 8, [40] = 16, [48] = 85}, 0x15},
+    {{[7] = 0x08, [24] = 65, [32] = 8, [40] = 10}, 0x1c},
+    {{[7] = 0x08, [24] = 8, [32] = 8, [40] = 10}, 0x16},
+    {{[7] = 0x08, [16] = 0xf8, 0xff, 0xff, 0xff, 0xff, 0xff, 0xff, 0xff, [24] = 64, [32] = 8, [40] = 10}, 0x7d},
+    {{[7] = 0x07, [25] = 16, [33] = 16, [41] = 64, [48] = 80}, 0x7e},
+    {{[7] = 0x07, [24] = 8, [32] = 0, [40] = 16, [48] = 80}, 0x01},
+    {{[7] = 0x08, [24] = 64, [32] = 8}, 0x01},
+};
+enum { UNSTAGED = sizeof unstaged / sizeof unstaged[0] };
+
+/* Each of them alone and by pointers, and all of them as a list. */
+static uint8_t without_staging(void)
+{
+    uint8_t descriptors[UNSTAGED][64], records[UNSTAGED][32];
+    for (size_t i = 0; i < UNSTAGED; i++) {
+        const uint8_t *job = unstaged[i].descriptor;
+        memcpy(descriptors[i], job, 64);
+        if (kazovuni_submit_over(bytes, sizeof bytes, job, 4096, record[0]) != KAZOVUNI_OK ||
+            record[0][0] != unstaged[i].status ||
+            kazovuni_submit_pointers(0, bytes, sizeof bytes, job, 4096, record[0]) != KAZOVUNI_OK ||
+            record[0][0] != unstaged[i].status)
+            return KAZOVUNI_NO_MEMORY;
+    }
+    uint8_t answer =
+        kazovuni_submit_list_over(bytes, sizeof bytes, descriptors[0], UNSTAGED, 4096, records[0], UNSTAGED);
+    for (size_t i = 0; i < UNSTAGED; i++)
+        if (records[i][0] != unstaged[i].status)
+            return KAZOVUNI_NO_MEMORY;
+    return answer;
 }
 
 int main(int count, char **words)
 {
-    static uint8_t (*const calls[])(void) = {over_pages, as_a_list, by_pointers, create, bring, again};
+    static uint8_t (*const calls[])(void) = {over_pages, as_a_list, by_pointers, create, bring, again, without_staging};
     int wanted = count > 1 ? atoi(words[1]) : 0, refused = 0;
     descriptor[0][7] = 0x07;
     descriptor[0][24] = 8;
@@ -65,7 +106,7 @@ int main(int count, char **words)
         if (answer == KAZOVUNI_NO_MEMORY) {
             refused++;
             if (memcmp(before, bytes, sizeof bytes) != 0 || record[0][0] != 0xcc ||
-                memcmp(&old, &engine, sizeof engine) != 0)
+                old.engine != engine.engine || old.is_open != engine.is_open)
                 return 101;
             answer = calls[i]();
         }

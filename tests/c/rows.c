@@ -28,8 +28,9 @@ static_assert(sizeof(kazovuni_engine) == 16, "a handle as the library has it");
 static_assert(offsetof(kazovuni_engine, engine) == 0, "engine");
 static_assert(offsetof(kazovuni_engine, is_open) == 8, "is_open");
 
-enum { NO_OP = 0x00, MOVE = 0x03, FILL = 0x04, COMPARE = 0x05, CREATE = 0x07, APPLY = 0x08, DUALCAST = 0x09 };
-enum { STAGING = 4096, MOST = 2 * KAZOVUNI_PAGE_BYTES };
+enum { NO_OP = 0x00, MOVE = 0x03, FILL = 0x04, COMPARE = 0x05, COMPARE_PATTERN = 0x06 };
+enum { CREATE = 0x07, APPLY = 0x08, DUALCAST = 0x09 };
+enum { STAGING = 4096 };
 
 /* What a job leaves from a place on. */
 typedef struct bytes_left {
@@ -73,6 +74,28 @@ static const row rows[] = {
     {"create", 2,
      {.opcode = CREATE, .source = 4096, .target = 0, .extra = 16, .size = 8, .delta_size = 10}, 0x01, 1, 8, 0, 10,
      {{16, 10, {0, 0, 1, 2, 3, 4, 5, 0, 0, 0}}}},
+    {"create of a record behind the end", 1,
+     {.opcode = CREATE, .source = 0, .target = 8, .extra = 4096, .size = 8, .delta_size = 10}, 0x83, 0, 0, 4096, 0,
+     {{0}}},
+    {"create of no byte", 1, {.opcode = CREATE, .source = 0, .target = 8, .extra = 4096, .delta_size = 10}, 0x01, 0, 0,
+     0, 0, {{0}}},
+    {"apply of a record behind the end", 1,
+     {.opcode = APPLY, .source = 4096, .target = 64, .size = 8, .delta_size = 10}, 0x03, 0, 0, 4096, 0, {{0}}},
+    {"apply of no entry", 1, {.opcode = APPLY, .source = 4096, .target = 64, .size = 8}, 0x01, 0, 0, 0, 0, {{0}}},
+    {"move from behind the end", 1, {.opcode = MOVE, .source = 4096, .target = 0, .size = 4}, 0x03, 0, 0, 4096, 0,
+     {{0}}},
+    {"fill far behind the end", 1, {.opcode = FILL, .source = PATTERN, .target = 1 << 30, .size = 8}, 0x83, 0, 0,
+     1 << 30, 0, {{0}}},
+    {"pattern that is met", 1, {.opcode = COMPARE_PATTERN, .source = 0, .target = UINT64_C(0x0504030201), .size = 8},
+     0x01, 0, 8, 0, 0, {{0}}},
+    {"pattern past the end", 1, {.opcode = COMPARE_PATTERN, .source = 4092, .target = 0, .size = 8}, 0x03, 0, 4, 4096,
+     0, {{0}}},
+    {"fill up to 2^64", 1, {.opcode = FILL, .source = PATTERN, .target = UINT64_MAX - 7, .size = 8}, 0x83, 0, 0,
+     UINT64_MAX - 7, 0, {{0}}},
+    {"fill past 2^64", 1, {.opcode = FILL, .source = PATTERN, .target = UINT64_MAX - 7, .size = 9}, 0x7d, 0, 0, 0, 0,
+     {{0}}},
+    {"compare past 2^64", 1, {.opcode = COMPARE, .source = 0, .target = UINT64_MAX - 3, .size = 8}, 0x7d, 0, 0, 0, 0,
+     {{0}}},
 };
 
 static int failed;
@@ -95,16 +118,19 @@ static void describe(uint8_t descriptor[64], const kazovuni_job *job, uint64_t b
     int is_create = job->opcode == CREATE;
     int has_extra = is_create || job->opcode == DUALCAST;
     int has_source = job->opcode != FILL && job->opcode != NO_OP;
+    int has_target = job->opcode != COMPARE_PATTERN && job->opcode != NO_OP;
     memset(descriptor, 0, 64);
     put(descriptor + 4, job->flags, 3);
     descriptor[7] = job->opcode;
     put(descriptor + 16, job->source + (has_source ? base : 0), 8);
-    put(descriptor + 24, job->target + (job->opcode != NO_OP ? base : 0), 8);
+    put(descriptor + 24, job->target + (has_target ? base : 0), 8);
     put(descriptor + 32, job->size, 4);
     if (has_extra)
         put(descriptor + 40, job->extra + base, 8);
     if (is_create)
         put(descriptor + 48, job->delta_size, 4);
+    if (job->opcode == APPLY)
+        put(descriptor + 40, job->delta_size, 4);
 }
 
 /* The completion record that a row wants. */
@@ -143,7 +169,7 @@ static uint8_t submit_by_handle(
     if (form == BY_HANDLE)
         answer = kazovuni_submit(&engine, descriptor[0], records[0]);
     else
-        answer = kazovuni_submit_list(&engine, (const uint8_t (*)[64])descriptor, 1, records, 1);
+        answer = kazovuni_submit_list(&engine, descriptor[0], 1, records[0], 1);
     if (kazovuni_read(&engine, 0, bytes, length) != KAZOVUNI_OK)
         exit(2);
     kazovuni_free(&engine);
@@ -170,7 +196,7 @@ static void try_row(const row *row, enum form form)
         answer = kazovuni_submit_over(bytes, length, descriptor[0], STAGING, records[0]);
         break;
     case AS_A_LIST:
-        answer = kazovuni_submit_list_over(bytes, length, (const uint8_t (*)[64])descriptor, 1, STAGING, records, 1);
+        answer = kazovuni_submit_list_over(bytes, length, descriptor[0], 1, STAGING, records[0], 1);
         break;
     case BY_POINTERS:
         answer = kazovuni_submit_pointers(base, bytes, length, descriptor[0], STAGING, records[0]);
@@ -193,15 +219,15 @@ static void try_codes(void)
 {
     static uint8_t bytes[KAZOVUNI_PAGE_BYTES + 1];
     uint8_t descriptors[2][64] = {{0}}, records[2][32], before[2][32];
-    const uint8_t(*list)[64] = (const uint8_t(*)[64])descriptors;
+    const uint8_t *list = descriptors[0];
     memset(records, 0xcc, sizeof records);
     memcpy(before, records, sizeof records);
     if (kazovuni_submit_over(bytes, sizeof bytes, descriptors[0], 0, records[0]) != KAZOVUNI_NOT_PAGES ||
         kazovuni_submit_over(bytes, 0, descriptors[0], 0, records[0]) != KAZOVUNI_NOT_PAGES ||
-        kazovuni_submit_list_over(bytes, sizeof bytes, list, 2, 0, records, 2) != KAZOVUNI_NOT_PAGES ||
+        kazovuni_submit_list_over(bytes, sizeof bytes, list, 2, 0, records[0], 2) != KAZOVUNI_NOT_PAGES ||
         kazovuni_submit_pointers(0, bytes, sizeof bytes, descriptors[0], 0, records[0]) != KAZOVUNI_NOT_PAGES)
         complain("bytes that are no pages", "all forms", "the answer");
-    if (kazovuni_submit_list_over(bytes, KAZOVUNI_PAGE_BYTES, list, 2, 0, records, 1) != KAZOVUNI_NOT_AS_MANY)
+    if (kazovuni_submit_list_over(bytes, KAZOVUNI_PAGE_BYTES, list, 2, 0, records[0], 1) != KAZOVUNI_NOT_AS_MANY)
         complain("a record too few", "as a list", "the answer");
     if (memcmp(records, before, sizeof records) != 0)
         complain("wrong calls", "all forms", "a record was written");
@@ -211,24 +237,30 @@ static void try_codes(void)
         complain("the version", "of the library", "is not the header's");
 }
 
+/* Whether a handle is as before its first call. */
+static bool is_zeroed(const kazovuni_engine *engine)
+{
+    return engine->engine == NULL && !engine->is_open;
+}
+
 /* What the calls on a handle answer, in their order of tests; what is refused leaves all as it was. */
 static void try_handle(void)
 {
-    kazovuni_engine engine = {0}, zero = {0};
+    kazovuni_engine engine = {0}, moved;
     uint8_t page[KAZOVUNI_PAGE_BYTES], descriptor[1][64] = {{0}}, records[2][32], read[8] = {9, 9, 9, 9, 9, 9, 9, 9};
-    const uint8_t(*list)[64] = (const uint8_t(*)[64])descriptor;
+    const uint8_t *list = descriptor[0];
     memset(page, 0x5a, sizeof page);
     memset(records, 0xcc, sizeof records);
     if (kazovuni_bring(&engine, 0, page) != KAZOVUNI_NO_ENGINE ||
         kazovuni_write(&engine, 0, page, 1) != KAZOVUNI_NO_ENGINE ||
         kazovuni_read(&engine, 0, read, 1) != KAZOVUNI_NO_ENGINE ||
         kazovuni_submit(&engine, descriptor[0], records[0]) != KAZOVUNI_NO_ENGINE ||
-        kazovuni_submit_list(&engine, list, 1, records, 2) != KAZOVUNI_NO_ENGINE)
+        kazovuni_submit_list(&engine, list, 1, records[0], 2) != KAZOVUNI_NO_ENGINE)
         complain("a zeroed handle", "by a handle", "the answer");
     if (kazovuni_create(&engine, 0, KAZOVUNI_MOST_STAGING + 1) != KAZOVUNI_BAD_PAGES ||
         kazovuni_create(&engine, KAZOVUNI_MOST_PAGES + 1, 0) != KAZOVUNI_BAD_PAGES ||
         kazovuni_create(&engine, 2, KAZOVUNI_MOST_STAGING + 1) != KAZOVUNI_BAD_SETTINGS ||
-        memcmp(&engine, &zero, sizeof engine) != 0)
+        !is_zeroed(&engine))
         complain("bad pages and settings", "by a handle", "the answer");
     if (kazovuni_create(&engine, 2, 0) != KAZOVUNI_OK || kazovuni_create(&engine, 0, 0) != KAZOVUNI_HAS_ENGINE)
         complain("an engine", "by a handle", "is not made once");
@@ -241,12 +273,15 @@ static void try_handle(void)
         kazovuni_write(&engine, 4090, (const uint8_t *)"\1\2\3\4\5\6", 6) != KAZOVUNI_OK ||
         kazovuni_read(&engine, 4088, read, 8) != KAZOVUNI_OK || memcmp(read, "\x5a\x5a\1\2\3\4\5\6", 8) != 0)
         complain("bytes", "by a handle", "are not those written");
-    if (kazovuni_submit_list(&engine, list, 1, records, 2) != KAZOVUNI_NOT_AS_MANY || records[0][0] != 0xcc)
+    if (kazovuni_submit_list(&engine, list, 1, records[0], 2) != KAZOVUNI_NOT_AS_MANY || records[0][0] != 0xcc)
         complain("a record too many", "as a list by a handle", "the answer");
-    kazovuni_free(&engine);
-    if (memcmp(&engine, &zero, sizeof engine) != 0)
+    moved = engine; /* and the first is not used again */
+    if (kazovuni_read(&moved, 4090, read, 6) != KAZOVUNI_OK || memcmp(read, "\1\2\3\4\5\6", 6) != 0)
+        complain("a handle elsewhere", "by a handle", "has other bytes");
+    kazovuni_free(&moved);
+    if (!is_zeroed(&moved))
         complain("a freed handle", "by a handle", "is not zero");
-    kazovuni_free(&engine);
+    kazovuni_free(&moved);
 }
 
 /* A page fault, the page brought, and the rest of the job. */
@@ -270,25 +305,67 @@ static void try_fault(void)
     kazovuni_free(&engine);
 }
 
-/* An address below the base, and a range that goes on over it. */
-static void try_below(void)
+#define BASE (UINT64_C(1) << 32)
+#define LAST_PAGE (UINT64_MAX - 4095)
+
+/* One page whose first byte has this address, and the addresses of a job and of its fault as the caller has them. */
+static const struct {
+    uint64_t base;
+    row row;
+} pointer_rows[] = {
+    {BASE, {"compare below the base", 1, {.opcode = COMPARE, .source = BASE - 8, .target = BASE - 8, .size = 8},
+            0x03, 0, 0, BASE - 8, 0, {{0}}}},
+    {BASE, {"compare over the base", 1, {.opcode = COMPARE, .source = BASE - 4, .target = BASE - 4, .size = 8},
+            0x7d, 0, 0, 0, 0, {{0}}}},
+    {BASE, {"compare at the base", 1, {.opcode = COMPARE, .source = BASE, .target = BASE + 8, .size = 8},
+            0x01, 1, 0, 0, 0, {{0}}}},
+    {BASE, {"pattern below the base", 1, {.opcode = COMPARE_PATTERN, .source = BASE - 1, .target = 0, .size = 1},
+            0x03, 0, 0, BASE - 1, 0, {{0}}}},
+    {BASE, {"fill below the base", 1, {.opcode = FILL, .source = PATTERN, .target = BASE - 4096, .size = 4096},
+            0x83, 0, 0, BASE - 4096, 0, {{0}}}},
+    {BASE, {"fill over the base", 1, {.opcode = FILL, .source = PATTERN, .target = BASE - 4096, .size = 4097},
+            0x7d, 0, 0, 0, 0, {{0}}}},
+    {BASE, {"fill past the end", 1, {.opcode = FILL, .source = PATTERN, .target = BASE + 4090, .size = 12},
+            0x83, 0, 6, BASE + 4096, 0, {{4090, 6, {1, 2, 3, 4, 5, 6}}}}},
+    {BASE, {"move to below the base", 1, {.opcode = MOVE, .source = BASE, .target = BASE - 8, .size = 8},
+            0x83, 0, 0, BASE - 8, 0, {{0}}}},
+    {BASE, {"dualcast to below the base", 1,
+            {.opcode = DUALCAST, .source = BASE, .target = BASE + 8, .extra = BASE - 4088, .size = 5},
+            0x83, 0, 0, BASE - 4088, 0, {{0}}}},
+    {BASE, {"create of a record below the base", 1,
+            {.opcode = CREATE, .source = BASE, .target = BASE + 8, .extra = BASE - 16, .size = 8, .delta_size = 10},
+            0x83, 0, 0, BASE - 16, 0, {{0}}}},
+    {BASE, {"apply of a record below the base", 1,
+            {.opcode = APPLY, .source = BASE - 16, .target = BASE + 64, .size = 8, .delta_size = 10},
+            0x03, 0, 0, BASE - 16, 0, {{0}}}},
+    {BASE, {"fill at 0", 1, {.opcode = FILL, .source = PATTERN, .target = 0, .size = 8},
+            0x83, 0, 0, 0, 0, {{0}}}},
+    {LAST_PAGE, {"fill up to 2^64", 1, {.opcode = FILL, .source = PATTERN, .target = LAST_PAGE + 4088, .size = 8},
+                 0x01, 0, 8, 0, 0, {{4088, 8, {1, 2, 3, 4, 5, 6, 7, 8}}}}},
+    {LAST_PAGE, {"fill past 2^64", 1, {.opcode = FILL, .source = PATTERN, .target = LAST_PAGE + 4090, .size = 12},
+                 0x83, 0, 6, 0, 0, {{4090, 6, {1, 2, 3, 4, 5, 6}}}}},
+    {LAST_PAGE, {"fill from 8 on", 1, {.opcode = FILL, .source = PATTERN, .target = 8, .size = 8},
+                 0x83, 0, 0, 8, 0, {{0}}}},
+};
+
+/* Addresses below the base, past the end of the pages and past 2^64: taken off, and put back on a fault. */
+static void try_pointers(void)
 {
-    static uint8_t bytes[KAZOVUNI_PAGE_BYTES];
-    kazovuni_job job = {.opcode = COMPARE, .source = 0, .target = 0, .size = 8};
-    uint8_t descriptor[64], record[32], wanted[32];
-    uint64_t base = UINT64_C(1) << 32;
-    describe(descriptor, &job, base - 8);
-    row fault = {.status = 0x03, .fault = base - 8};
-    expect(wanted, &fault, 0);
-    if (kazovuni_submit_pointers(base, bytes, sizeof bytes, descriptor, 0, record) != KAZOVUNI_OK ||
-        memcmp(record, wanted, 32) != 0)
-        complain("an address below the base", "by pointers", "the record");
-    describe(descriptor, &job, base - 4);
-    row refused = {.status = 0x7d};
-    expect(wanted, &refused, 0);
-    if (kazovuni_submit_pointers(base, bytes, sizeof bytes, descriptor, 0, record) != KAZOVUNI_OK ||
-        memcmp(record, wanted, 32) != 0)
-        complain("a range over the base", "by pointers", "the record");
+    for (size_t i = 0; i < sizeof pointer_rows / sizeof pointer_rows[0]; i++) {
+        const row *row = &pointer_rows[i].row;
+        uint8_t bytes[KAZOVUNI_PAGE_BYTES] = {1, 2, 3, 4, 5}, after[KAZOVUNI_PAGE_BYTES] = {1, 2, 3, 4, 5};
+        uint8_t descriptor[64], record[32], wanted[32];
+        memcpy(after + row->left[0].place, row->left[0].bytes, row->left[0].count);
+        describe(descriptor, &row->job, 0);
+        expect(wanted, row, 0);
+        if (kazovuni_submit_pointers(pointer_rows[i].base, bytes, sizeof bytes, descriptor, STAGING, record) !=
+            KAZOVUNI_OK)
+            complain(row->name, "by pointers, with a base", "the answer");
+        if (memcmp(record, wanted, 32) != 0)
+            complain(row->name, "by pointers, with a base", "the record");
+        if (memcmp(bytes, after, sizeof bytes) != 0)
+            complain(row->name, "by pointers, with a base", "the bytes");
+    }
 }
 
 /* What looks at a descriptor alone. */
@@ -325,8 +402,7 @@ static void try_list(void)
             complain("a list of two", "encoded", "the answer");
     expect(wanted[0], &filled, 0);
     expect(wanted[1], &differs, 0);
-    if (kazovuni_submit_list_over(bytes, sizeof bytes, (const uint8_t (*)[64])descriptors, 2, 0, records, 2) !=
-            KAZOVUNI_OK ||
+    if (kazovuni_submit_list_over(bytes, sizeof bytes, descriptors[0], 2, 0, records[0], 2) != KAZOVUNI_OK ||
         memcmp(records, wanted, sizeof wanted) != 0)
         complain("a list of two", "as a list", "the records");
 }
@@ -384,7 +460,7 @@ int main(void)
     try_codes();
     try_handle();
     try_fault();
-    try_below();
+    try_pointers();
     try_looks();
     try_list();
     try_fields();

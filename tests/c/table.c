@@ -228,23 +228,22 @@ static void lay_at(uint64_t base, uint8_t descriptor[64], uint8_t record[32])
 
 static uint8_t submit(memory *memory, jobs *jobs)
 {
-    const uint8_t(*descriptors)[64] = (const uint8_t(*)[64])jobs->descriptors;
+    const uint8_t *descriptors = jobs->descriptors[0];
+    uint8_t *records = jobs->records[0];
     uint64_t base = (uintptr_t)memory->lent;
     switch (memory->form) {
     case OWN:
-        return kazovuni_submit(&memory->engine, descriptors[0], jobs->records[0]);
+        return kazovuni_submit(&memory->engine, descriptors, records);
     case OWN_LIST:
-        return kazovuni_submit_list(&memory->engine, descriptors, jobs->count, jobs->records, jobs->count);
+        return kazovuni_submit_list(&memory->engine, descriptors, jobs->count, records, jobs->count);
     case LENT:
-        return kazovuni_submit_over(
-            memory->lent, memory->length, descriptors[0], memory->staging, jobs->records[0]);
+        return kazovuni_submit_over(memory->lent, memory->length, descriptors, memory->staging, records);
     case LENT_LIST:
         return kazovuni_submit_list_over(
-            memory->lent, memory->length, descriptors, jobs->count, memory->staging, jobs->records, jobs->count);
+            memory->lent, memory->length, descriptors, jobs->count, memory->staging, records, jobs->count);
     default:
         lay_at(base, jobs->descriptors[0], jobs->wanted[0]);
-        return kazovuni_submit_pointers(
-            base, memory->lent, memory->length, descriptors[0], memory->staging, jobs->records[0]);
+        return kazovuni_submit_pointers(base, memory->lent, memory->length, descriptors, memory->staging, records);
     }
 }
 

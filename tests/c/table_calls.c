@@ -55,15 +55,15 @@ static void try_no_engine(kazovuni_engine *engine)
 {
     static uint8_t page[PAGE], descriptors[1][64], records[1][32];
     uint8_t byte = 7;
-    const uint8_t(*list)[64] = (const uint8_t(*)[64])descriptors;
+    const uint8_t *list = descriptors[0];
     memset(records, 0xcc, sizeof records);
     EXPECT(kazovuni_bring(engine, 0, page) == KAZOVUNI_NO_ENGINE);
     EXPECT(kazovuni_write(engine, 0, &byte, 1) == KAZOVUNI_NO_ENGINE);
     EXPECT(kazovuni_write(engine, 0, NULL, 0) == KAZOVUNI_NO_ENGINE);
     EXPECT(kazovuni_read(engine, 0, &byte, 1) == KAZOVUNI_NO_ENGINE && byte == 7);
-    EXPECT(kazovuni_submit(engine, list[0], records[0]) == KAZOVUNI_NO_ENGINE);
-    EXPECT(kazovuni_submit_list(engine, list, 1, records, 1) == KAZOVUNI_NO_ENGINE);
-    EXPECT(kazovuni_submit_list(engine, list, 1, records, 0) == KAZOVUNI_NO_ENGINE);
+    EXPECT(kazovuni_submit(engine, list, records[0]) == KAZOVUNI_NO_ENGINE);
+    EXPECT(kazovuni_submit_list(engine, list, 1, records[0], 1) == KAZOVUNI_NO_ENGINE);
+    EXPECT(kazovuni_submit_list(engine, list, 1, records[0], 0) == KAZOVUNI_NO_ENGINE);
     EXPECT(kazovuni_submit_list(engine, NULL, 0, NULL, 0) == KAZOVUNI_NO_ENGINE);
     EXPECT(records[0][0] == 0xcc && is_zeroed(engine));
 }
@@ -120,13 +120,13 @@ static void try_pages(void)
 static void try_lists(void)
 {
     static uint8_t page[PAGE], descriptors[LONG_LIST][64], records[LONG_LIST][32], wanted[32] = {1};
-    const uint8_t(*list)[64] = (const uint8_t(*)[64])descriptors;
+    const uint8_t *list = descriptors[0];
     kazovuni_engine engine = {0};
     EXPECT(kazovuni_create(&engine, 1, 0) == KAZOVUNI_OK);
     for (int over = 0; over < 2; over++) {
         memset(records, 0xcc, sizeof records);
-        EXPECT((over ? kazovuni_submit_list_over(page, PAGE, list, LONG_LIST, 0, records, LONG_LIST)
-                     : kazovuni_submit_list(&engine, list, LONG_LIST, records, LONG_LIST)) == KAZOVUNI_OK);
+        EXPECT((over ? kazovuni_submit_list_over(page, PAGE, list, LONG_LIST, 0, records[0], LONG_LIST)
+                     : kazovuni_submit_list(&engine, list, LONG_LIST, records[0], LONG_LIST)) == KAZOVUNI_OK);
         for (int i = 0; i < LONG_LIST; i++)
             EXPECT(memcmp(records[i], wanted, 32) == 0);
     }
@@ -135,11 +135,11 @@ static void try_lists(void)
     put(descriptors[0] + 16, 7, 8);
     put(descriptors[0] + 32, 1, 4);
     memset(records, 0xcc, sizeof records);
-    EXPECT(kazovuni_submit_list(&engine, list, 2, records, 1) == KAZOVUNI_NOT_AS_MANY);
-    EXPECT(kazovuni_submit_list(&engine, list, 2, records, 3) == KAZOVUNI_NOT_AS_MANY);
+    EXPECT(kazovuni_submit_list(&engine, list, 2, records[0], 1) == KAZOVUNI_NOT_AS_MANY);
+    EXPECT(kazovuni_submit_list(&engine, list, 2, records[0], 3) == KAZOVUNI_NOT_AS_MANY);
     EXPECT(kazovuni_submit_list(&engine, NULL, 0, NULL, 0) == KAZOVUNI_OK);
     EXPECT(records[0][0] == 0xcc && kazovuni_read(&engine, 0, wanted, 1) == KAZOVUNI_OK && wanted[0] == 0);
-    EXPECT(kazovuni_submit_list(&engine, list, 1, records, 1) == KAZOVUNI_OK);
+    EXPECT(kazovuni_submit_list(&engine, list, 1, records[0], 1) == KAZOVUNI_OK);
     EXPECT(records[0][0] == 1 && kazovuni_read(&engine, 0, wanted, 1) == KAZOVUNI_OK && wanted[0] == 7);
     kazovuni_free(&engine);
 }

@@ -18,6 +18,7 @@ enum { PAGE = KAZOVUNI_PAGE_BYTES, STAGING = 40 };
 static size_t growths, refused; /* so many were asked for; the number of the one that is refused */
 static long blocks;             /* that are held */
 static bool is_met;             /* the last call met the refusal */
+static size_t largest;          /* of the blocks that were asked for */
 
 void *__real_malloc(size_t size);
 void *__real_realloc(void *block, size_t size);
@@ -36,6 +37,7 @@ static bool refuses(void)
 void *__wrap_malloc(size_t size)
 {
     void *block = refuses() ? NULL : __real_malloc(size);
+    largest = size > largest ? size : largest;
     blocks += block != NULL;
     return block;
 }
@@ -103,7 +105,7 @@ static void walk_engine(const uint8_t page[PAGE])
     expect_done("submit", kazovuni_submit(&engine, create[0], records[0]));
     expect("the record", memcmp(records[0], created, 32) == 0);
     expect_done("write", kazovuni_write(&engine, 128, page, 20));
-    expect_done("submit_list", kazovuni_submit_list(&engine, create, 1, records, 1));
+    expect_done("submit_list", kazovuni_submit_list(&engine, create[0], 1, records[0], 1));
     expect("the record of a list", memcmp(records[0], created, 32) == 0);
     expect_done("read", kazovuni_read(&engine, 0, bytes, PAGE));
     expect("the bytes before the delta record", memcmp(bytes, page, 128) == 0);
@@ -120,7 +122,7 @@ static uint8_t submit(enum call call, uint8_t bytes[PAGE], uint8_t records[1][32
     case OVER:
         return kazovuni_submit_over(bytes, PAGE, create[0], STAGING, records[0]);
     case LIST_OVER:
-        return kazovuni_submit_list_over(bytes, PAGE, create, 1, STAGING, records, 1);
+        return kazovuni_submit_list_over(bytes, PAGE, create[0], 1, STAGING, records[0], 1);
     default:
         memcpy(by_pointers, create[0], 64);
         by_pointers[17] = by_pointers[25] = by_pointers[41] = 0x10; /* behind the base */
@@ -144,6 +146,31 @@ static void walk_lent(enum call call, const uint8_t page[PAGE])
     expect("the blocks of a call", blocks == 0);
 }
 
+/* A list takes the greatest need of its jobs that stage bytes, whatever the limit is, and whatever the others need. */
+static void walk_list(void)
+{
+    static uint8_t bytes[PAGE], descriptors[5][64], records[5][32];
+    static const uint8_t statuses[5] = {0x01, 0x01, 0x13, 0x01, 0x01};
+    memcpy(descriptors[0], create[0], 64); /* needs 40 */
+    memcpy(descriptors[1], create[0], 64);
+    descriptors[1][32] = 8; /* needs 10 */
+    memcpy(descriptors[2], create[0], 64);
+    descriptors[2][33] = 1;
+    descriptors[2][32] = 7; /* would need 320, and is refused */
+    descriptors[3][7] = 0x03;
+    descriptors[3][25] = 4;
+    descriptors[3][33] = 1; /* a move of 256 bytes, which goes straight */
+    do {
+        is_met = false;
+        largest = 0;
+        memset(records, 0xcc, sizeof records);
+    } while (!is_done(
+        LIST_OVER, kazovuni_submit_list_over(bytes, PAGE, descriptors[0], 5, 1 << 20, records[0], 5)));
+    expect("the staging of a list", largest == 40 && blocks == 0);
+    for (size_t i = 0; i < 5; i++)
+        expect("the status of a job of a list", records[i][0] == statuses[i]);
+}
+
 int main(void)
 {
     static uint8_t page[PAGE];
@@ -156,6 +183,7 @@ int main(void)
         walk_engine(page);
         for (enum call call = OVER; call <= POINTERS; call++)
             walk_lent(call, page);
+        walk_list();
     } while (growths >= refused);
     printf("table_refused:");
     for (enum call call = CREATE; call < CALLS; call++) {

@@ -5,3 +5,4 @@ pub mod FetchLemmas
 pub mod ServedLemmas
 pub mod OpenLemmas
 pub mod LookLemmas
+pub mod SeatLemmas

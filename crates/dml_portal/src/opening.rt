@@ -1,5 +1,7 @@
 //! The opening of a portal.
 ghost use Rattle.std.specs.Prelude.{◌≡◌, ◌↔◌, ◌⊎◌, ◌<◌, ◌≤◌, [], IfErr, IfOk, OnOk};
+ghost use Rattle.std.specs.List.{All};
+ghost use Rattle.dml_portal.specs.Lanes.{IsSeatOf};
 ghost use Rattle.dml_portal.specs.Opened.{AreNew};
 
 use crate::errors::PortalError;
@@ -63,6 +65,7 @@ impl Portal {
         ensures engine { IfOk result (λ opened. opened.0.engine ≡ engine.entry) }
         ensures log { IfOk result (λ opened. opened.0.log.items ≡ []) }
         ensures seats { IfOk result (λ opened. AreNew capacity clients opened.0.lanes.items opened.1.items) }
+        ensures own_seats { IfOk result (λ opened. All (IsSeatOf opened.0.lanes.items) opened.1.items) }
         ensures limits { OnOk result ((1 ≤ clients) × (clients ≤ 8) × (1 ≤ capacity) × (capacity ≤ 1024)) }
         ensures handed_back { IfErr result (λ refused. refused.0 ≡ engine.entry) }
         ensures bad_clients { IfErr result (λ refused. (refused.1 ≡ PortalError.BadClients) ↔ ((clients < 1) ⊎ (8 < clients))) }

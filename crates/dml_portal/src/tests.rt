@@ -1,11 +1,14 @@
 //! The worked rows of portals, and their refusals.
 
+mod clients;
+mod gates;
 mod growths;
+mod portals;
 
-use crate::{Full, Portal, PortalError, Seat, Server};
+use portals::One;
+use crate::{Full, Portal, PortalError};
 use dml_engine::Engine;
 use dml_image::Image;
-use dml_pool::Free;
 use dml_types::{Job, Record, Settings, Status};
 use std::alloc::Global;
 use std::test::Fail;
@@ -22,12 +25,6 @@ fn engine(alloc: Global) -> Option<Engine> {
     Engine::new(alloc, image, settings).ok()
 }
 
-/// A portal of one client.
-fn portal_of_one(alloc: Global, capacity: u32) -> Option<(Server<Free>, Seat)> {
-    let (server, mut seats) = Portal::open(alloc, engine(alloc)?, 1, capacity).ok()?;
-    Some((server, seats.pop()?))
-}
-
 /// A success that did so many bytes.
 fn done(completed: u32) -> Record {
     Record {
@@ -39,14 +36,15 @@ fn done(completed: u32) -> Record {
 /// A ring that has room for two jobs hands the third back, and takes it once a round is served.
 #[test]
 fn full_ring(rt: HostRuntime) -> Result<(), Fail> {
-    let (mut server, mut seat) = portal_of_one(rt.alloc(), 2).ok_or("no memory")?;
+    let mut portal = One::open(rt.alloc(), 2).ok_or("no memory")?;
     let job = Job::no_op();
-    assert_eq!(rt; seat.try_submit(job), Ok(()));
-    assert_eq!(rt; seat.try_submit(job), Ok(()));
-    assert_eq!(rt; seat.try_submit(job), Err(Full { job }));
-    assert_eq!(rt; server.serve_round(&rt, rt.alloc()), Ok(2));
-    assert_eq!(rt; seat.try_submit(job), Ok(()));
-    assert_eq!(rt; server.serve_round(&rt, rt.alloc()), Ok(1));
+    assert_eq!(rt; portal.submit(job), Ok(()));
+    assert_eq!(rt; portal.submit(job), Ok(()));
+    assert_eq!(rt; portal.submit(job), Err(Full { job }));
+    assert_eq!(rt; portal.serve(&rt, rt.alloc()), Ok(2));
+    assert_eq!(rt; portal.submit(job), Ok(()));
+    let settled = portal.settle(&rt, rt.alloc()).ok_or("not settled")?;
+    assert_eq!(rt; settled.log.as_slice().len(), 3);
     Ok(())
 }
 
@@ -75,40 +73,44 @@ fn arguments_refused(rt: HostRuntime) -> Result<(), Fail> {
 /// A round fetches at most 128 jobs of a client.
 #[test]
 fn round_of_128(rt: HostRuntime) -> Result<(), Fail> {
-    let (mut server, mut seat) = portal_of_one(rt.alloc(), 200).ok_or("no memory")?;
+    let mut portal = One::open(rt.alloc(), 200).ok_or("no memory")?;
     for _ in 0..130 {
-        assert_eq!(rt; seat.try_submit(Job::no_op()), Ok(()));
+        assert_eq!(rt; portal.submit(Job::no_op()), Ok(()));
     }
-    assert_eq!(rt; server.serve_round(&rt, rt.alloc()), Ok(128));
-    assert_eq!(rt; server.serve_round(&rt, rt.alloc()), Ok(2));
+    assert_eq!(rt; portal.serve(&rt, rt.alloc()), Ok(128));
+    assert_eq!(rt; portal.serve(&rt, rt.alloc()), Ok(2));
+    let settled = portal.settle(&rt, rt.alloc()).ok_or("not settled")?;
+    assert_eq!(rt; settled.log.as_slice().len(), 130);
     Ok(())
 }
 
 /// Records are polled in the order of the jobs.
 #[test]
 fn polled_in_order(rt: HostRuntime) -> Result<(), Fail> {
-    let (mut server, mut seat) = portal_of_one(rt.alloc(), 4).ok_or("no memory")?;
-    assert_eq!(rt; seat.try_submit(Job::fill(1, 0, 8)), Ok(()));
-    assert_eq!(rt; seat.try_submit(Job::no_op()), Ok(()));
-    assert_eq!(rt; seat.poll(), None);
-    assert_eq!(rt; server.serve_round(&rt, rt.alloc()), Ok(2));
-    assert_eq!(rt; seat.poll(), Some(done(8)));
-    assert_eq!(rt; seat.poll(), Some(done(0)));
-    assert_eq!(rt; seat.poll(), None);
+    let mut portal = One::open(rt.alloc(), 4).ok_or("no memory")?;
+    assert_eq!(rt; portal.submit(Job::fill(1, 0, 8)), Ok(()));
+    assert_eq!(rt; portal.submit(Job::no_op()), Ok(()));
+    assert_eq!(rt; portal.poll(), None);
+    assert_eq!(rt; portal.serve(&rt, rt.alloc()), Ok(2));
+    assert_eq!(rt; portal.poll(), Some(done(8)));
+    assert_eq!(rt; portal.poll(), Some(done(0)));
+    assert_eq!(rt; portal.poll(), None);
+    let settled = portal.settle(&rt, rt.alloc()).ok_or("not settled")?;
+    assert_eq!(rt; settled.log.as_slice().len(), 2);
     Ok(())
 }
 
 /// A record for which there is no room waits in the log.
 #[test]
 fn poll_with_one_slot(rt: HostRuntime) -> Result<(), Fail> {
-    let (mut server, mut seat) = portal_of_one(rt.alloc(), 1).ok_or("no memory")?;
-    assert_eq!(rt; seat.try_submit(Job::fill(1, 0, 8)), Ok(()));
-    assert_eq!(rt; server.serve_round(&rt, rt.alloc()), Ok(1));
-    assert_eq!(rt; seat.try_submit(Job::no_op()), Ok(()));
-    assert_eq!(rt; server.serve_round(&rt, rt.alloc()), Ok(1));
-    assert_eq!(rt; seat.poll(), Some(done(8)));
-    assert_eq!(rt; seat.poll(), None);
-    assert_eq!(rt; server.serve_round(&rt, rt.alloc()), Ok(0));
-    assert_eq!(rt; seat.poll(), Some(done(0)));
+    let mut portal = One::open(rt.alloc(), 1).ok_or("no memory")?;
+    assert_eq!(rt; portal.submit(Job::fill(1, 0, 8)), Ok(()));
+    assert_eq!(rt; portal.serve(&rt, rt.alloc()), Ok(1));
+    assert_eq!(rt; portal.submit(Job::no_op()), Ok(()));
+    assert_eq!(rt; portal.serve(&rt, rt.alloc()), Ok(1));
+    assert_eq!(rt; portal.poll(), Some(done(8)));
+    assert_eq!(rt; portal.poll(), None);
+    assert_eq!(rt; portal.serve(&rt, rt.alloc()), Ok(0));
+    assert_eq!(rt; portal.poll(), Some(done(0)));
     Ok(())
 }

@@ -1,7 +1,10 @@
 //! Calls whose growths of memory are refused.
+ghost use Rattle.std.specs.Prelude.{IfSome};
+ghost use Rattle.dml_portal.specs.Settled.{AreSeatsOf};
 
+use super::portals::Two;
 use super::{done, engine};
-use crate::{Portal, PortalError, Seat, Server};
+use crate::{Done, Portal, PortalError, Seat, Server, SettleFault};
 use dml_engine::Engine;
 use dml_pool::Free;
 use dml_types::{Job, Record};
@@ -53,26 +56,20 @@ fn refused_open(rt: HostRuntime) -> Result<(), Fail> {
     Ok(())
 }
 
-/// A portal of two clients whose lists all go to workers, in whose log an entry stands, and the seats: the first has
-/// submitted two jobs, the second one.
-fn submitted(
-    rt: &(impl Threads + Wait + Sync),
-    alloc: Global,
-) -> Option<(Server<Free>, Seat, Seat)> {
-    let engine = engine(alloc)?.with_gate(Free);
-    let (mut server, mut seats) = Portal::open(alloc, engine, 2, 4).ok()?;
-    let mut second = seats.pop()?;
-    let mut first = seats.pop()?;
-    second.try_submit(Job::no_op()).ok()?;
-    server.serve_round(rt, alloc).ok()?;
-    first
-        .try_submit(Job::fill(0x0101_0101_0101_0101, 0, 16))
+/// A portal of two clients whose lists all go to workers, in whose log an entry stands: the first has submitted two more
+/// jobs, the second one.
+fn submitted(rt: &(impl Threads + Wait + Sync), alloc: Global) -> Option<Two> {
+    let mut portal = Two::open(alloc, engine(alloc)?.with_gate(Free), 4)?;
+    portal.submit_second(Job::no_op()).ok()?;
+    portal.serve(rt, alloc).ok()?;
+    portal
+        .submit_first(Job::fill(0x0101_0101_0101_0101, 0, 16))
         .ok()?;
-    first.try_submit(Job::no_op()).ok()?;
-    second
-        .try_submit(Job::fill(0x0202_0202_0202_0202, 64, 8))
+    portal.submit_first(Job::no_op()).ok()?;
+    portal
+        .submit_second(Job::fill(0x0202_0202_0202_0202, 64, 8))
         .ok()?;
-    Some((server, first, second))
+    Some(portal)
 }
 
 /// The seat polls these records, and no more.
@@ -86,7 +83,11 @@ fn expect_polled(rt: &impl Abort, seat: &mut Seat, records: &[Record]) {
 /// What `refused_serve_round` does before its call.
 #[test]
 fn set_up_of_serve_round(rt: HostRuntime) -> Result<(), Fail> {
-    let (server, mut first, mut second) = submitted(&rt, rt.alloc()).ok_or("no memory")?;
+    let Two {
+        server,
+        mut first,
+        mut second,
+    } = submitted(&rt, rt.alloc()).ok_or("no memory")?;
     assert_eq!(rt; server.log.len(), 1);
     expect_polled(&rt, &mut first, &[]);
     expect_polled(&rt, &mut second, &[done(0)]);
@@ -96,7 +97,11 @@ fn set_up_of_serve_round(rt: HostRuntime) -> Result<(), Fail> {
 /// Each client's jobs are carried out, or nothing was fetched, and the next round does it.
 #[test]
 fn refused_serve_round(rt: HostRuntime) -> Result<(), Fail> {
-    let (mut server, mut first, mut second) = submitted(&rt, rt.alloc()).ok_or("no memory")?;
+    let Two {
+        mut server,
+        mut first,
+        mut second,
+    } = submitted(&rt, rt.alloc()).ok_or("no memory")?;
     expect_polled(&rt, &mut second, &[done(0)]);
     if let Err(error) = server.serve_round(&rt, rt.alloc()) {
         assert_eq!(rt; error, PortalError::NoMemory);
@@ -114,6 +119,51 @@ fn refused_serve_round(rt: HostRuntime) -> Result<(), Fail> {
     expect_polled(&rt, &mut second, &[done(8)]);
     for (addr, byte) in [(0, 1), (15, 1), (16, 0), (64, 2), (71, 2), (72, 0)] {
         assert_eq!(rt; server.engine.image().byte(addr), Some(byte), "{addr}");
+    }
+    Ok(())
+}
+
+/// The same portal with all its clients finished.
+fn finished(rt: &(impl Threads + Wait + Sync), alloc: Global) -> Option<(Server<Free>, Vec<Done>)>
+    ensures { IfSome result (λ portal. AreSeatsOf portal.0.lanes.items portal.1.items) }
+{
+    let Two {
+        server,
+        first,
+        second,
+    } = submitted(rt, alloc)?;
+    let dones = vec![in alloc; first.finish(), second.finish()].ok()?;
+    Some((server, dones))
+}
+
+/// What `refused_settle` does before its call.
+#[test]
+fn set_up_of_settle(rt: HostRuntime) -> Result<(), Fail> {
+    let (server, dones) = finished(&rt, rt.alloc()).ok_or("no memory")?;
+    assert_eq!(rt; (server.log.len(), dones.len()), (1, 2));
+    Ok(())
+}
+
+/// The whole log, or the portal as it was, which gives the whole log when it is settled again.
+#[test]
+fn refused_settle(rt: HostRuntime) -> Result<(), Fail> {
+    let (server, dones) = finished(&rt, rt.alloc()).ok_or("no memory")?;
+    let settled = match server.settle(&rt, rt.alloc(), dones) {
+        Ok(settled) => settled,
+        Err((server, dones, fault)) => {
+            assert_eq!(rt; fault, SettleFault::NoMemory);
+            assert_eq!(rt; (server.log.len(), dones.len()), (1, 2));
+            let settled = server.settle(&rt, rt.alloc(), dones);
+            settled.map_err(|(_, _, fault)| fault)?
+        }
+    };
+    let log = settled.log.as_slice();
+    assert_eq!(rt; log.len(), 4);
+    for (entry, (client, completed)) in log.iter().zip([(1, 0), (0, 16), (0, 0), (1, 8)]) {
+        assert_eq!(rt; (entry.client, entry.answer), (client, done(completed)));
+    }
+    for (addr, byte) in [(0, 1), (15, 1), (16, 0), (64, 2), (71, 2), (72, 0)] {
+        assert_eq!(rt; settled.image.byte(addr), Some(byte), "{addr}");
     }
     Ok(())
 }

@@ -1,0 +1,138 @@
+//! Portals with their seats, which they are settled with.
+ghost use Rattle.dml_portal.specs.Lanes.{IsSeatOf};
+
+use super::engine;
+use crate::{Full, Portal, PortalError, Seat, Server, SettleFault, Settled};
+use dml_engine::Engine;
+use dml_pool::Free;
+use dml_types::{Job, Record};
+use std::alloc::Global;
+use std::sync::Wait;
+use std::thread::Threads;
+
+/// A portal of one client.
+#[derive(Drop)]
+pub(super) struct One {
+    pub(super) server: Server<Free>,
+    pub(super) seat: Seat,
+    ghost own_seat: { IsSeatOf server.lanes.items seat },
+}
+
+/// A portal of two clients.
+#[derive(Drop)]
+pub(super) struct Two {
+    pub(super) server: Server<Free>,
+    pub(super) first: Seat,
+    pub(super) second: Seat,
+    ghost own_first: { IsSeatOf server.lanes.items first },
+    ghost own_second: { IsSeatOf server.lanes.items second },
+}
+
+impl One {
+    /// A portal over a page of zeros.
+    pub(super) fn open(alloc: Global, capacity: u32) -> Option<One> {
+        let Ok((server, mut seats)) = Portal::open(alloc, engine(alloc)?, 1, capacity) else {
+            return None;
+        };
+        let seat = seats.pop()?;
+        Some(One { server, seat })
+    }
+
+    pub(super) fn submit(&mut self, job: Job) -> Result<(), Full> {
+        self.seat.try_submit(job)
+    }
+
+    pub(super) fn poll(&mut self) -> Option<Record> {
+        self.seat.poll()
+    }
+
+    pub(super) fn serve<R: Threads + Wait + Sync>(
+        &mut self,
+        rt: &R,
+        alloc: Global,
+    ) -> Result<usize, PortalError> {
+        self.server.serve_round(rt, alloc)
+    }
+
+    /// The client finishes, and the portal is settled.
+    pub(super) fn settle<R: Threads + Wait + Sync>(
+        self,
+        rt: &R,
+        alloc: Global,
+    ) -> Option<Settled> {
+        let One { server, seat } = self;
+        let dones = vec![in alloc; seat.finish()].ok()?;
+        server.settle(rt, alloc, dones).ok()
+    }
+}
+
+impl Two {
+    pub(super) fn open(alloc: Global, engine: Engine, capacity: u32) -> Option<Two> {
+        let Ok((server, mut seats)) = Portal::open(alloc, engine, 2, capacity) else {
+            return None;
+        };
+        let second = seats.pop()?;
+        let first = seats.pop()?;
+        Some(Two {
+            server,
+            first,
+            second,
+        })
+    }
+
+    pub(super) fn submit_first(&mut self, job: Job) -> Result<(), Full> {
+        self.first.try_submit(job)
+    }
+
+    pub(super) fn submit_second(&mut self, job: Job) -> Result<(), Full> {
+        self.second.try_submit(job)
+    }
+
+    pub(super) fn serve<R: Threads + Wait + Sync>(
+        &mut self,
+        rt: &R,
+        alloc: Global,
+    ) -> Result<usize, PortalError> {
+        self.server.serve_round(rt, alloc)
+    }
+
+    /// Both clients finish, and the portal is settled.
+    pub(super) fn settle<R: Threads + Wait + Sync>(
+        self,
+        rt: &R,
+        alloc: Global,
+    ) -> Option<Settled> {
+        let Two {
+            server,
+            first,
+            second,
+        } = self;
+        let dones = vec![in alloc; first.finish(), second.finish()].ok()?;
+        server.settle(rt, alloc, dones).ok()
+    }
+
+    /// The portal is settled with the first client alone, which is refused with all handed back, and then with both.
+    pub(super) fn settle_late<R: Threads + Wait + Sync>(
+        self,
+        rt: &R,
+        alloc: Global,
+    ) -> Option<Settled> {
+        let Two {
+            server,
+            first,
+            second,
+        } = self;
+        let dones = vec![in alloc; first.finish()].ok()?;
+        let Err((server, mut dones, SettleFault::Strangers)) = server.settle(rt, alloc, dones)
+        else {
+            return None;
+        };
+        if dones.len() != 1 {
+            return None;
+        }
+        let Ok(()) = dones.push(second.finish()) else {
+            return None;
+        };
+        server.settle(rt, alloc, dones).ok()
+    }
+}

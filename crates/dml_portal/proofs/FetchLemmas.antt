@@ -29,7 +29,7 @@ order_append clients i low [] more le lower order next = order_lower clients i l
 order_append clients i low (sent ∷ list) more le lower order next =
     (order.0, omega (arith, le, order.1), order_append clients i sent.client list more le (omega (arith, order.1)) order.2 next)
 
-part_none : (clients low i : ℕ) (list : List Sent) → clients ≤ i → AreInOrder clients low list → sent_part i list ≡ []
+pub part_none : (clients low i : ℕ) (list : List Sent) → clients ≤ i → AreInOrder clients low list → sent_part i list ≡ []
 part_none clients low i [] le order = refl
 part_none clients low i (sent ∷ list) le order =
     let below : sent.client < clients = order.1 in

@@ -2,7 +2,9 @@ pub mod Lists
 pub mod LogLemmas
 pub mod LaneLemmas
 pub mod FetchLemmas
+pub mod TakenLemmas
 pub mod ServedLemmas
 pub mod OpenLemmas
 pub mod LookLemmas
 pub mod SeatLemmas
+pub mod LeftLemmas

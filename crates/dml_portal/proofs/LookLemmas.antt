@@ -1,14 +1,14 @@
 -- Looks at both ends of rings, and what they show of the log.
 use Rattle.std.proofs.Common.{◌≡◌, ℕ, ◌+◌, ◌<◌, ◌≤◌, List, [], ◌∷◌, ◌++◌, length, get_or, set, take, drop, refl, sym, ◌∙◌, ap, subst, arith, rules, append_assoc, ⊎_elim}
 use Rattle.std.proofs.lemmas.Bool.{cases_eq}
-use Rattle.std.proofs.lemmas.List.{append-nil, get_or-set_same, get_or-set_other, get_or_default, length-set, map-append, take-append-drop}
+use Rattle.std.proofs.lemmas.List.{append-nil, get_or-set_same, get_or-set_other, get_or_default, length-append, length-set, map-append, take-append-drop}
 use mathlib.Core.List.{IsPrefix}
 use Rattle.rtrb.specs.Ring.{received, sent}
 use Rattle.dml_portal.specs.Types.{LogEntry}
 use Rattle.dml_portal.specs.Log.{answers_in, jobs_in, part_of}
 use Rattle.dml_portal.specs.Seats.{IsSameSeat, polled, submitted}
-use Rattle.dml_portal.specs.Lanes.{ArePopped, ArePushed, AreSameLanes, IsAcross, IsSameLane, IsSeatOf}
-use Rattle.dml_portal.specs.Settled.{AreSeatsOf, AreUnusedLanes, AreUnusedSeats, EachDone, IsDrained, IsSettled, IsUnusedLane, IsUnusedSeat}
+use Rattle.dml_portal.specs.Lanes.{ArePopped, ArePushed, AreSameLanes, IsAcross, IsSameLane, IsSeatOf, waiting}
+use Rattle.dml_portal.specs.Settled.{AreSeatsOf, AreUnusedLanes, AreUnusedSeats, EachDone, HasJobsLeft, IsDrained, IsLeft, IsSettled, IsUnusedLane, IsUnusedSeat}
 use Rattle.dml_portal.specs.declared.lanes.Lane.{Lane}
 use Rattle.dml_portal.specs.declared.seats.Done.{Done}
 use Rattle.dml_portal.specs.declared.seats.Seat.{Seat}
@@ -173,6 +173,23 @@ drained_more lanes dones place done lane now seat within within_lanes is_lane sa
 pub empty_left : {X : Type 0} (left : List X) {xs all : List X} → xs ++ left ≡ all → length left ≡ 0 → xs ≡ all
 empty_left [] {xs} is none = sym (append-nil xs) ∙ is
 empty_left (x ∷ left) is none = absurd (omega (arith, none))
+
+-- a job was seen in one client's ring
+pub left_here : (lanes : List Lane) (dones : List Done) (place : ℕ) (done : Done) (lane now : Lane) (seat : Seat) → place < length dones → done.seat.client < length lanes → IsUnusedSeat done.seat seat → received now.jobs ++ waiting now ≡ submitted seat → 0 < length (waiting now) → HasJobsLeft (set lanes done.seat.client now) (set dones place (record { seat = seat }))
+left_here lanes dones place done lane now seat within within_lanes same_seat whole some =
+    let client : ℕ = done.seat.client in
+    let looked : Done = record { seat = seat } in
+    let more : length (received now.jobs) < length (submitted seat) =
+    omega (arith, some, ap length whole, length-append (received now.jobs) (waiting now)) in
+    record {
+      place = place;
+      within = subst (λ n. place < n) (sym (length-set dones place looked)) within;
+      left = λ d l.
+          subst (λ (x : Done). IsLeft (get_or (set lanes client now) x.seat.client l) x.seat) (sym (get_or-set_same dones place looked d within))
+          (subst (λ x. IsLeft x seat)
+          (sym (ap (λ n. get_or (set lanes client now) n l) same_seat.0.0 ∙ get_or-set_same lanes client now l within_lanes))
+          (more, some));
+    }
 
 pub each_settled : (lanes now : List Lane) (log : List LogEntry) (done : Done) → AreUnusedLanes lanes now → ArePopped lanes log → ArePushed lanes log → IsSeatOf now done.seat → IsDrained now done → IsSettled log done
 each_settled lanes [] log done unused popped pushed seat drained = absurd (omega (arith, seat.0))

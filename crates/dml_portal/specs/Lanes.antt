@@ -1,7 +1,8 @@
 -- The server's ends of the clients' rings, and what they have to do with the log.
-use Rattle.std.specs.Prelude.{◌≡◌, ℕ, ◌<◌, ◌≤◌, List, [], length, slice_index_or, take}
-use Rattle.rtrb.specs.Ring.{IsPair, SameConsumer, SameProducer, received, sent}
-use Rattle.dml_portal.specs.Types.{LogEntry}
+use Rattle.std.specs.Prelude.{◌≡◌, ℕ, ◌<◌, ◌≤◌, ◌⊎◌, List, [], ◌++◌, length, slice_index_or, take}
+use mathlib.Core.List.{IsPrefix}
+use Rattle.rtrb.specs.Ring.{IsPair, SameConsumer, SameProducer, known_free, known_items, received, sent}
+use Rattle.dml_portal.specs.Types.{Job, LogEntry}
 use Rattle.dml_portal.specs.Log.{answers_in, jobs_in, part_of}
 use Rattle.dml_portal.specs.declared.lanes.Lane.{Lane}
 use Rattle.dml_portal.specs.declared.seats.Seat.{Seat}
@@ -26,6 +27,31 @@ ArePopped lanes log = EachLane (IsPopped log) lanes
 
 abbrev pub ArePushed : List Lane → List LogEntry → Type 0
 ArePushed lanes log = EachLane (IsPushed log) lanes
+
+-- each record of the client was pushed, or its ring is known to be full
+abbrev pub IsAnswered : List LogEntry → ℕ → Lane → Type 0
+IsAnswered log client lane =
+    (sent lane.records ≡ answers_in (part_of client log)) ⊎ (known_free lane.records ≡ 0)
+
+abbrev pub AreAnswered : List Lane → List LogEntry → Type 0
+AreAnswered lanes log = EachLane (IsAnswered log) lanes
+
+-- the jobs that are known to wait in the client's ring
+abbrev pub waiting : Lane → List Job
+waiting lane = known_items lane.jobs
+
+-- first the jobs that were known to wait are taken, and 128 in all, or until none is known to wait
+pub record IsTaken (known taken left : List Job) : Type 0 where
+  pub first : IsPrefix known (taken ++ left)
+  pub most : (length taken ≡ 128) ⊎ (left ≡ [])
+
+-- of each client the jobs of its part of these entries were taken
+abbrev pub AreTaken : List Lane → List LogEntry → List Lane → Type 0
+AreTaken lanes entries now =
+    EachLane
+    (λ client lane.
+    IsTaken (waiting (slice_index_or lanes client lane)) (jobs_in (part_of client entries)) (waiting lane))
+    now
 
 -- the same ends of the same rings
 abbrev pub IsSameLane : Lane → Lane → Type 0

@@ -6,3 +6,4 @@ pub mod Blank
 pub mod Served
 pub mod Opened
 pub mod Settled
+pub mod Servers

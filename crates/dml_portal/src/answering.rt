@@ -1,8 +1,7 @@
 //! The records of a round: into the log, and to the clients.
 ghost use Rattle.std.specs.Prelude.{◌≡◌, ◌+◌, ◌≤◌, drop, length, map, take};
-ghost use Rattle.rtrb.specs.Ring.{received};
 ghost use Rattle.dml_portal.specs.Log.{answers_in, sent_for};
-ghost use Rattle.dml_portal.specs.Lanes.{ArePopped, ArePushed, AreSameLanes, IsPushed, IsSameLane};
+ghost use Rattle.dml_portal.specs.Lanes.{AreAnswered, ArePopped, ArePushed, AreSameLanes, IsAnswered, IsPushed, IsSameLane, waiting};
 
 use crate::lanes::Lane;
 use crate::logs::LogEntry;
@@ -34,7 +33,8 @@ fn set_answers(log: &mut [LogEntry], start: usize, records: &[Record])
 fn push_answers(client: u32, lane: &mut Lane, log: &[LogEntry])
     requires { IsPushed log.now client lane.old }
     ensures pushed { IsPushed log.now client lane.new }
-    ensures received { received lane.new.jobs ≡ received lane.old.jobs }
+    ensures answered { IsAnswered log.now client lane.new }
+    ensures jobs { lane.new.jobs ≡ lane.old.jobs }
     ensures same { IsSameLane lane.old lane.new }
 {
     for i in lane.answered..log.len() {
@@ -53,6 +53,8 @@ pub(crate) fn push_all_answers(lanes: &mut Vec<Lane>, log: &[LogEntry])
     requires pushed { ArePushed lanes.old.items log.now }
     ensures popped { ArePopped lanes.new.items log.now }
     ensures pushed { ArePushed lanes.new.items log.now }
+    ensures answered { AreAnswered lanes.new.items log.now }
+    ensures waiting { map waiting lanes.new.items ≡ map waiting lanes.old.items }
     ensures same { AreSameLanes lanes.old.items lanes.new.items }
 {
     for client in 0..lanes.len() {

@@ -3,7 +3,7 @@ ghost use Rattle.std.specs.Prelude.{◌≡◌, ◌+◌, ◌*◌, ◌<◌, ◌≤
 ghost use Rattle.rtrb.specs.Ring.{received};
 ghost use Rattle.dml_portal.specs.Types.{Job as Jobs, LogEntry as Entries};
 ghost use Rattle.dml_portal.specs.Log.{jobs_in, sent_for};
-ghost use Rattle.dml_portal.specs.Lanes.{ArePopped, ArePushed, AreSameLanes, IsSameLane};
+ghost use Rattle.dml_portal.specs.Lanes.{ArePopped, ArePushed, AreSameLanes, AreTaken, IsSameLane, IsTaken, waiting};
 ghost use Rattle.dml_portal.specs.Served.{IsFetched};
 ghost use Rattle.dml_portal.specs.Blank.{blank};
 
@@ -18,7 +18,7 @@ pub(crate) const MOST_OF_A_CLIENT: usize = 128;
 fn fetch_client(client: u32, lane: &mut Lane, log: &mut Vec<LogEntry>, jobs: &mut Vec<Job>)
     requires log_room { length log.old.items + 128 ≤ vec_capacity log.old }
     requires jobs_room { length jobs.old.items + 128 ≤ vec_capacity jobs.old }
-    ensures fetched { (fetched : List Jobs) × (received lane.new.jobs ≡ received lane.old.jobs ++ fetched) × (log.new.items ≡ log.old.items ++ map (blank client) fetched) × (jobs.new.items ≡ jobs.old.items ++ fetched) × (length fetched ≤ 128) }
+    ensures fetched { (fetched : List Jobs) × (received lane.new.jobs ≡ received lane.old.jobs ++ fetched) × (log.new.items ≡ log.old.items ++ map (blank client) fetched) × (jobs.new.items ≡ jobs.old.items ++ fetched) × (length fetched ≤ 128) × IsTaken (waiting lane.old) fetched (waiting lane.new) }
     ensures answered { lane.new.answered ≡ lane.old.answered }
     ensures records { lane.new.records ≡ lane.old.records }
     ensures same { IsSameLane lane.old lane.new }
@@ -46,7 +46,7 @@ pub(crate) fn fetch_round(lanes: &mut Vec<Lane>, log: &mut Vec<LogEntry>, jobs: 
     requires empty { jobs.old.items ≡ [] }
     requires log_room { length log.old.items + 128 * length lanes.old.items ≤ vec_capacity log.old }
     requires jobs_room { 128 * length lanes.old.items ≤ vec_capacity jobs.old }
-    ensures fetched { (entries : List Entries) × (log.new.items ≡ log.old.items ++ entries) × (jobs.new.items ≡ jobs_in entries) × (length entries ≤ 128 * length lanes.old.items) × IsFetched (length lanes.old.items) (map sent_for entries) }
+    ensures fetched { (entries : List Entries) × (log.new.items ≡ log.old.items ++ entries) × (jobs.new.items ≡ jobs_in entries) × (length entries ≤ 128 * length lanes.old.items) × IsFetched (length lanes.old.items) (map sent_for entries) × AreTaken lanes.old.items entries lanes.new.items }
     ensures popped { ArePopped lanes.new.items log.new.items }
     ensures pushed { ArePushed lanes.new.items log.old.items }
     ensures same { AreSameLanes lanes.old.items lanes.new.items }

@@ -1,11 +1,10 @@
 //! Looks at both ends of the clients' rings, once their seats are handed in.
-ghost use Rattle.std.specs.Prelude.{◌≡◌, List, ◌++◌, IsTrue, length};
+ghost use Rattle.std.specs.Prelude.{◌≡◌, ◌++◌, IsFalse, IsTrue, length};
 ghost use mathlib.Core.List.{IsPrefix};
 ghost use Rattle.rtrb.specs.Ring.{received, sent};
-ghost use Rattle.dml_portal.specs.Types.{Job as Jobs};
 ghost use Rattle.dml_portal.specs.Seats.{polled, submitted};
-ghost use Rattle.dml_portal.specs.Lanes.{IsAcross};
-ghost use Rattle.dml_portal.specs.Settled.{AreSeatsOf, AreUnusedLanes, AreUnusedSeats, EachDone, IsDrained, IsUnusedLane, IsUnusedSeat, has_finished, have_finished};
+ghost use Rattle.dml_portal.specs.Lanes.{IsAcross, waiting};
+ghost use Rattle.dml_portal.specs.Settled.{AreSeatsOf, AreUnusedLanes, AreUnusedSeats, EachDone, HasJobsLeft, IsDrained, IsUnusedLane, IsUnusedSeat, has_finished, have_finished};
 
 use crate::lanes::Lane;
 use crate::seats::{Done, Seat};
@@ -27,7 +26,8 @@ pub(crate) fn have_finished(clients: u32, dones: &[Done]) -> bool
 /// The number of jobs that are left in a client's ring.
 fn look(lane: &mut Lane, seat: &mut Seat) -> usize
     requires { IsAcross seat.old lane.old }
-    ensures left { (left : List Jobs) × (received lane.new.jobs ++ left ≡ submitted seat.new) × (result ≡ length left) }
+    ensures left { received lane.new.jobs ++ waiting lane.new ≡ submitted seat.new }
+    ensures number { result ≡ length (waiting lane.new) }
     ensures polled { IsPrefix (polled seat.new) (sent lane.new.records) }
     ensures lane { IsUnusedLane lane.old lane.new }
     ensures seat { IsUnusedSeat seat.old seat.new }
@@ -40,17 +40,17 @@ fn look(lane: &mut Lane, seat: &mut Seat) -> usize
 pub(crate) fn are_drained(lanes: &mut Vec<Lane>, dones: &mut Vec<Done>) -> bool
     requires { AreSeatsOf lanes.old.items dones.old.items }
     ensures drained { IsTrue result → EachDone (IsDrained lanes.new.items) dones.new.items }
+    ensures left { IsFalse result → HasJobsLeft lanes.new.items dones.new.items }
     ensures seats { AreSeatsOf lanes.new.items dones.new.items }
     ensures lanes { AreUnusedLanes lanes.old.items lanes.new.items }
     ensures dones { AreUnusedSeats dones.old.items dones.new.items }
 {
-    let mut drained = true;
     for place in 0..dones.len() {
         let seat = &mut dones[place].seat;
         let lane = &mut lanes[seat.client as usize];
         if look(lane, seat) > 0 {
-            drained = false;
+            return false;
         }
     }
-    drained
+    true
 }

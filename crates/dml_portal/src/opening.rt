@@ -50,6 +50,8 @@ impl Rings {
 }
 
 impl Portal {
+    ghost use Rattle.dml_portal.specs.Servers.{engine_of, lanes_of, log_of};
+
     /// Opens a portal over an engine for 1 to 8 clients: the server, and a seat for each client, whose rings have room for
     /// this many items, 1 to 1,024. Seat i is that of client i.
     ///
@@ -62,10 +64,10 @@ impl Portal {
         clients: u32,
         capacity: u32,
     ) -> Result<(Server<G>, Vec<Seat>), (Engine<G>, PortalError)>
-        ensures engine { IfOk result (λ opened. opened.0.engine ≡ engine.entry) }
-        ensures log { IfOk result (λ opened. opened.0.log.items ≡ []) }
-        ensures seats { IfOk result (λ opened. AreNew capacity clients opened.0.lanes.items opened.1.items) }
-        ensures own_seats { IfOk result (λ opened. All (IsSeatOf opened.0.lanes.items) opened.1.items) }
+        ensures engine { IfOk result (λ opened. engine_of opened.0 ≡ engine.entry) }
+        ensures log { IfOk result (λ opened. log_of opened.0 ≡ []) }
+        ensures seats { IfOk result (λ opened. AreNew capacity clients (lanes_of opened.0) opened.1.items) }
+        ensures own_seats { IfOk result (λ opened. All (IsSeatOf (lanes_of opened.0)) opened.1.items) }
         ensures limits { OnOk result ((1 ≤ clients) × (clients ≤ 8) × (1 ≤ capacity) × (capacity ≤ 1024)) }
         ensures handed_back { IfErr result (λ refused. refused.0 ≡ engine.entry) }
         ensures bad_clients { IfErr result (λ refused. (refused.1 ≡ PortalError.BadClients) ↔ ((clients < 1) ⊎ (8 < clients))) }

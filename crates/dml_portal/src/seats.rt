@@ -21,9 +21,9 @@ pub struct Done {
 }
 
 impl Seat {
-    ghost use Rattle.std.specs.Prelude.{◌≡◌, ◌<◌, [], ◌∷◌, ◌++◌, IfErr, IsOk, MatchOption, OnOk, length};
+    ghost use Rattle.std.specs.Prelude.{◌≡◌, ◌<◌, [], ◌∷◌, ◌++◌, IfErr, IsOk, IsSome, MatchOption, OnOk, length};
     ghost use Rattle.rtrb.specs.Ring.{known_free, producer_capacity, received, sent};
-    ghost use Rattle.dml_portal.specs.Seats.{IsSameSeat, polled, submitted};
+    ghost use Rattle.dml_portal.specs.Seats.{IsSameSeat, client_of, known_records, polled, room_of, seat_of, submitted};
 
     /// The seat of a client, over its ends of new rings.
     pub(crate) fn new(client: u32, jobs: Producer<Job>, records: Consumer<Record>) -> Seat
@@ -39,7 +39,7 @@ impl Seat {
 
     /// The number of the client.
     pub fn client(&self) -> u32
-        ensures { result ≡ self.now.client }
+        ensures { result ≡ client_of self.now }
     {
         self.client
     }
@@ -52,7 +52,7 @@ impl Seat {
         ensures submitted { OnOk result (submitted self.new ≡ submitted self.old ++ job ∷ []) }
         ensures handed_back { IfErr result (λ full. full.job ≡ job) }
         ensures unchanged { IfErr result (λ _. submitted self.new ≡ submitted self.old) }
-        ensures has_room { length (submitted self.old) < producer_capacity self.old.jobs → IsOk result }
+        ensures has_room { length (submitted self.old) < room_of self.old → IsOk result }
         ensures polled { polled self.new ≡ polled self.old }
         ensures same { IsSameSeat self.old self.new }
     {
@@ -66,6 +66,7 @@ impl Seat {
     /// waits for no one.
     pub fn poll(&mut self) -> Option<Record>
         ensures polled { MatchOption result (polled self.new ≡ polled self.old) (λ answer. polled self.new ≡ polled self.old ++ answer ∷ []) }
+        ensures found { 0 < length (known_records self.old) → IsSome result }
         ensures submitted { submitted self.new ≡ submitted self.old }
         ensures same { IsSameSeat self.old self.new }
     {
@@ -74,7 +75,7 @@ impl Seat {
 
     /// Ends the submitting, for good. Records that were not polled are given up.
     pub fn finish(self) -> Done
-        ensures { result.seat ≡ self }
+        ensures { seat_of result ≡ self }
     {
         Done { seat: self }
     }

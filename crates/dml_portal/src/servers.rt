@@ -82,8 +82,9 @@ impl<G: Gate + Sync> Server<G> {
     ghost use Rattle.std.specs.Prelude.{IfErr, OnErr, map, take};
     ghost use Rattle.dml_types.specs.Step.{memory_after, records_of};
     ghost use Rattle.dml_portal.specs.Log.{added, answers_in, jobs_in, sent_for};
-    ghost use Rattle.dml_portal.specs.Lanes.{AreSameLanes};
+    ghost use Rattle.dml_portal.specs.Lanes.{AreAnswered, AreSameLanes, AreTaken};
     ghost use Rattle.dml_portal.specs.Served.{IsFetched, RoundHasServed};
+    ghost use Rattle.dml_portal.specs.Servers.{clients_of, image_of, lanes_of, log_of, settings_of};
 
     /// Serves a round: fetches at most 128 jobs of each client, clients in order of their numbers, carries them out as one
     /// list, and answers how many they are. Before and after, records are pushed to the clients as far as their rings
@@ -96,19 +97,21 @@ impl<G: Gate + Sync> Server<G> {
         rt: &R,
         alloc: Global,
     ) -> Result<usize, PortalError>
-        ensures earlier { take (length self.old.log.items) self.new.log.items ≡ self.old.log.items }
-        ensures number { IfOk result (λ number. number ≡ length (added self.old.log.items self.new.log.items)) }
-        ensures most { length (added self.old.log.items self.new.log.items) ≤ 128 * length self.old.lanes.items }
-        ensures fetched { IsFetched (length self.old.lanes.items) (map sent_for (added self.old.log.items self.new.log.items)) }
-        ensures image { self.new.engine.image
-            ≡ memory_after self.old.engine.image (jobs_in (added self.old.log.items self.new.log.items)) self.old.engine.settings.staging }
-        ensures answers { answers_in (added self.old.log.items self.new.log.items)
-            ≡ records_of self.old.engine.image (jobs_in (added self.old.log.items self.new.log.items)) self.old.engine.settings.staging }
-        ensures steps { RoundHasServed self.old.engine.settings (length self.old.lanes.items) self.old.engine.image self.new.engine.image (added self.old.log.items self.new.log.items) }
+        ensures earlier { take (length (log_of self.old)) (log_of self.new) ≡ log_of self.old }
+        ensures number { IfOk result (λ number. number ≡ length (added (log_of self.old) (log_of self.new))) }
+        ensures most { length (added (log_of self.old) (log_of self.new)) ≤ 128 * clients_of self.old }
+        ensures fetched { IsFetched (clients_of self.old) (map sent_for (added (log_of self.old) (log_of self.new))) }
+        ensures taken { OnOk result (AreTaken (lanes_of self.old) (added (log_of self.old) (log_of self.new)) (lanes_of self.new)) }
+        ensures image { image_of self.new
+            ≡ memory_after (image_of self.old) (jobs_in (added (log_of self.old) (log_of self.new))) (settings_of self.old).staging }
+        ensures answers { answers_in (added (log_of self.old) (log_of self.new))
+            ≡ records_of (image_of self.old) (jobs_in (added (log_of self.old) (log_of self.new))) (settings_of self.old).staging }
+        ensures steps { RoundHasServed (settings_of self.old) (clients_of self.old) (image_of self.old) (image_of self.new) (added (log_of self.old) (log_of self.new)) }
+        ensures answered { AreAnswered (lanes_of self.new) (log_of self.new) }
         ensures no_memory { IfErr result (λ error. error ≡ PortalError.NoMemory) }
-        ensures nothing_fetched { OnErr result (self.new.log.items ≡ self.old.log.items) }
-        ensures settings { self.new.engine.settings ≡ self.old.engine.settings }
-        ensures same { AreSameLanes self.old.lanes.items self.new.lanes.items }
+        ensures nothing_fetched { OnErr result (log_of self.new ≡ log_of self.old) }
+        ensures settings { settings_of self.new ≡ settings_of self.old }
+        ensures same { AreSameLanes (lanes_of self.old) (lanes_of self.new) }
     {
         law_of_rounds();
         law_of_folds();

@@ -22,14 +22,15 @@ pub struct Settled {
 }
 
 impl<G> Server<G> {
-    ghost use Rattle.std.specs.Prelude.{IsTrue};
+    ghost use Rattle.std.specs.Prelude.{IsFalse, IsTrue};
     ghost use Rattle.dml_portal.specs.Lanes.{AreSameLanes};
-    ghost use Rattle.dml_portal.specs.Settled.{AreSeatsOf, AreUnusedSeats, EachDone, IsSettled};
+    ghost use Rattle.dml_portal.specs.Settled.{AreSeatsOf, AreUnusedSeats, EachDone, HasJobsLeft, IsSettled};
 
     /// Whether no job is left in any ring.
     fn is_drained(&mut self, dones: &mut Vec<Done>) -> bool
         requires { AreSeatsOf self.old.lanes.items dones.old.items }
         ensures settled { IsTrue result → EachDone (IsSettled self.new.log.items) dones.new.items }
+        ensures left { IsFalse result → HasJobsLeft self.new.lanes.items dones.new.items }
         ensures seats { AreSeatsOf self.new.lanes.items dones.new.items }
         ensures engine { self.new.engine ≡ self.old.engine }
         ensures log { self.new.log.items ≡ self.old.log.items }
@@ -41,13 +42,14 @@ impl<G> Server<G> {
 }
 
 impl<G: Gate + Sync> Server<G> {
-    ghost use Rattle.std.specs.Prelude.{OnOk, length, take};
+    ghost use Rattle.std.specs.Prelude.{OnErr, OnOk, length, take};
     ghost use Rattle.dml_types.specs.Step.{memory_after, records_of};
     ghost use Rattle.dml_portal.specs.Log.{added, answers_in, jobs_in};
+    ghost use Rattle.dml_portal.specs.Lanes.{AreAnswered};
     ghost use Rattle.dml_portal.specs.Served.{RoundsHaveServed};
     ghost use Rattle.dml_portal.specs.Settled.{AreSeatsOf, AreUnusedSeats, EachDone, IsSettled};
 
-    /// Serves rounds until no job is left in any ring.
+    /// Serves rounds until no job is left in any ring; each takes at least one of those that are left.
     fn serve_rest<R: Threads + Wait + Sync>(
         &mut self,
         rt: &R,
@@ -62,6 +64,7 @@ impl<G: Gate + Sync> Server<G> {
         ensures answers { answers_in (added self.old.log.items self.new.log.items)
             ≡ records_of self.old.engine.image (jobs_in (added self.old.log.items self.new.log.items)) self.old.engine.settings.staging }
         ensures steps { RoundsHaveServed self.old.engine.settings (length self.old.lanes.items) self.old.engine.image self.new.engine.image (added self.old.log.items self.new.log.items) }
+        ensures answered { OnErr result (AreAnswered self.new.lanes.items self.new.log.items) }
         ensures settings { self.new.engine.settings ≡ self.old.engine.settings }
         ensures seats { AreSeatsOf self.new.lanes.items dones.new.items }
         ensures unused { AreUnusedSeats dones.old.items dones.new.items }
@@ -69,13 +72,10 @@ impl<G: Gate + Sync> Server<G> {
         law_of_rounds();
         law_of_folds();
         self.law_of_image();
-        for _ in rt.forever() {
-            if self.is_drained(dones) {
-                return Ok(());
-            }
+        while !self.is_drained(dones) {
             self.serve_round(rt, alloc)?;
         }
-        unreachable!()
+        Ok(())
     }
 }
 
@@ -83,7 +83,9 @@ impl<G: Gate + Sync + Drop> Server<G> {
     ghost use Rattle.std.specs.Prelude.{◌↔◌, false, true, IfErr, IfOk, OnOk, length, take};
     ghost use Rattle.dml_types.specs.Step.{memory_after, records_of};
     ghost use Rattle.dml_portal.specs.Log.{added, answers_in, jobs_in};
+    ghost use Rattle.dml_portal.specs.Lanes.{AreAnswered};
     ghost use Rattle.dml_portal.specs.Served.{RoundsHaveServed};
+    ghost use Rattle.dml_portal.specs.Servers.{clients_of, image_of, lanes_of, log_of, settings_of};
     ghost use Rattle.dml_portal.specs.Settled.{AreSeatsOf, AreUnusedSeats, EachDone, IsSettled, have_finished};
 
     /// Serves rounds until the ring of each client is known to be empty, its seat being handed in, and gives the image and
@@ -99,25 +101,26 @@ impl<G: Gate + Sync + Drop> Server<G> {
         alloc: Global,
         dones: Vec<Done>,
     ) -> Result<Settled, (Server<G>, Vec<Done>, SettleFault)>
-        requires seats { AreSeatsOf self.lanes.items dones.items }
+        requires seats { AreSeatsOf (lanes_of self) dones.items }
         ensures settled { IfOk result (λ settled. EachDone (IsSettled settled.log) dones.items) }
-        ensures strangers { IfErr result (λ kept. (kept.2 ≡ SettleFault.Strangers) ↔ (have_finished (length self.entry.lanes.items) dones.items ≡ false)) }
-        ensures finished { OnOk result (have_finished (length self.entry.lanes.items) dones.items ≡ true) }
+        ensures strangers { IfErr result (λ kept. (kept.2 ≡ SettleFault.Strangers) ↔ (have_finished (clients_of self.entry) dones.items ≡ false)) }
+        ensures finished { OnOk result (have_finished (clients_of self.entry) dones.items ≡ true) }
         ensures unchanged { IfErr result (λ kept. kept.2 ≡ SettleFault.Strangers → (kept.0 ≡ self.entry) × (kept.1 ≡ dones)) }
-        ensures earlier { IfOk result (λ settled. take (length self.entry.log.items) settled.log ≡ self.entry.log.items) }
+        ensures earlier { IfOk result (λ settled. take (length (log_of self.entry)) settled.log ≡ log_of self.entry) }
         ensures image { IfOk result (λ settled. settled.image
-            ≡ memory_after self.entry.engine.image (jobs_in (added self.entry.log.items settled.log)) self.entry.engine.settings.staging) }
-        ensures answers { IfOk result (λ settled. answers_in (added self.entry.log.items settled.log)
-            ≡ records_of self.entry.engine.image (jobs_in (added self.entry.log.items settled.log)) self.entry.engine.settings.staging) }
-        ensures steps { IfOk result (λ settled. RoundsHaveServed self.entry.engine.settings (length self.entry.lanes.items) self.entry.engine.image settled.image (added self.entry.log.items settled.log)) }
-        ensures kept_log { IfErr result (λ kept. take (length self.entry.log.items) kept.0.log.items ≡ self.entry.log.items) }
-        ensures kept_image { IfErr result (λ kept. kept.0.engine.image
-            ≡ memory_after self.entry.engine.image (jobs_in (added self.entry.log.items kept.0.log.items)) self.entry.engine.settings.staging) }
-        ensures kept_answers { IfErr result (λ kept. answers_in (added self.entry.log.items kept.0.log.items)
-            ≡ records_of self.entry.engine.image (jobs_in (added self.entry.log.items kept.0.log.items)) self.entry.engine.settings.staging) }
-        ensures kept_steps { IfErr result (λ kept. RoundsHaveServed self.entry.engine.settings (length self.entry.lanes.items) self.entry.engine.image kept.0.engine.image (added self.entry.log.items kept.0.log.items)) }
-        ensures kept_settings { IfErr result (λ kept. kept.0.engine.settings ≡ self.entry.engine.settings) }
-        ensures kept_seats { IfErr result (λ kept. AreSeatsOf kept.0.lanes.items kept.1.items × AreUnusedSeats dones.items kept.1.items) }
+            ≡ memory_after (image_of self.entry) (jobs_in (added (log_of self.entry) settled.log)) (settings_of self.entry).staging) }
+        ensures answers { IfOk result (λ settled. answers_in (added (log_of self.entry) settled.log)
+            ≡ records_of (image_of self.entry) (jobs_in (added (log_of self.entry) settled.log)) (settings_of self.entry).staging) }
+        ensures steps { IfOk result (λ settled. RoundsHaveServed (settings_of self.entry) (clients_of self.entry) (image_of self.entry) settled.image (added (log_of self.entry) settled.log)) }
+        ensures kept_log { IfErr result (λ kept. take (length (log_of self.entry)) (log_of kept.0) ≡ log_of self.entry) }
+        ensures kept_image { IfErr result (λ kept. image_of kept.0
+            ≡ memory_after (image_of self.entry) (jobs_in (added (log_of self.entry) (log_of kept.0))) (settings_of self.entry).staging) }
+        ensures kept_answers { IfErr result (λ kept. answers_in (added (log_of self.entry) (log_of kept.0))
+            ≡ records_of (image_of self.entry) (jobs_in (added (log_of self.entry) (log_of kept.0))) (settings_of self.entry).staging) }
+        ensures kept_steps { IfErr result (λ kept. RoundsHaveServed (settings_of self.entry) (clients_of self.entry) (image_of self.entry) (image_of kept.0) (added (log_of self.entry) (log_of kept.0))) }
+        ensures kept_answered { IfErr result (λ kept. kept.2 ≡ SettleFault.NoMemory → AreAnswered (lanes_of kept.0) (log_of kept.0)) }
+        ensures kept_settings { IfErr result (λ kept. settings_of kept.0 ≡ settings_of self.entry) }
+        ensures kept_seats { IfErr result (λ kept. AreSeatsOf (lanes_of kept.0) kept.1.items × AreUnusedSeats dones.items kept.1.items) }
     {
         let mut server = self;
         let mut dones = dones;

@@ -1,5 +1,4 @@
 use Rattle.std.proofs.Common.{◌≡◌}
-use Rattle.rtrb.specs.Ring.{received}
 use Rattle.dml_portal.specs.Lanes.{IsPushed, IsSameLane}
 use Rattle.dml_portal.proofs.answering.push_answers.Given as goal
 
@@ -7,5 +6,5 @@ abbrev pub invariant-loop-i : goal.invariant-loop-i
 invariant-loop-i l =
     IsPushed l.log l.client l.lane
     × (l.lane.answered ≡ l.i)
-    × (received l.lane.jobs ≡ received l.initial.lane.jobs)
+    × (l.lane.jobs ≡ l.initial.lane.jobs)
     × IsSameLane l.initial.lane l.lane

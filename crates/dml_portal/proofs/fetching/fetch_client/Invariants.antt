@@ -1,8 +1,9 @@
 use Rattle.std.proofs.Common.{◌≡◌, List, ◌++◌, length, map}
 use Rattle.std.specs.Prelude.{vec_capacity}
+use mathlib.Core.List.{IsPrefix}
 use Rattle.rtrb.specs.Ring.{received}
 use Rattle.dml_portal.specs.Types.{Job}
-use Rattle.dml_portal.specs.Lanes.{IsSameLane}
+use Rattle.dml_portal.specs.Lanes.{IsSameLane, waiting}
 use Rattle.dml_portal.specs.Blank.{blank}
 use Rattle.dml_portal.proofs.fetching.fetch_client.Given as goal
 
@@ -12,7 +13,8 @@ invariant-loop l =
     × (received l.lane.jobs ≡ received l.initial.lane.jobs ++ fetched)
     × (l.log.items ≡ l.initial.log.items ++ map (blank l.client) fetched)
     × (l.jobs.items ≡ l.initial.jobs.items ++ fetched)
-    × (length fetched ≡ l.counter))
+    × (length fetched ≡ l.counter)
+    × IsPrefix (waiting l.initial.lane) (fetched ++ waiting l.lane))
     × (l.lane.answered ≡ l.initial.lane.answered)
     × (l.lane.records ≡ l.initial.lane.records)
     × IsSameLane l.initial.lane l.lane

@@ -1,9 +1,11 @@
-use Rattle.std.proofs.Common.{◌<◌, ◌++◌, ◌∙◌, length, map, set, sym, ap, subst, arith, append_assoc}
+use Rattle.std.proofs.Common.{◌≡◌, ◌*◌, ◌<◌, ◌≤◌, ◌++◌, ◌∙◌, length, map, set, sym, ap, subst, arith, append_assoc}
 use Rattle.std.proofs.lemmas.List.{length-append, length-map}
-use Rattle.dml_portal.specs.Log.{jobs_in}
+use Rattle.dml_portal.specs.Log.{jobs_in, sent_for}
 use Rattle.dml_portal.specs.Lanes.{ArePopped}
+use Rattle.dml_portal.specs.Served.{IsFetched}
 use Rattle.dml_portal.specs.Blank.{blank}
 use Rattle.dml_portal.proofs.FetchLemmas.{fetched_more}
+use Rattle.dml_portal.proofs.TakenLemmas.{taken_all, taken_more}
 use Rattle.dml_portal.proofs.LaneLemmas.{popped_more, pushed_still, same_more}
 use Rattle.dml_portal.proofs.LogLemmas.{jobs_append, jobs_blank}
 use Rattle.dml_portal.proofs.fetching.fetch_round.Goals as goal
@@ -28,6 +30,7 @@ loop-client-preserved c =
             ∙ sym (jobs_append entries more ∙ ap (λ list. jobs_in entries ++ list) (jobs_blank i jobs))),
         omega (arith, length-append entries more, length-map jobs (blank i), done.fetched.4, before.0.3),
         fetched_more i entries jobs done.fetched.4 before.0.4,
+        taken_more i c.args.lanes.now.items lanes entries jobs lane now within before.3.0 c.index_mut.ensures.value before.0.4 done.fetched.5 before.0.5,
       ),
       subst (ArePopped (set lanes i now)) (sym done.fetched.2)
           (popped_more lanes i lane now c.loop-client.log.items jobs within c.index_mut.ensures.value done.fetched.1 before.1),
@@ -35,4 +38,16 @@ loop-client-preserved c =
       same_more c.args.lanes.now.items lanes i lane now within c.index_mut.ensures.value done.same before.3,
       done.log_room ∙ before.4,
       done.jobs_room ∙ before.5,
+    )
+
+pub returns-clause-fetched : goal.returns-clause-fetched
+returns-clause-fetched c =
+    let left = c.loop-client.invariant.0 in
+    let all : length c.args.lanes.now.items ≡ c.loop-client.client = omega (arith, c.loop-client-test.false, c.len-client-end.ensures, c.args.lanes.now.ok.0, c.loop-client.auto.client-end) in (
+      left.0,
+      left.1,
+      left.2,
+      subst (λ n. length left.0 ≤ 128 * n) (sym all) left.3,
+      subst (λ n. IsFetched n (map sent_for left.0)) (sym all) left.4,
+      taken_all c.args.lanes.now.items left.0 c.loop-client.lanes.items c.loop-client.client (omega (arith, all, c.loop-client.invariant.3.0)) left.5,
     )

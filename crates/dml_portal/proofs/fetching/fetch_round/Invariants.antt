@@ -4,6 +4,7 @@ use Rattle.dml_portal.specs.Types.{LogEntry}
 use Rattle.dml_portal.specs.Log.{jobs_in, sent_for}
 use Rattle.dml_portal.specs.Lanes.{ArePopped, ArePushed, AreSameLanes}
 use Rattle.dml_portal.specs.Served.{IsFetched}
+use Rattle.dml_portal.proofs.TakenLemmas.{TakenBelow}
 use Rattle.dml_portal.proofs.fetching.fetch_round.Given as goal
 
 abbrev pub invariant-loop-client : goal.invariant-loop-client
@@ -12,7 +13,8 @@ invariant-loop-client l =
     × (l.log.items ≡ l.initial.log.items ++ entries)
     × (l.jobs.items ≡ jobs_in entries)
     × (length entries ≤ 128 * l.client)
-    × IsFetched l.client (map sent_for entries))
+    × IsFetched l.client (map sent_for entries)
+    × TakenBelow l.client l.initial.lanes.items entries l.lanes.items)
     × ArePopped l.lanes.items l.log.items
     × ArePushed l.lanes.items l.initial.log.items
     × AreSameLanes l.initial.lanes.items l.lanes.items

@@ -3,7 +3,8 @@ use Rattle.dml_portal.specs.Log.{added, sent_for}
 use Rattle.dml_portal.specs.Lanes.{ArePopped, ArePushed}
 use Rattle.dml_portal.specs.Served.{IsFetched}
 use Rattle.dml_portal.proofs.LaneLemmas.{popped_along, pushed_along, same_lanes}
-use Rattle.dml_portal.proofs.ServedLemmas.{front_is, nothing_left, round_left, whole_is}
+use Rattle.dml_portal.proofs.ServedLemmas.{front_is, nothing_left, round_left, round_log, whole_is}
+use Rattle.dml_portal.proofs.TakenLemmas.{taken_along}
 use Rattle.dml_portal.proofs.servers.Server.serve_round.Goals as goal
 
 pub returns-in_default-clause-steps : goal.returns-in_default-clause-steps
@@ -93,3 +94,16 @@ pub returns-clause-same : goal.returns-clause-same
 returns-clause-same g c =
     same_lanes c.args.self.now.lanes.items c.push_all_answers.new.lanes.items c.push_all_answers-2.new.lanes.items c.push_all_answers.ensures.same
     (same_lanes c.push_all_answers.new.lanes.items c.fetch_round.new.lanes.items c.push_all_answers-2.new.lanes.items c.fetch_round.ensures.same c.push_all_answers-2.ensures.same)
+
+pub returns-clause-taken : goal.returns-clause-taken
+returns-clause-taken g c =
+    let log = c.args.self.now.log.items in
+    let start_is : c.len-start.result ≡ length log = omega (arith, c.len-start.ensures, c.new.new.log.ok.0, ap length c.new.ensures.log) in
+    let entries = c.fetch_round.ensures.fetched.0 in
+    let front : take (length log) c.answer_round.new.log.items ≡ take (length log) c.fetch_round.new.log.items =
+    ap (λ n. take n c.answer_round.new.log.items) (sym start_is)
+    ∙ (c.answer_round.ensures.earlier ∙ ap (λ n. take n c.fetch_round.new.log.items) start_is) in
+    let round = round_log log c.fetch_round.new.log.items c.answer_round.new.log.items entries
+    (c.fetch_round.ensures.fetched.1 ∙ ap (λ xs. xs ++ entries) c.new.ensures.log) c.answer_round.ensures.sent front in
+    taken_along c.args.self.now.lanes.items c.push_all_answers.new.lanes.items c.fetch_round.new.lanes.items c.push_all_answers-2.new.lanes.items
+    entries (added log c.answer_round.new.log.items) c.push_all_answers.ensures.waiting c.push_all_answers-2.ensures.waiting round.sent c.fetch_round.ensures.fetched.5

@@ -6,7 +6,7 @@
 #
 # Usage, from anywhere: sh tests/fuzz.sh [SEED [COUNT [FIRST]]]
 #   SEED   a number, 1 where nothing is said; each seed gives other cases, the same ones each time
-#   COUNT  how many cases, 4000 where nothing is said: some seconds; a million take about ten minutes on two processors
+#   COUNT  how many cases, 4000 where nothing is said: some seconds; a million take some twenty minutes on four processors
 #   FIRST  the number of the first case, 0 where nothing is said: `sh tests/fuzz.sh SEED 1 N` runs case N alone
 # With PROCESSES=N in the environment N processes run cases side by side (else one for each processor, 16 at most).
 # PROGRAM=FILE runs another program. A case that is answered otherwise is shortened and kept, with both answers, in the

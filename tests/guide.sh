@@ -229,6 +229,18 @@ done <"$work/scripts" | sort -u | comm -3 - "$work/scripts" >"$work/unnamed"
 for pattern in $(named 'Hold a device against it' | cat - "$work/patterns" | sed 's/[*]/.*/g'); do
     grep -qx -e "$pattern" "$work/scripts" || complain "conformance/README.md: $pattern names no script"
 done
+# texts: each text of a fault and of an ending, and each first word of a line, as the sources have them
+texts() {
+    sed -n 's/.*Kind::[A-Za-z]* => "\(.*\)",/\1/p' "$top/crates/dml_grammar/src/faults.rt"
+    grep -ho 'write_str("[^"]*\\n")' "$top"/crates/dml_command/src/refusals.rt "$top"/crates/dmljob/src/refusals.rt |
+        sed 's/.*("//; s/\\n")//'
+    sed -n 's/^    (b"\([a-z-]*\)", Word::.*/\1/p' "$top/crates/dml_grammar/src/table.rt"
+}
+texts >"$work/texts"
+[ "$(wc -l <"$work/texts")" -ge 30 ] || complain "the sources' texts were not found"
+while read -r text; do
+    grep -qF -e "$text" "$top/docs/GUIDE.md" || complain "docs/GUIDE.md does not tell: $text"
+done <"$work/texts"
 printf 'guide: %s commands of README.md and docs/GUIDE.md; %s programs and what they print; %s links and paths\n' \
     "$commands" "$(($(wc -l <"$work/programs") / 2))" "$links"
 exit "$failed"

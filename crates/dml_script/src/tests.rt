@@ -51,8 +51,9 @@ const FILL_ANSWER: &str =
     "job 0 status 83 result 0 completed 6 fault 4096 delta 0\nshow 4088 0000010203040506----\n";
 
 /// A batch with a bad opcode.
-const BATCH: &str =
-    "image 1\npage 0\nbatch\nfill 1 0 8\nraw 00000000000000100000000000000000000000000000000000000000000000000000000000000000000000000000000000000000000000000000000000000000\nfill 2 8 8\nend\n";
+const BATCH: &str = "image 1\npage 0\nbatch\nfill 1 0 8\n\
+     raw 00000000000000100000000000000000000000000000000000000000000000000000000000000000000000000000000000000000000000\
+     000000000000000000\nfill 2 8 8\nend\n";
 
 const BATCH_ANSWER: &str = "job 0 status 01 result 0 completed 8 fault 0 delta 0\n\
      job 1 status 10 result 0 completed 0 fault 0 delta 0\n\

@@ -11,7 +11,10 @@ use std::thread::Threads;
 
 /// A script with all kinds of lines.
 const ALL: &str =
-    "image 4\npage 0\npage 3\npoke 0 01\n# none\nnoop\nmove 0 8 8\nfill 1 16 8\ncompare 0 8 8\ncompare-pattern 16 1 8\ncreate 0 16 8 64 10 check 0\napply 64 0 32 8\ndualcast 0 128 12416 4\nraw 00000000000000000000000000000000000000000000000000000000000000000000000000000000000000000000000000000000000000000000000000000000\nbatch\nnoop\nend\nshow 8 1\n";
+    "image 4\npage 0\npage 3\npoke 0 01\n# none\nnoop\nmove 0 8 8\nfill 1 16 8\ncompare 0 8 8\ncompare-pattern 16 1 8\n\
+     create 0 16 8 64 10 check 0\napply 64 0 32 8\ndualcast 0 128 12416 4\n\
+     raw 00000000000000000000000000000000000000000000000000000000000000000000000000000000000000000000000000000000000000\
+     000000000000000000\nbatch\nnoop\nend\nshow 8 1\n";
 
 const ALL_ANSWER: &str = "job 0 status 01 result 0 completed 0 fault 0 delta 0\n\
      job 1 status 01 result 0 completed 8 fault 0 delta 0\n\

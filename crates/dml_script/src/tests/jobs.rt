@@ -30,14 +30,19 @@ const FILLS: [Row; 6] = [
     (
         "bad_opcode_descriptor, and a descriptor of zeros",
         WIDE,
-        "image 1\nraw 00000000000000100000000000000000000000000000000000000000000000000000000000000000000000000000000000000000000000000000000000000000\nraw 00000000000000000000000000000000000000000000000000000000000000000000000000000000000000000000000000000000000000000000000000000000",
+        "image 1\n\
+         raw 0000000000000010000000000000000000000000000000000000000000000000000000000000000000000000000000000000000000\
+         0000000000000000000000\n\
+         raw 0000000000000000000000000000000000000000000000000000000000000000000000000000000000000000000000000000000000\
+         0000000000000000000000",
         "job 0 status 10 result 0 completed 0 fault 0 delta 0\n\
          job 1 status 01 result 0 completed 0 fault 0 delta 0\n",
     ),
     (
         "bytes over a page's edge, a page brought again, and addresses past the last page",
         WIDE,
-        "image 3\npage 0\npage 1 0a0b\npoke 4094 01020304\nshow 4093 6\npage 0\nshow 4093 6\nshow 8190 4\nshow 18446744073709551615 1",
+        "image 3\npage 0\npage 1 0a0b\npoke 4094 01020304\nshow 4093 6\npage 0\nshow 4093 6\nshow 8190 4\n\
+         show 18446744073709551615 1",
         "show 4093 000102030400\nshow 4093 000000030400\nshow 8190 0000----\nshow 18446744073709551615 --\n",
     ),
 ];
@@ -123,7 +128,8 @@ const COMPARES: [Row; 4] = [
     (
         "pattern_expected",
         WIDE,
-        "image 1\npage 0 0102030405060708010203\ncompare-pattern 0 0x0807060504030201 11 check 0\ncompare-pattern 0 0x0807060504030201 12 check 2",
+        "image 1\npage 0 0102030405060708010203\ncompare-pattern 0 0x0807060504030201 11 check 0\n\
+         compare-pattern 0 0x0807060504030201 12 check 2",
         "job 0 status 01 result 0 completed 11 fault 0 delta 0\n\
          job 1 status 02 result 1 completed 11 fault 0 delta 0\n",
     ),
@@ -142,7 +148,8 @@ const DELTAS: [Row; 9] = [
     (
         "delta_record_and_overflow",
         WIDE,
-        "image 1\npage 0\npoke 72 0102030405060708\npoke 88 1112131415161718\ncreate 0 64 32 128 20\nshow 128 20\npoke 64 ff\ncreate 0 64 32 128 20\nshow 128 20",
+        "image 1\npage 0\npoke 72 0102030405060708\npoke 88 1112131415161718\ncreate 0 64 32 128 20\nshow 128 20\n\
+         poke 64 ff\ncreate 0 64 32 128 20\nshow 128 20",
         "job 0 status 01 result 1 completed 32 fault 0 delta 20\n\
          show 128 0100010203040506070803001112131415161718\n\
          job 1 status 01 result 2 completed 24 fault 0 delta 20\n\
@@ -151,7 +158,8 @@ const DELTAS: [Row; 9] = [
     (
         "overflow_before_write_fault",
         WIDE,
-        "image 2\npage 0\npoke 72 0102030405060708\npoke 88 1112131415161718\npoke 64 ff\ncreate 0 64 32 4076 20\ncreate 0 64 32 4076 30\ncreate 0 64 32 4080 20",
+        "image 2\npage 0\npoke 72 0102030405060708\npoke 88 1112131415161718\npoke 64 ff\ncreate 0 64 32 4076 20\n\
+         create 0 64 32 4076 30\ncreate 0 64 32 4080 20",
         "job 0 status 01 result 2 completed 24 fault 0 delta 20\n\
          job 1 status 83 result 0 completed 24 fault 4096 delta 20\n\
          job 2 status 83 result 0 completed 8 fault 4096 delta 10\n",
@@ -159,7 +167,8 @@ const DELTAS: [Row; 9] = [
     (
         "delta_stops_at_absent_source",
         WIDE,
-        "image 2\npage 0\npoke 4056 01\npoke 4072 02\npoke 4088 03\ncreate 0 4056 64 128 80\nshow 128 30\ncreate 0 4056 64 256 20\nshow 276 3",
+        "image 2\npage 0\npoke 4056 01\npoke 4072 02\npoke 4088 03\ncreate 0 4056 64 128 80\nshow 128 30\n\
+         create 0 4056 64 256 20\nshow 276 3",
         "job 0 status 03 result 0 completed 40 fault 4096 delta 30\n\
          show 128 000001000000000000000200020000000000000004000300000000000000\n\
          job 1 status 01 result 2 completed 32 fault 0 delta 20\nshow 276 000000\n",
@@ -167,27 +176,31 @@ const DELTAS: [Row; 9] = [
     (
         "apply_not_rising",
         WIDE,
-        "image 1\npage 0\npoke 0 00001111111111111111\npoke 10 02002222222222222222\npoke 20 02003333333333333333\napply 0 30 256 32\nshow 256 32",
+        "image 1\npage 0\npoke 0 00001111111111111111\npoke 10 02002222222222222222\npoke 20 02003333333333333333\n\
+         apply 0 30 256 32\nshow 256 32",
         "job 0 status 07 result 0 completed 20 fault 0 delta 0\n\
          show 256 1111111111111111000000000000000022222222222222220000000000000000\n",
     ),
     (
         "not_rising_before_fault",
         WIDE,
-        "image 3\npage 0\npage 2\npoke 0 0200aaaaaaaaaaaaaaaa\npoke 10 0000bbbbbbbbbbbbbbbb\napply 0 20 8176 32\nshow 8192 8",
+        "image 3\npage 0\npage 2\npoke 0 0200aaaaaaaaaaaaaaaa\npoke 10 0000bbbbbbbbbbbbbbbb\napply 0 20 8176 32\n\
+         show 8192 8",
         "job 0 status 07 result 0 completed 10 fault 0 delta 0\nshow 8192 aaaaaaaaaaaaaaaa\n",
     ),
     (
         "apply_offset_range",
         WIDE,
-        "image 129\npage 0\npage 128\npoke 0 ffffaaaaaaaaaaaaaaaa\npoke 16 0400bbbbbbbbbbbbbbbb\napply 16 10 256 32\napply 0 10 4096 0x80000\nshow 528376 8",
+        "image 129\npage 0\npage 128\npoke 0 ffffaaaaaaaaaaaaaaaa\npoke 16 0400bbbbbbbbbbbbbbbb\napply 16 10 256 32\n\
+         apply 0 10 4096 0x80000\nshow 528376 8",
         "job 0 status 08 result 0 completed 0 fault 0 delta 0\n\
          job 1 status 01 result 0 completed 10 fault 0 delta 0\nshow 528376 aaaaaaaaaaaaaaaa\n",
     ),
     (
         "expected_results",
         WIDE,
-        "image 1\npage 0\ncompare 0 8 8 check 1\ncompare 0 8 8 check 0\npoke 64 ff\npoke 72 ff\ncreate 0 64 16 128 10 check 3\ncreate 0 64 16 128 10 check 4",
+        "image 1\npage 0\ncompare 0 8 8 check 1\ncompare 0 8 8 check 0\npoke 64 ff\npoke 72 ff\n\
+         create 0 64 16 128 10 check 3\ncreate 0 64 16 128 10 check 4",
         "job 0 status 02 result 0 completed 8 fault 0 delta 0\n\
          job 1 status 01 result 0 completed 8 fault 0 delta 0\n\
          job 2 status 02 result 2 completed 8 fault 0 delta 10\n\
@@ -204,7 +217,8 @@ const DELTAS: [Row; 9] = [
     (
         "every_page_absent",
         WIDE,
-        "image 4096\nmove 0 8 16\nfill 1 0 8\ncompare 0 8 8\ncreate 0 64 8 128 10\napply 0 10 256 8\ndualcast 0 4096 8192 8\nnoop\nshow 0 2",
+        "image 4096\nmove 0 8 16\nfill 1 0 8\ncompare 0 8 8\ncreate 0 64 8 128 10\napply 0 10 256 8\n\
+         dualcast 0 4096 8192 8\nnoop\nshow 0 2",
         "job 0 status 03 result 1 completed 0 fault 15 delta 0\n\
          job 1 status 83 result 0 completed 0 fault 0 delta 0\n\
          job 2 status 03 result 0 completed 0 fault 0 delta 0\n\
@@ -221,7 +235,8 @@ const BATCHES: [Row; 2] = [
     (
         "jobs are numbered over batches, and one batch says nothing of another",
         WIDE,
-        "image 1\nnoop\nbatch\nfill 1 0 8\nend\npage 0\nbatch\nfill 1 0 8\n# none\ncompare 0 8 8 check 1\nend\nshow 0 9\nnoop",
+        "image 1\nnoop\nbatch\nfill 1 0 8\nend\npage 0\nbatch\nfill 1 0 8\n# none\ncompare 0 8 8 check 1\nend\n\
+         show 0 9\nnoop",
         "job 0 status 01 result 0 completed 0 fault 0 delta 0\n\
          job 1 status 83 result 0 completed 0 fault 0 delta 0\n\
          batch status 05 completed 1\n\
@@ -280,7 +295,9 @@ const FENCES: [Row; 7] = [
     (
         "refused_fenced_job",
         WIDE,
-        "image 1\npage 0\nbatch\nfill 1 0 8\nraw 00000000010000100000000000000000000000000000000000000000000000000000000000000000000000000000000000000000000000000000000000000000\nfill 2 8 8\nend",
+        "image 1\npage 0\nbatch\nfill 1 0 8\n\
+         raw 0000000001000010000000000000000000000000000000000000000000000000000000000000000000000000000000000000000000\
+         0000000000000000000000\nfill 2 8 8\nend",
         "job 0 status 01 result 0 completed 8 fault 0 delta 0\n\
          job 1 status 10 result 0 completed 0 fault 0 delta 0\n\
          job 2 status 01 result 0 completed 8 fault 0 delta 0\n\
@@ -289,7 +306,9 @@ const FENCES: [Row; 7] = [
     (
         "refused_fenced_job_after_fault",
         WIDE,
-        "image 1\npage 0\nbatch\nfill 1 4096 8\nraw 00000000010000100000000000000000000000000000000000000000000000000000000000000000000000000000000000000000000000000000000000000000\nfill 2 8 8\nend",
+        "image 1\npage 0\nbatch\nfill 1 4096 8\n\
+         raw 0000000001000010000000000000000000000000000000000000000000000000000000000000000000000000000000000000000000\
+         0000000000000000000000\nfill 2 8 8\nend",
         "job 0 status 83 result 0 completed 0 fault 4096 delta 0\n\
          job 1 status 00 result 0 completed 0 fault 0 delta 0\n\
          job 2 status 00 result 0 completed 0 fault 0 delta 0\n\
@@ -301,7 +320,8 @@ const FENCES: [Row; 7] = [
 const CHAIN: [Row; 1] = [(
     "conflict_chain",
     WIDE,
-    "image 1\npage 0 0102030405060708\nmove 0 64 16\nmove 64 128 16\nfill 0xffffffffffffffff 0 16\nshow 0 8\nshow 64 8\nshow 128 8",
+    "image 1\npage 0 0102030405060708\nmove 0 64 16\nmove 64 128 16\nfill 0xffffffffffffffff 0 16\nshow 0 8\n\
+     show 64 8\nshow 128 8",
     "job 0 status 01 result 0 completed 16 fault 0 delta 0\n\
          job 1 status 01 result 0 completed 16 fault 0 delta 0\n\
          job 2 status 01 result 0 completed 16 fault 0 delta 0\n\

@@ -78,7 +78,8 @@ fn fields_of_jobs(rt: HostRuntime) -> Result<(), Fail> {
         (
             "a job whose flags are wider than a descriptor's",
             wide,
-            "opcode ff flags 12345678 source 1 target 18446744073709551615 size 4294967295 extra 2 delta 3 expected 255",
+            "opcode ff flags 12345678 source 1 target 18446744073709551615 size 4294967295 extra 2 delta 3 \
+             expected 255",
         ),
     ] {
         assert_eq!(rt; job_text(rt.alloc(), &job)?.as_str(), line, "at {name}");

@@ -1,10 +1,10 @@
 //! Jobs carried out on an image, each as one chunk.
-ghost use Rattle.std.specs.Prelude.{◌≡◌, ◌↔◌, ◌⊎◌, ◌≤◌, ℕ, List, [], Some, IsTrue};
+ghost use Rattle.std.specs.Prelude.{◌≡◌, ◌↔◌, ◌⊎◌, ◌<◌, ◌≤◌, ℕ, List, [], None, Some, IsTrue};
 ghost use Rattle.dml_types.specs.declared.operations.Op.TheVariants.{Compare, ComparePattern, Dualcast, Fill, Move};
 ghost use Rattle.dml_types.specs.declared.operations.Op.TheVariants.{ApplyDelta, CreateDelta};
 ghost use Rattle.dml_types.specs.Job.{op_of};
 ghost use Rattle.dml_types.specs.Memory.{puts_made};
-ghost use Rattle.dml_types.specs.Refusal.{need};
+ghost use Rattle.dml_types.specs.Refusal.{need, refusal};
 ghost use Rattle.dml_types.specs.Step.{step};
 ghost use Rattle.dml_desc.specs.Checked.{checked_step};
 ghost use Rattle.dml_types.specs.declared.operations.Direction.TheVariants.{Forward};
@@ -57,16 +57,24 @@ pub fn submit_straight_to(image: &mut Image, job: &Job, staging: u32) -> Record
 
 /// Whether a job that is carried out as one chunk takes staging: it is a create or an apply that is not refused, and has
 /// bytes to stage. Any other job goes straight within the image, or is refused.
-#[tactic(auto, using(dml_desc::proofs::CheckedLemmas::need_within))]
+#[inline(always)]
 pub fn takes_staging(job: &Job, staging: u32) -> bool
     ensures { IsTrue result ↔ TakesStaging job.now staging }
 {
     match job.op() {
-        Some(Op::CreateDelta | Op::ApplyDelta) => {
-            dml_desc::need(job) > 0 && check(job, staging).is_ok()
-        }
+        Some(Op::CreateDelta | Op::ApplyDelta) => needs_some(job, staging),
         _ => false,
     }
+}
+
+/// Whether a job is not refused, and needs a byte of staging at least. It stands apart, so that other jobs than creates
+/// and applies go past it quickly.
+#[tactic(auto, using(dml_desc::proofs::CheckedLemmas::need_within))]
+fn needs_some(job: &Job, staging: u32) -> bool
+    ensures { IsTrue result
+        ↔ (refusal job.now staging ≡ None) × (0 < need job.now) × (need job.now ≤ staging) }
+{
+    dml_desc::need(job) > 0 && check(job, staging).is_ok()
 }
 
 /// Carries out a job as one chunk, and returns its completion record. Nothing is allocated.

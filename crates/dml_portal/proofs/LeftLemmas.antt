@@ -1,9 +1,8 @@
 -- How many jobs are left, which each round of a settlement makes fewer.
-use Rattle.std.proofs.Common.{zero, suc, ◌≡◌, ℕ, ◌+◌, ◌-◌, ◌<◌, ◌≤◌, List, [], ◌∷◌, ◌++◌, length, get_or, map, take, sym, ◌∙◌, ap, subst, arith, ⊎_elim}
+use Rattle.std.proofs.Common.{zero, suc, ◌≡◌, ℕ, ◌+◌, ◌-◌, ◌<◌, ◌≤◌, List, [], ◌∷◌, length, get_or, take, ◌∙◌, ap, subst, arith, ⊎_elim}
 use Rattle.std.proofs.lemmas.List.{get_or_default, length-append, length-map}
 use Rattle.std.proofs.lemmas.List.Sums.{sum_by-cons}
 use Rattle.std.specs.List.{sum_by}
-use Rattle.rtrb.specs.Ring.{received}
 use Rattle.dml_portal.specs.Types.{Job, LogEntry}
 use Rattle.dml_portal.specs.Log.{added, jobs_in, part_of}
 use Rattle.dml_portal.specs.Seats.{submitted}

@@ -12,7 +12,7 @@ use Rattle.dml_types.specs.declared.operations.Op.{Op}
 use Rattle.dml_types.specs.declared.operations.Op.TheVariants.{NoOp, Move, Fill, Compare, ComparePattern, CreateDelta, ApplyDelta, Dualcast}
 use Rattle.dml_types.specs.declared.statuses.Status.TheVariants.{Success}
 use Rattle.dml_types.specs.Memory.{first, Memory, IsWhole, Put, has, has_all, bytes_at, worked_offset, present_bytes, put_of, puts_made}
-use Rattle.dml_types.specs.Job.{op_of}
+use Rattle.dml_types.specs.Job.{op_of, unfenced}
 use Rattle.dml_types.specs.Effect.{code_of, Fault, is_clear, first_fault, read_fault, stopped_at, faulted, ended, judged}
 use Rattle.dml_types.specs.Bytewise.{pattern_bytes, operation_direction, lowest_done, result_of, faults_at, length_of, moved, dualcast, filled, compare_answer, compared, passes}
 use Rattle.dml_types.specs.Chunk.{fault_found, scan_done, scan_found, scan_staged, scan_offset}
@@ -22,7 +22,7 @@ use Rattle.dml_types.proofs.FirstLemmas.{first_le, first_agree, fails_before}
 use Rattle.dml_types.proofs.MemoryLemmas.{bytes_at_none, has_all_from, has_all_within, length_bytes_at, present_front}
 use Rattle.dml_types.proofs.MoveLemmas.{move_clear, move_within}
 use Rattle.dml_desc.specs.Checked.{checked_effect, checked_step, IsChecked, KeepsRules}
-use Rattle.dml_desc.proofs.CheckedLemmas.{checked_by_rules, checked_where_accepted, need_within, checked_effect_is, checked_step_is, effect_with, unfenced_where_accepted}
+use Rattle.dml_desc.proofs.CheckedLemmas.{checked_by_rules, checked_where_accepted, checked_where_accepted_free, need_within, need_within_free, checked_effect_is, checked_step_is, effect_with, unfenced_where_accepted}
 use Rattle.dml_image.proofs.PatternLemmas.{length_pattern_bytes, pattern_bytes_none}
 use Rattle.dml_scan.specs.Found.{done_count}
 use Rattle.dml_scan.proofs.ReachLemmas.{found_all, blocked_at, done_found, scan_done_within}
@@ -423,3 +423,11 @@ effect_at_need memory job staging accepted =
 
 pub need_under : (job : Job) (staging size : ℕ) → refusal job staging ≡ None → staging ≤ size → need job ≤ size
 need_under job staging size accepted enough = omega (arith, need_within job staging accepted)
+
+-- and a job of a batch does what it does without its fence
+pub effect_of_fenced : (memory : Memory) (job : Job) (staging : ℕ) → refusal (unfenced job) staging ≡ None → effect memory (unfenced job) staging ≡ checked_effect memory job
+effect_of_fenced memory job staging accepted =
+    effect_with memory job staging (checked_where_accepted_free job staging accepted) (need_within_free job staging accepted)
+
+pub fenced_need_under : (job : Job) (staging size : ℕ) → refusal (unfenced job) staging ≡ None → staging ≤ size → need job ≤ size
+fenced_need_under job staging size accepted enough = omega (arith, need_within_free job staging accepted)

@@ -2,7 +2,7 @@
 ghost use Rattle.std.specs.Prelude.{◌≡◌, ◌↔◌, ◌⊎◌, ◌<◌, ◌≤◌, ℕ, List, [], None, Some, IsTrue};
 ghost use Rattle.dml_types.specs.declared.operations.Op.TheVariants.{Compare, ComparePattern, Dualcast, Fill, Move};
 ghost use Rattle.dml_types.specs.declared.operations.Op.TheVariants.{ApplyDelta, CreateDelta};
-ghost use Rattle.dml_types.specs.Job.{op_of};
+ghost use Rattle.dml_types.specs.Job.{op_of, unfenced};
 ghost use Rattle.dml_types.specs.Memory.{puts_made};
 ghost use Rattle.dml_types.specs.Refusal.{need, refusal};
 ghost use Rattle.dml_types.specs.Step.{step};
@@ -18,7 +18,7 @@ use crate::effects::{Effect, Puts, commit};
 use crate::records::{by_fields, copied_record, ended, scanned_record};
 use dml_arena::{Arena, Region};
 use dml_delta::{scan_apply, scan_create};
-use dml_desc::{Checked, check};
+use dml_desc::{Checked, check, check_in_batch};
 use dml_image::Image;
 use dml_scan::{
     compare_found, compare_pattern_found, dualcast_found, fill_found, move_found, work_direction,
@@ -42,7 +42,21 @@ pub fn submit_to(image: &mut Image, arena: &mut Arena, job: &Job, staging: u32) 
     }
 }
 
-/// The same for a job that takes no staging.
+/// The same for a job of a batch, which may have the fence and is carried out without it.
+#[tactic(auto, using(crate::proofs::WholeLemmas::effect_of_fenced, crate::proofs::WholeLemmas::fenced_need_under))]
+pub fn submit_in_batch_to(image: &mut Image, arena: &mut Arena, job: &Job, staging: u32) -> Record
+    requires staging { staging ≤ arena.old.size }
+    ensures image { image.new ≡ (step image.old (unfenced job.now) staging).0 }
+    ensures answer { result ≡ (step image.old (unfenced job.now) staging).1 }
+    ensures arena { arena.new ≡ arena.old }
+{
+    match check_in_batch(job, staging) {
+        Ok(checked) => by_fields(carry_out(image, arena, &checked)),
+        Err(reason) => Record::refused(reason),
+    }
+}
+
+/// Checks a job that takes no staging and carries it out, or answers its refusal.
 #[tactic(auto, using(crate::proofs::WholeLemmas::effect_at_need, crate::proofs::WholeLemmas::need_under))]
 pub fn submit_straight_to(image: &mut Image, job: &Job, staging: u32) -> Record
     requires staging { TakesStaging job.now staging → ⊥ }

@@ -26,7 +26,9 @@ mod tests;
 mod uses;
 
 pub use applying::join_apply;
-pub use carrying::{carry_out, carry_out_straight, submit_straight_to, submit_to, takes_staging};
+pub use carrying::{
+    carry_out, carry_out_straight, submit_in_batch_to, submit_straight_to, submit_to, takes_staging,
+};
 pub use creating::join_create;
 pub use effects::{Effect, commit};
 pub use joining::join_found;

@@ -139,8 +139,7 @@ impl<G> Engine<G> {
             if ends_before(jobs, records, i) {
                 return i;
             }
-            let free = jobs[i].unfenced();
-            records[i] = self.carry_out_alone(&free);
+            records[i] = self.carry_out_in_batch(&jobs[i]);
         }
         jobs.len()
     }

@@ -1,6 +1,5 @@
 use Rattle.std.proofs.Common.{◌≡◌, ◌+◌, ◌<◌, false, length, get_or, ap, sym, ◌∙◌, arith}
 use Rattle.std.proofs.lemmas.List.{length-set}
-use Rattle.dml_types.specs.declared.jobs.Job.{Job}
 use Rattle.dml_types.specs.declared.limits.Settings.{Settings}
 use Rattle.dml_types.specs.Job.{no_op_job, unfenced}
 use Rattle.dml_types.specs.Step.{ends_before, step}
@@ -16,15 +15,14 @@ loop-i-preserved g c =
     let known = c.loop-i.invariant in
     let below : i < length jobs = omega arith in
     let tested : ends_before jobs records i ≡ false = sym c.ends_before.ensures ∙ c.if-ends_before.false in
-    let job : c.unfenced-free.result ≡ unfenced (get_or jobs i no_op_job) = c.unfenced-free.ensures.job in
-    let image : c.carry_out_alone.new.self.image ≡ (step now.image (unfenced (get_or jobs i no_op_job)) c.args.self.now.settings.staging).0 =
-    c.carry_out_alone.ensures.image
-    ∙ (ap (λ (s : Settings). (step now.image c.unfenced-free.result s.staging).0) known.2 ∙ ap (λ (j : Job). (step now.image j c.args.self.now.settings.staging).0) job) in
-    let answer : c.carry_out_alone.result ≡ (step now.image (unfenced (get_or jobs i no_op_job)) c.args.self.now.settings.staging).1 =
-    c.carry_out_alone.ensures.answer
-    ∙ (ap (λ (s : Settings). (step now.image c.unfenced-free.result s.staging).1) known.2 ∙ ap (λ (j : Job). (step now.image j c.args.self.now.settings.staging).1) job) in (
-      carried_one c.args.self.now.image jobs c.args.self.now.settings.staging c.args.records.now c.requires.size i now.image c.carry_out_alone.new.self.image records c.carry_out_alone.result known.0 below tested image answer,
-      length-set records i c.carry_out_alone.result ∙ known.1,
-      c.carry_out_alone.ensures.settings ∙ known.2,
-      c.carry_out_alone.ensures.watched ∙ known.3,
+    let image : c.carry_out_in_batch.new.self.image ≡ (step now.image (unfenced (get_or jobs i no_op_job)) c.args.self.now.settings.staging).0 =
+    c.carry_out_in_batch.ensures.image
+    ∙ ap (λ (s : Settings). (step now.image (unfenced (get_or jobs i no_op_job)) s.staging).0) known.2 in
+    let answer : c.carry_out_in_batch.result ≡ (step now.image (unfenced (get_or jobs i no_op_job)) c.args.self.now.settings.staging).1 =
+    c.carry_out_in_batch.ensures.answer
+    ∙ ap (λ (s : Settings). (step now.image (unfenced (get_or jobs i no_op_job)) s.staging).1) known.2 in (
+      carried_one c.args.self.now.image jobs c.args.self.now.settings.staging c.args.records.now c.requires.size i now.image c.carry_out_in_batch.new.self.image records c.carry_out_in_batch.result known.0 below tested image answer,
+      length-set records i c.carry_out_in_batch.result ∙ known.1,
+      c.carry_out_in_batch.ensures.settings ∙ known.2,
+      c.carry_out_in_batch.ensures.watched ∙ known.3,
     )

@@ -96,7 +96,8 @@ awk '
             "submit_apply_entries:32768 tasks_wave:8192 tasks_alone:8192 each_page_moves:1 over_move:64 over_move:4096 levels_in_order:64 levels_in_order:1024 " \
             "levels_shuffled:64 levels_shuffled:128 levels_shuffled:256 levels_shuffled:512 levels_shuffled:1024 " \
             "levels_dualcasts:64 levels_dualcasts:1024 levels_one_source:1024 levels_many_cells:1024 " \
-            "levels_chain:1024 waves_in_order:1024 waves_chain:1024", row)
+            "levels_chain:1024 waves_in_order:1024 waves_chain:1024 ring_push:1024 seat_submit:1024 ring_pop:1024 " \
+            "seat_poll:1024 round_no_ops:1024 clients_list:128 clients_round:128 clients_whole:128", row)
         for (n = 1; n <= rows; n++) {
             split(row[n], part, ":")
             printf "%-24s %9d %12.1f\n", part[1], part[2], middle(part[1], part[2])
@@ -152,5 +153,10 @@ awk '
             if (part[1] ~ /^levels/ && part[2] == 1024)
                 bar(part[1] " of 1,024 jobs, in nanoseconds", middle(part[1], 1024), 500000)
         }
+        bar("try_submit, of a push to a bare ring", ratio("seat_submit", "ring_push", 1024), 3)
+        bar("poll, of a pop from a bare ring", ratio("seat_poll", "ring_pop", 1024), 3)
+        bar("round of 128 no-ops, in nanoseconds a job", middle("round_no_ops", 1024) / 1024, 150)
+        bar("round of eight clients, of the list", ratio("clients_round", "clients_list", 128), 1.3)
+        bar("the same with submits and polls, of the list", ratio("clients_whole", "clients_list", 128), 1.3)
         exit missed
     }' "$work/times"

@@ -1,6 +1,6 @@
 //! Times `Engine::submit` with one worker: moves, fills, dualcasts, compares, creates and applies; the calls of an
 //! image that they stand on; jobs over the caller's own pages; scans of creates and applies; levels and waves of lists;
-//! and `Engine::submit_list` with 1, 2 and 4 workers.
+//! `Engine::submit_list` with 1, 2 and 4 workers; and the seats and rounds of a portal.
 //!
 //! Each row of the standard error is a name, a number (a size in bytes, or the number of jobs, tasks or workers), and
 //! the nanoseconds of one call. Without arguments each job is timed once, and each list is one of two jobs, which shows
@@ -11,6 +11,7 @@
 ghost use Rattle.std.specs.Prelude.{◌≡◌, ◌<◌, ◌≤◌};
 ghost use Rattle.dml_types.specs.Step.{step};
 
+mod clients;
 mod deltas;
 mod lent;
 mod lists;
@@ -275,6 +276,7 @@ fn main(rt: HostRuntime) -> io::Result<()> {
     }
     waves::time_waves(&rt, alloc, engine.image(), if measures { 10 } else { 1 })?;
     let large = shapes::time_shapes(&rt, alloc, shapes::large_image(alloc)?, measures)?;
-    shapes::time_pays(&rt, alloc, large, if measures { 20 } else { 1 })?;
+    let large = shapes::time_pays(&rt, alloc, large, if measures { 20 } else { 1 })?;
+    clients::time_portals(&rt, alloc, large, if measures { 50 } else { 1 })?;
     println!(rt; "{} sizes", SIZES.len())
 }

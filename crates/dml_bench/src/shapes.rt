@@ -107,7 +107,7 @@ pub(crate) fn large_image(alloc: Global) -> io::Result<Image<'static>> {
 }
 
 /// An engine over an image, with chunks of 64 KiB; by a gate it has its workers begin however little work there is.
-fn engine_of(
+pub(crate) fn engine_of(
     alloc: Global,
     image: Image<'static>,
     workers: u32,
@@ -127,7 +127,7 @@ fn engine_of(
 
 /// Submits a list, by a call that the compiler keeps.
 #[inline(never)]
-fn listed<T: Threads + Wait + Sync>(
+pub(crate) fn listed<T: Threads + Wait + Sync>(
     rt: &T,
     alloc: Global,
     engine: &mut Engine,

@@ -168,3 +168,14 @@ pub opened_filled : (memory : Memory) (tasks : List Task) (slots : List (Option 
 opened_filled memory tasks slots all filled same =
     let is : filled.outcomes ≡ all = sym (same_outcomes all filled.outcomes (same ∙ filled.full)) in
     (subst (λ l. tasks_done l ≡ range_with_len 0 (length tasks)) is filled.order, subst (AreTaskValues memory tasks) is filled.values)
+
+pub filled_full : (memory : Memory) (tasks : List Task) (slots : List (Option Outcome)) → AreFilled memory tasks slots → All IsSome slots
+filled_full memory tasks slots filled = all_some slots filled.outcomes filled.full
+
+pub filled_order : (memory : Memory) (tasks : List Task) (slots : List (Option Outcome)) (all : List Outcome) → AreFilled memory tasks slots
+    → map (λ o. Some o) all ≡ slots → tasks_done all ≡ range_with_len 0 (length tasks)
+filled_order memory tasks slots all filled same = (opened_filled memory tasks slots all filled same).0
+
+pub filled_values : (memory : Memory) (tasks : List Task) (slots : List (Option Outcome)) (all : List Outcome) → AreFilled memory tasks slots
+    → map (λ o. Some o) all ≡ slots → AreTaskValues memory tasks all
+filled_values memory tasks slots all filled same = (opened_filled memory tasks slots all filled same).1

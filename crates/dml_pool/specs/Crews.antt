@@ -32,7 +32,12 @@ HasWorked memory post place outcomes =
     × ((view place).parts ≡ (view post.place).parts)
     × Accounts memory (view place) outcomes
 
--- so many workers may start at a bench: no task was taken yet, and there is a part for each
+-- a list with no outcome yet, and room for so many, and for no more
+abbrev pub IsEmptyList : ℕ → Vec Outcome Global → Type 0
+IsEmptyList room list = (list.items ≡ []) × (vec_capacity list ≡ room)
+
+-- so many workers may start at a bench: no task was taken yet, and there is a part for each, and a list with
+-- room for all tasks
 abbrev pub IsBench : Bench → ℕ → Type 0
 IsBench bench workers =
     (stealer_deque bench.thief.now ≡ worker_deque bench.owner)
@@ -41,7 +46,9 @@ IsBench bench workers =
     × (workers < (worker_view bench.owner).parts)
     × ((worker_view bench.owner).taken ≡ [])
     × All IsRunnable (worker_view bench.owner).tasks
-    × (bench.count ≡ length (worker_view bench.owner).tasks)
+    × (bench.lists.room ≡ length (worker_view bench.owner).tasks)
+    × (workers ≤ length bench.lists.free.items)
+    × All (IsEmptyList bench.lists.room) bench.lists.free.items
 
 -- what all of them leave: the owner with all parts again, and where no memory was refused an outcome for each
 -- task that they took, in a list with room for all
@@ -52,7 +59,7 @@ HaveWorked memory bench owner done =
     × ((worker_view owner).tasks ≡ (worker_view bench.owner).tasks)
     × ((worker_view owner).parts ≡ (worker_view bench.owner).parts)
     × IfOk done (λ list. Accounts memory (worker_view owner) list.items)
-    × IfOk done (λ list. bench.count ≤ vec_capacity list)
+    × IfOk done (λ list. bench.lists.room ≤ vec_capacity list)
 
 -- where the others' outcomes account for the owner's pass, and a worker's for its own, all do for both joined
 abbrev pub JoinAccounts : {E : Type 0} → Worker Numbered Global Hand Wave → Pass Numbered Hand Global

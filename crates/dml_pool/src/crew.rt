@@ -5,33 +5,33 @@ ghost use Rattle.crossbeam_deque.specs.Handles.{view, worker_view, worker_deque,
 ghost use Rattle.dml_pool.specs.Crews.{AccountAlone, HasWorked, HaveWorked, IsBench, IsPost, JoinAccounts, KeepsRoom};
 ghost use Rattle.dml_pool.specs.Rule.{Accounts};
 
+use crate::lists::Lists;
 use crate::rule::{Owner, Part, Place, Thief};
 use crate::worker::{Post, work};
 use crate::{Gate, Outcome};
 use dml_image::Image;
-use std::alloc::{AllocError, Global};
+use std::alloc::AllocError;
 use std::sync::Wait;
 use std::thread::{Threads, join};
 
-/// Both ends of a deque, and how many tasks were pushed.
+/// Both ends of a deque, and for each worker a list with room for the outcomes of all its tasks.
 #[derive(Drop)]
 pub struct Bench<'t, 'a> {
     pub thief: &'t Thief<'a>,
     pub owner: Owner<'a>,
-    pub count: usize,
+    pub lists: Lists<'a>,
 }
 
-/// Starts a worker for each level but the last, which is the calling thread's own, and joins them all. Before a worker
-/// starts, its list of outcomes is given room for all tasks, so that none takes memory while it works.
+/// Starts a worker for each level but the last, which is the calling thread's own, and joins them all. No memory is
+/// taken but for the threads, since each list has room for all outcomes.
 ///
 /// # Errors
 ///
-/// Where the allocator has no memory left for such a list. Every worker is joined then, too.
+/// Where the allocator has no memory left to join two lists. Every worker is joined then, too.
 #[cycle(levels)]
 #[tactic(auto, using(crate::proofs::Keeps::forks))]
 pub fn crew<'a, R: Threads + Wait + Sync, G: Gate + Sync>(
     rt: &R,
-    alloc: Global,
     image: &Image,
     gate: &G,
     workers: u32,
@@ -42,17 +42,14 @@ pub fn crew<'a, R: Threads + Wait + Sync, G: Gate + Sync>(
     ensures tasks { (worker_view result.0).tasks ≡ (worker_view bench.entry.owner).tasks }
     ensures parts { (worker_view result.0).parts ≡ (worker_view bench.entry.owner).parts }
     ensures done { IfOk result.1 (λ list. Accounts image.now (worker_view result.0) list.items) }
-    ensures room { IfOk result.1 (λ list. bench.entry.count ≤ vec_capacity list) }
+    ensures room { IfOk result.1 (λ list. bench.entry.lists.room ≤ vec_capacity list) }
 {
     let Bench {
         thief,
         mut owner,
-        count,
+        mut lists,
     } = bench;
-    let done = match Vec::with_capacity(alloc, count) {
-        Ok(done) => done,
-        Err(refused) => return (owner, Err(refused)),
-    };
+    let done = lists.next_list();
     let place = owner.another::<Part>();
     let post = Post { thief, place, done };
     if workers == 1 {
@@ -62,7 +59,7 @@ pub fn crew<'a, R: Threads + Wait + Sync, G: Gate + Sync>(
     let rest = Bench {
         thief,
         owner,
-        count,
+        lists,
     };
     let ((place, mine), (owner, others)) = join(
         rt,
@@ -73,13 +70,13 @@ pub fn crew<'a, R: Threads + Wait + Sync, G: Gate + Sync>(
         || -> (Owner, Result<Vec<Outcome>, AllocError>)
             requires { IsSync R.row × IsSync G.row × (1 < workers) × IsBench rest (workers - 1) }
             ensures { HaveWorked image.entry.now rest.entry result.0 result.1 }
-        { crew(rt, alloc, image, gate, workers - 1, rest) },
+        { crew(rt, image, gate, workers - 1, rest) },
     );
     gathered(owner, place, others, mine)
 }
 
 /// Joins a worker's pass.
-#[tactic(auto, using(crate::proofs::Keeps::merges))]
+#[tactic(auto, using(crate::proofs::Keeps::merges, crate::proofs::Works::accounts_alone))]
 fn absorbed<'a>(mut owner: Owner<'a>, place: Place<'a>) -> Owner<'a>
     requires table { IsPassOf (worker_deque owner) place }
     requires tasks { (view place).tasks ≡ (worker_view owner).tasks }

@@ -8,6 +8,7 @@ mod crew;
 mod filling;
 mod gate;
 mod kernels;
+mod lists;
 mod order;
 mod rule;
 mod tasks;

@@ -1,5 +1,5 @@
 //! Outcomes in the order of their tasks.
-ghost use Rattle.std.specs.Prelude.{◌≡◌, ℕ, IfOk, IsSome, Some, length, map};
+ghost use Rattle.std.specs.Prelude.{◌≡◌, ◌≤◌, ℕ, [], IfOk, IsSome, None, Some, length, map, replicate, vec_capacity};
 ghost use Rattle.std.specs.List.{All};
 ghost use Rattle.dml_pool.specs.Numbers.{times, once_below};
 ghost use Rattle.dml_pool.specs.Rule.{tasks_done};
@@ -8,49 +8,56 @@ ghost use Rattle.dml_pool.specs.Slots.{AreSlots};
 use crate::Outcome;
 use std::alloc::{AllocError, Global};
 
-/// A slot for each of `count` tasks, with its outcome.
+/// A slot for each of so many tasks, with no outcome yet.
 ///
 /// # Errors
 ///
 /// Where the allocator has no memory left for the list.
-pub fn slots_of<'a>(
+pub fn empty_slots<'a>(
     alloc: Global,
     count: usize,
-    done: Vec<Outcome<'a>>,
 ) -> Result<Vec<Option<Outcome<'a>>>, AllocError>
-    requires once { (x : ℕ) → times x (tasks_done done.items) ≡ once_below x count }
-    ensures count { IfOk result (λ slots. length slots.items ≡ count) }
-    ensures slots { IfOk result (λ slots. AreSlots done.entry.items slots.items) }
+    ensures { IfOk result (λ slots. slots.items ≡ replicate count None) }
 {
     let mut slots = Vec::with_capacity(alloc, count)?;
     for _ in 0..count {
         slots.push_reserved(None);
     }
+    Ok(slots)
+}
+
+/// Puts each outcome in the slot of its task.
+pub fn slots_of<'a>(
+    mut slots: Vec<Option<Outcome<'a>>>,
+    done: Vec<Outcome<'a>>,
+) -> Vec<Option<Outcome<'a>>>
+    requires empty { slots.items ≡ replicate (length slots.items) None }
+    requires once { (x : ℕ) → times x (tasks_done done.items) ≡ once_below x (length slots.items) }
+    ensures count { length result.items ≡ length slots.entry.items }
+    ensures slots { AreSlots done.entry.items result.items }
+{
     for outcome in done {
         let task = outcome.task as usize;
         slots[task] = Some(outcome);
     }
-    Ok(slots)
+    slots
 }
 
-/// What full slots hold.
-///
-/// # Errors
-///
-/// Where the allocator has no memory left for the list.
+/// What full slots hold, behind one another in a list with room for it.
 pub fn opened<'a>(
-    alloc: Global,
     slots: Vec<Option<Outcome<'a>>>,
-) -> Result<Vec<Outcome<'a>>, AllocError>
-    requires { All IsSome slots.items }
-    ensures { IfOk result (λ all. map (λ outcome. Some outcome) all.items ≡ slots.entry.items) }
+    mut all: Vec<Outcome<'a>>,
+) -> Vec<Outcome<'a>>
+    requires full { All IsSome slots.items }
+    requires empty { all.items ≡ [] }
+    requires room { length slots.items ≤ vec_capacity all }
+    ensures { map (λ outcome. Some outcome) result.items ≡ slots.entry.items }
 {
-    let mut all = Vec::with_capacity(alloc, slots.len())?;
     for slot in slots {
         match slot {
             Some(outcome) => all.push_reserved(outcome),
             None => unreachable!(),
         }
     }
-    Ok(all)
+    all
 }

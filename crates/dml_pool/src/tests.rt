@@ -11,6 +11,7 @@ use dml_image::{Image, ImageError};
 use dml_scan::Found;
 use dml_types::{Job, Op};
 use std::alloc::{AllocError, Global};
+use std::mem;
 use std::process::Abort;
 use std::sync::Wait;
 use std::sync::atomic::{AtomicU64, Ordering};
@@ -349,8 +350,8 @@ fn made_and_dropped(rt: &impl Abort, alloc: Global) -> Result<(), Fail> {
     Ok(())
 }
 
-/// The outcomes of the fills on so many workers, or want of memory with every worker joined.
-fn wave_or_refused<R: Abort + Threads + Wait + Sync>(rt: &R, alloc: Global, workers: u32)
+/// The outcomes of the fills on so many workers, or want of memory with no task begun.
+fn wave_or_refused<R: Abort + Clock + Threads + Wait + Sync>(rt: &R, alloc: Global, workers: u32)
     requires { (1 ≤ workers) × (workers ≤ 16) }
 {
     let Ok(image) = image(alloc) else {
@@ -362,14 +363,16 @@ fn wave_or_refused<R: Abort + Threads + Wait + Sync>(rt: &R, alloc: Global, work
     let Ok(tasks) = tasks_of(rt, alloc, &fills(), arena.open()) else {
         return;
     };
-    match run_wave(rt, alloc, &image, tasks, workers, &Free) {
+    let gate = Meeting::new(rt, [0; 4]);
+    match run_wave(rt, alloc, &image, tasks, workers, &gate) {
         Ok(outcomes) => {
             assert_eq!(rt; outcomes.len(), 40);
             for task in 0..40 {
                 assert_eq!(rt; scan_at(&outcomes, task as usize), filled(task));
             }
+            assert_eq!(rt; gate.counts(), (0x101_0101, 0));
         }
-        Err(PoolError::Refused) => (),
+        Err(PoolError::Refused) => assert_eq!(rt; gate.counts(), (0, 0)),
     }
 }
 
@@ -391,6 +394,12 @@ fn set_up_of_run_wave_of_three(rt: HostRuntime) -> Result<(), Fail> {
 #[test]
 fn refused_run_wave_of_three(rt: HostRuntime) {
     wave_or_refused(&rt, rt.alloc(), 3);
+}
+
+/// What a list of outcomes takes is known: 131,072 tasks with 16 workers ask for 160 MiB.
+#[test]
+fn bytes_of_an_outcome(rt: HostRuntime) {
+    assert_eq!(rt; mem::size_of::<Outcome<'static>>(), 80);
 }
 
 #[test]

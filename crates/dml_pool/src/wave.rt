@@ -10,7 +10,8 @@ ghost use Rattle.dml_pool.specs.Tasks.{IsRunnable};
 
 use crate::crew::{Bench, crew};
 use crate::filling::filled;
-use crate::order::{opened, slots_of};
+use crate::lists::Lists;
+use crate::order::{empty_slots, opened, slots_of};
 use crate::rule::Whole;
 use crate::worker::{Post, work};
 use crate::{Gate, Outcome, Task};
@@ -23,7 +24,7 @@ use thiserror::Error;
 /// Why a wave has no outcomes.
 #[derive(Clone, Copy, PartialEq, Eq, Debug, Error)]
 pub enum PoolError {
-    /// The allocator has no memory left for the deque or for a list of outcomes.
+    /// The allocator has no memory left for the deque, for a list of outcomes or for the slots.
     #[error("out of memory")]
     Refused,
 }
@@ -42,7 +43,9 @@ impl From<AllocError> for PoolError {
 ///
 /// # Errors
 ///
-/// `Refused` where the allocator has no memory left. Every worker was joined; the tasks are gone with their regions.
+/// `Refused` where the allocator has no memory left; the tasks are gone with their regions. All memory but that of the
+/// threads is taken before the first worker starts.
+#[tactic(auto, using(crate::proofs::Orders::filled_full, crate::proofs::Orders::filled_order, crate::proofs::Orders::filled_values))]
 pub fn run_wave<'a, R: Threads + Wait + Sync, G: Gate + Sync>(
     rt: &R,
     alloc: Global,
@@ -58,8 +61,9 @@ pub fn run_wave<'a, R: Threads + Wait + Sync, G: Gate + Sync>(
     ensures order { IfOk result (λ outcomes. tasks_done outcomes.items ≡ range_with_len 0 (length tasks.entry.items)) }
     ensures values { IfOk result (λ outcomes. AreTaskValues image.now tasks.entry.items outcomes.items) }
 {
+    let all = Vec::with_capacity(alloc, tasks.len())?;
     let slots = run_wave_into_slots(rt, alloc, image, tasks, workers, gate)?;
-    Ok(opened(alloc, slots)?)
+    Ok(opened(slots, all))
 }
 
 /// As `run_wave`, but each outcome stays in a slot of its own, so that it can be taken out where it is. No slot is
@@ -80,19 +84,22 @@ pub fn run_wave_into_slots<'a, R: Threads + Wait + Sync, G: Gate + Sync>(
     requires most_workers { workers ≤ 16 }
     requires most_tasks { length tasks.items ≤ 131072 }
     requires runnable { All IsRunnable tasks.items }
-    ensures { IfOk result (λ slots. AreFilled image.now tasks.entry.items slots.items) }
+    ensures count { IfOk result (λ slots. length slots.items ≡ length tasks.entry.items) }
+    ensures filled { IfOk result (λ slots. AreFilled image.now tasks.entry.items slots.items) }
 {
     let count = tasks.len();
     let workers = workers.min(count as u32).max(1);
+    let lists = Lists::new(alloc, workers, count)?;
+    let slots = empty_slots(alloc, count)?;
     let owner = filled(alloc, tasks)?;
     let thief = owner.stealer()?;
     let bench = Bench {
         thief: &thief,
         owner,
-        count,
+        lists,
     };
-    let done = all_done(rt, alloc, image, gate, workers, bench)?;
-    Ok(slots_of(alloc, count, done)?)
+    let done = all_done(rt, image, gate, workers, bench)?;
+    Ok(slots_of(slots, done))
 }
 
 /// The outcomes of all tasks of a deque, in no order.
@@ -101,7 +108,6 @@ pub fn run_wave_into_slots<'a, R: Threads + Wait + Sync, G: Gate + Sync>(
 #[tactic(auto, using(crate::proofs::Keeps::forks_whole))]
 fn all_done<'a, R: Threads + Wait + Sync, G: Gate + Sync>(
     rt: &R,
-    alloc: Global,
     image: &Image,
     gate: &G,
     workers: u32,
@@ -109,11 +115,11 @@ fn all_done<'a, R: Threads + Wait + Sync, G: Gate + Sync>(
 ) -> Result<Vec<Outcome<'a>>, AllocError>
     requires bench { IsBench bench workers }
     requires whole { (worker_view bench.owner).parts ≡ all_parts }
-    ensures once { IfOk result (λ done. (x : ℕ) → times x (tasks_done done.items) ≡ once_below x bench.entry.count) }
+    ensures once { IfOk result (λ done. (x : ℕ) → times x (tasks_done done.items) ≡ once_below x bench.entry.lists.room) }
     ensures done { IfOk result (λ done. All (IsDone image.now (worker_view bench.entry.owner).tasks) done.items) }
 {
     let thief = bench.thief;
-    let (mut owner, done) = crew(rt, alloc, image, gate, workers, bench);
+    let (mut owner, done) = crew(rt, image, gate, workers, bench);
     let done = done?;
     let place = owner.another::<Whole>();
     let (_, done) = work(rt, image, gate, Post { thief, place, done });

@@ -1,11 +1,9 @@
 -- The effects of a wave's jobs, found one after another.
-use Rattle.std.proofs.Common.{◌≡◌, ◌≢◌, ℕ, ◌+◌, ◌<◌, ◌≤◌, Bool, true, List, [], ◌∷◌, ◌++◌, length, take, drop, get_or, Option, cond, refl, sym, ◌∙◌, ap, subst, arith}
+use Rattle.std.proofs.Common.{◌≡◌, ℕ, ◌+◌, ◌<◌, ◌≤◌, Bool, true, false, List, [], ◌∷◌, ◌++◌, length, take, drop, get_or, Option, cond, refl, sym, ◌∙◌, ap, subst, arith}
 use Rattle.std.specs.List.{AllZip}
 use Rattle.std.proofs.lemmas.List.{append-nil, drop-drop, drop_more, length-drop, take_more}
 use Rattle.std.proofs.lemmas.List.Elements.{filter-append}
 use Rattle.dml_types.specs.declared.jobs.Job.{Job}
-use Rattle.dml_types.specs.declared.operations.Op.{Op}
-use Rattle.dml_types.specs.declared.operations.Op.TheVariants.{NoOp, Move, Fill, Compare, ComparePattern, CreateDelta, ApplyDelta, Dualcast}
 use Rattle.dml_types.specs.Memory.{Memory}
 use Rattle.dml_desc.specs.Checked.{operation_of}
 use Rattle.dml_levels.specs.Tasks.{task_count}
@@ -20,16 +18,6 @@ all_zip_push R [] [] x y all here = (here, tt)
 all_zip_push R [] (b ∷ ys) x y all here = absurd all
 all_zip_push R (a ∷ xs) [] x y all here = absurd all
 all_zip_push R (a ∷ xs) (b ∷ ys) x y all here = (all.0, all_zip_push R xs ys x y all.1 here)
-
-is_busy_op : (op : Op) → op ≢ NoOp → is_busy op ≡ true
-is_busy_op NoOp working = absurd (working refl)
-is_busy_op Move working = refl
-is_busy_op Fill working = refl
-is_busy_op Compare working = refl
-is_busy_op ComparePattern working = refl
-is_busy_op CreateDelta working = refl
-is_busy_op ApplyDelta working = refl
-is_busy_op Dualcast working = refl
 
 module _ (memory : Memory) (jobs : List Job) (chunk : ℕ) (wave : List ℕ) (index : ℕ) (below : index < length wave) where
   abbrev place : ℕ
@@ -59,17 +47,17 @@ module _ (memory : Memory) (jobs : List Job) (chunk : ℕ) (wave : List ℕ) (in
       ap (busy jobs) (take_more wave index 0 below)
       ∙ filter-append (λ i. is_busy (operation_of (job_at jobs i))) (take index wave) (place ∷ [])
 
-  pub found_more : (effects : List JobEffect) (done : JobEffect) → AllZip (IsEffectAt memory jobs) (busy jobs (take index wave)) effects → operation_of (job_at jobs place) ≢ NoOp → IsEffectAt memory jobs place done
+  pub found_more : (effects : List JobEffect) (done : JobEffect) → AllZip (IsEffectAt memory jobs) (busy jobs (take index wave)) effects → is_busy (operation_of (job_at jobs place)) ≡ true → IsEffectAt memory jobs place done
       → AllZip (IsEffectAt memory jobs) (busy jobs (take (index + 1) wave)) (effects ++ done ∷ [])
   found_more effects done found working is =
       subst (λ (places : List ℕ). AllZip (IsEffectAt memory jobs) places (effects ++ done ∷ []))
-      (sym (busy_more ∙ ap (λ (b : Bool). busy jobs (take index wave) ++ cond b (place ∷ []) []) (is_busy_op (operation_of (job_at jobs place)) working)))
+      (sym (busy_more ∙ ap (λ (b : Bool). busy jobs (take index wave) ++ cond b (place ∷ []) []) working))
       (all_zip_push (IsEffectAt memory jobs) (busy jobs (take index wave)) effects place done found is)
 
-  pub found_same : (effects : List JobEffect) → AllZip (IsEffectAt memory jobs) (busy jobs (take index wave)) effects → operation_of (job_at jobs place) ≡ NoOp
+  pub found_same : (effects : List JobEffect) → AllZip (IsEffectAt memory jobs) (busy jobs (take index wave)) effects → is_busy (operation_of (job_at jobs place)) ≡ false
       → AllZip (IsEffectAt memory jobs) (busy jobs (take (index + 1) wave)) effects
   found_same effects found idle =
       subst (λ (places : List ℕ). AllZip (IsEffectAt memory jobs) places effects)
       (sym (busy_more
-      ∙ (ap (λ (op : Op). busy jobs (take index wave) ++ cond (is_busy op) (place ∷ []) []) idle ∙ append-nil (busy jobs (take index wave)))))
+      ∙ (ap (λ (b : Bool). busy jobs (take index wave) ++ cond b (place ∷ []) []) idle ∙ append-nil (busy jobs (take index wave)))))
       found

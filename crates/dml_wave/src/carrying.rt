@@ -1,15 +1,16 @@
 //! A wave of jobs, from its tasks to its records.
-ghost use Rattle.std.specs.Prelude.{◌≡◌, ◌<◌, ◌≤◌, length, OnOk, OnErr};
-ghost use Rattle.std.specs.List.{All};
+ghost use Rattle.std.specs.Prelude.{◌≡◌, ◌<◌, ◌≤◌, [], length, IfOk, OnOk, OnErr};
+ghost use Rattle.std.specs.List.{All, AllZip};
 ghost use Rattle.dml_types.specs.Limits.{IsValid};
 ghost use Rattle.dml_levels.specs.Waves.{IsSmall};
-ghost use Rattle.dml_wave.specs.Waves.{AreApart, HasRun};
+ghost use Rattle.dml_wave.specs.Effects.{IsEffectAt};
+ghost use Rattle.dml_wave.specs.Waves.{AreApart, HasRun, busy};
 
 use crate::WaveError;
 use crate::committing::commit_all;
 use crate::cutting::cut_tasks;
-use crate::effects::effects_of;
-use dml_arena::Arena;
+use crate::effects::{JobEffect, effects_of};
+use dml_arena::{Arena, Region};
 use dml_desc::Checked;
 use dml_image::Image;
 use dml_pool::{Gate, PoolError, run_wave_into_slots};
@@ -37,7 +38,8 @@ impl From<PoolError> for WaveError {
 ///
 /// # Errors
 ///
-/// `NoMemory` where the allocator has no memory left. Nothing is changed.
+/// `NoMemory` where the allocator has no memory left. Nothing is changed. All memory but that of the threads is taken
+/// before the first worker starts.
 pub fn carry_out_wave<R: Threads + Wait + Sync, G: Gate + Sync>(
     rt: &R,
     alloc: Global,
@@ -61,9 +63,35 @@ pub fn carry_out_wave<R: Threads + Wait + Sync, G: Gate + Sync>(
 {
     let _pages = image.pages(); // its contract says that the image is whole
     let room = arena.open();
-    let tasks = cut_tasks(alloc, jobs, wave, settings.chunk, room)?;
-    let mut slots = run_wave_into_slots(rt, alloc, image, tasks, settings.workers, gate)?;
-    let effects = effects_of(alloc, image, jobs, wave, settings.chunk, &mut slots)?;
+    let effects = find_effects(rt, alloc, gate, settings, image, jobs, wave, room)?;
     commit_all(image, effects, records);
     Ok(())
+}
+
+/// The effects of the jobs at a wave's places on the image as it stands, found on at most `workers` threads.
+///
+/// # Errors
+///
+/// `NoMemory` where the allocator has no memory left.
+fn find_effects<'a, R: Threads + Wait + Sync, G: Gate + Sync>(
+    rt: &R,
+    alloc: Global,
+    gate: &G,
+    settings: &Settings,
+    image: &Image,
+    jobs: &[Checked],
+    wave: &[u32],
+    room: Region<'a>,
+) -> Result<Vec<JobEffect<'a>>, WaveError>
+    requires valid { IsValid settings.now }
+    requires empty { room.bytes ≡ [] }
+    requires staging { settings.now.staging ≤ room.room }
+    requires places { All (λ i. i < length jobs.now) wave.now }
+    requires small { IsSmall jobs.now settings.now.staging settings.now.chunk wave.now }
+    ensures { IfOk result (λ effects. AllZip (IsEffectAt image.now jobs.now) (busy jobs.now wave.now) effects.items) }
+{
+    let effects = Vec::with_capacity(alloc, wave.len())?;
+    let tasks = cut_tasks(alloc, jobs, wave, settings.chunk, room)?;
+    let mut slots = run_wave_into_slots(rt, alloc, image, tasks, settings.workers, gate)?;
+    Ok(effects_of(image, jobs, wave, settings.chunk, &mut slots, effects))
 }

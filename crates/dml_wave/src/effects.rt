@@ -1,10 +1,10 @@
 //! The effects of a wave's jobs.
-ghost use Rattle.std.specs.Prelude.{◌≡◌, ◌<◌, length, IfOk};
+ghost use Rattle.std.specs.Prelude.{◌≡◌, ◌<◌, ◌≤◌, [], length, vec_capacity};
 ghost use Rattle.std.specs.List.{All, AllZip};
 ghost use Rattle.dml_levels.specs.Tasks.{IsChunk};
 ghost use Rattle.dml_wave.specs.Effects.{HoldJob, HoldWave, IsEffectAt, IsEffectOf};
 ghost use Rattle.dml_wave.specs.Effects as word;
-ghost use Rattle.dml_wave.specs.Waves.{busy};
+ghost use Rattle.dml_wave.specs.Waves.{busy, is_busy};
 
 use dml_delta::{ApplyPiece, CreatePiece};
 use dml_desc::Checked;
@@ -14,7 +14,6 @@ use dml_levels::task_count;
 use dml_pool::{Outcome, Piece};
 use dml_scan::ScanPiece;
 use dml_types::Op;
-use std::alloc::{AllocError, Global};
 
 /// What the job at a place does.
 #[derive(Drop)]
@@ -25,42 +24,46 @@ pub(crate) struct JobEffect<'a> {
 
 /// The effects of the jobs at a wave's places on the image as it stands, in the wave's order. A no-op has none.
 ///
-/// The slots hold the outcomes of the jobs' tasks, job after job.
-///
-/// # Errors
-///
-/// Where the allocator has no memory left for the list.
+/// The slots hold the outcomes of the jobs' tasks, job after job. The effects go into a list that has room for them.
 pub(crate) fn effects_of<'a>(
-    alloc: Global,
     image: &Image,
     jobs: &[Checked],
     wave: &[u32],
     chunk: u32,
     slots: &mut [Option<Outcome<'a>>],
-) -> Result<Vec<JobEffect<'a>>, AllocError>
+    mut effects: Vec<JobEffect<'a>>,
+) -> Vec<JobEffect<'a>>
     requires places { All (λ i. i < length jobs.now) wave.now }
     requires chunk { IsChunk chunk }
     requires slots { HoldWave image.now jobs.now chunk wave.now slots.old }
-    ensures { IfOk result (λ effects. AllZip (IsEffectAt image.now jobs.now) (busy jobs.now wave.now) effects.items) }
+    requires empty { effects.items ≡ [] }
+    requires room { length wave.now ≤ vec_capacity effects }
+    ensures { AllZip (IsEffectAt image.now jobs.now) (busy jobs.now wave.now) result.items }
 {
-    let mut effects = Vec::with_capacity(alloc, wave.len())?;
     let mut from = 0;
     for place in wave {
         let job = &jobs[*place as usize];
         let to = from + task_count(job, chunk) as usize;
-        match job.op() {
-            Op::NoOp => {}
-            _ => {
-                let effect = effect_of(image, job, &mut slots[from..to]);
-                effects.push_reserved(JobEffect {
-                    place: *place,
-                    effect,
-                });
-            }
+        if is_busy(job.op()) {
+            let effect = effect_of(image, job, &mut slots[from..to]);
+            effects.push_reserved(JobEffect {
+                place: *place,
+                effect,
+            });
         }
         from = to;
     }
-    Ok(effects)
+    effects
+}
+
+/// Whether an operation does anything.
+fn is_busy(op: Op) -> bool
+    ensures { result ≡ is_busy op }
+{
+    match op {
+        Op::NoOp => false,
+        _ => true,
+    }
 }
 
 /// The effect of a job, whose tasks' outcomes are taken out of their slots.

@@ -300,8 +300,8 @@ fn set_up_of_waves(rt: HostRuntime) -> Result<(), Fail> {
     Ok(())
 }
 
-/// Once memory is refused to a wave, no later one goes to the workers: a third task enters in the second wave alone,
-/// and only where the first wave has entered.
+/// Once memory is refused to a wave, neither it nor a later one goes to the workers: tasks enter of both waves, one and
+/// then three, of the first alone, or of none.
 #[test]
 fn refused_waves(rt: HostRuntime) -> Result<(), Fail> {
     let counts = Counts::new();
@@ -323,9 +323,6 @@ fn refused_waves(rt: HostRuntime) -> Result<(), Fail> {
         Err(error) => assert_eq!(rt; error, SubmitError::NoMemory),
     }
     let (entered, _) = counts.both();
-    assert!(rt;
-        entered & 0x1_0000 == 0 || entered & 0xff == 2,
-        "{entered:x}"
-    );
+    assert!(rt; [0, 0x1, 0x1_0102].contains(&entered), "{entered:x}");
     Ok(())
 }

@@ -10,11 +10,12 @@ use dml_arena::Arena;
 use dml_desc::{Checked, check, need};
 use dml_image::{Image, ImageError};
 use dml_levels::{conflict, task_count};
-use dml_pool::Free;
+use dml_pool::{Free, Gate};
 use dml_types::{Job, Record, Settings, Status};
 use std::alloc::Global;
 use std::process::Abort;
 use std::sync::Wait;
+use std::sync::atomic::{AtomicU64, Ordering};
 use std::test::Fail;
 use std::thread::Threads;
 
@@ -86,10 +87,35 @@ const BLANK: Record = Record {
     delta_size: 7,
 };
 
-/// Carries out the jobs at a wave's places.
-fn carried<R: Abort + Threads + Wait + Sync>(
+/// A gate that counts the tasks that enter.
+#[derive(Drop)]
+struct Counting {
+    entered: AtomicU64,
+}
+
+impl Counting {
+    fn new() -> Counting {
+        Counting {
+            entered: AtomicU64::new(0),
+        }
+    }
+
+    fn count(&self) -> u64 {
+        self.entered.load(Ordering::SeqCst)
+    }
+}
+
+impl Gate for Counting {
+    fn enter(&self, _task: usize) {
+        self.entered.fetch_add(1, Ordering::SeqCst);
+    }
+}
+
+/// Carries out the jobs at a wave's places, each of whose tasks enters a gate.
+fn carried_past<R: Abort + Threads + Wait + Sync, G: Gate + Sync>(
     rt: &R,
     alloc: Global,
+    gate: &G,
     settings: &Settings,
     image: &mut Image,
     jobs: &[Checked],
@@ -101,8 +127,21 @@ fn carried<R: Abort + Threads + Wait + Sync>(
     assert!(rt; records.len() == jobs.len() && is_within(jobs.len(), wave));
     assert!(rt; are_apart(jobs, wave) && fits(jobs, wave, settings));
     carry_out_wave(
-        rt, alloc, &Free, settings, image, &mut arena, jobs, wave, records,
+        rt, alloc, gate, settings, image, &mut arena, jobs, wave, records,
     )
+}
+
+/// The same past no gate.
+fn carried<R: Abort + Threads + Wait + Sync>(
+    rt: &R,
+    alloc: Global,
+    settings: &Settings,
+    image: &mut Image,
+    jobs: &[Checked],
+    wave: &[u32],
+    records: &mut [Record],
+) -> Result<(), WaveError> {
+    carried_past(rt, alloc, &Free, settings, image, jobs, wave, records)
 }
 
 /// The jobs of a table, checked, with a no-op for each that is refused; its record is the refusal then, and blank else.
@@ -330,7 +369,7 @@ impl Scene {
     }
 }
 
-/// A wave of the mixed jobs on so many workers, or want of memory with nothing changed.
+/// A wave of the mixed jobs on so many workers, or want of memory with no task begun and nothing changed.
 fn wave_or_refused<R: Abort + Threads + Wait + Sync>(rt: &R, alloc: Global, workers: u32) {
     let Some(scene) = Scene::new(alloc) else {
         return;
@@ -347,12 +386,25 @@ fn wave_or_refused<R: Abort + Threads + Wait + Sync>(rt: &R, alloc: Global, work
         workers,
     };
     let wave = [0, 1, 2, 3, 4, 5, 6, 7, 8, 9];
-    match carried(rt, alloc, &settings, &mut image, &jobs, &wave, &mut records) {
+    let gate = Counting::new();
+    let done = carried_past(
+        rt,
+        alloc,
+        &gate,
+        &settings,
+        &mut image,
+        &jobs,
+        &wave,
+        &mut records,
+    );
+    match done {
         Ok(()) => {
+            assert!(rt; gate.count() > 0);
             assert_eq!(rt; records.as_slice(), mixed_records().as_slice());
             expect_done(rt, &image, &untouched);
         }
         Err(WaveError::NoMemory) => {
+            assert_eq!(rt; gate.count(), 0);
             assert!(rt; records.iter().all(|record| *record == BLANK));
             for addr in 0..32_768 {
                 assert_eq!(rt; image.byte(addr), untouched.byte(addr), "byte {addr}");

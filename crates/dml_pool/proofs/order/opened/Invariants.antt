@@ -1,4 +1,4 @@
-use Rattle.std.proofs.Common.{◌≡◌, ◌++◌, length, map, Some, vec_capacity}
+use Rattle.std.proofs.Common.{◌≡◌, ◌≤◌, ◌++◌, length, map, Some, vec_capacity}
 use Rattle.dml_pool.proofs.order.opened.Given as goal
 
 abbrev pub invariant-loop-slot : goal.invariant-loop-slot
@@ -8,5 +8,5 @@ invariant-loop-slot l =
       ends : (goal.iterator-loop-slot).is_finite l.slot-iterator;
       split : l.fn.slots.items ≡ l.yielded ++ l.slot-iterator.rest.items;
       opened : map (λ outcome. Some outcome) l.all.items ≡ l.yielded;
-      room : length l.fn.slots.items ≡ vec_capacity l.all;
+      room : length l.fn.slots.items ≤ vec_capacity l.all;
     }

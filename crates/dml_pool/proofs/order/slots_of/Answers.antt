@@ -1,4 +1,4 @@
-use Rattle.std.proofs.Common.{◌≡◌, List, [], ◌∷◌, ◌++◌, append_assoc, ap, sym, ◌∙◌, arith}
+use Rattle.std.proofs.Common.{◌≡◌, List, [], ◌∷◌, ◌++◌, length, append_assoc, ap, sym, ◌∙◌, arith}
 use Rattle.std.proofs.lemmas.List.{length-set}
 use Rattle.dml_pool.specs.declared.tasks.Outcome.{Outcome}
 use Rattle.dml_pool.proofs.Orders.{within, more_slots}
@@ -10,7 +10,7 @@ index_mut-requires c =
     let rest = c.next.new.self.rest.items in
     let split : c.args.done.items ≡ yielded ++ c.in-Some.outcome ∷ rest =
     c.loop-outcome.invariant.split ∙ ap (λ (l : List Outcome). yielded ++ l) c.in-Some.ensures.steps.0 in
-    let inside = within c.args.count c.args.done.items yielded c.in-Some.outcome rest c.requires.once split in
+    let inside = within (length c.args.slots.items) c.args.done.items yielded c.in-Some.outcome rest c.requires.once split in
     omega (arith, inside, c.loop-outcome.invariant.count, c.loop-outcome.slots.ok)
 
 pub loop-outcome-preserved : goal.loop-outcome-preserved
@@ -20,7 +20,7 @@ loop-outcome-preserved c =
     let rest = c.next.new.self.rest.items in
     let split : c.args.done.items ≡ yielded ++ outcome ∷ rest =
     c.loop-outcome.invariant.split ∙ ap (λ (l : List Outcome). yielded ++ l) c.in-Some.ensures.steps.0 in
-    let inside = within c.args.count c.args.done.items yielded outcome rest c.requires.once split in record {
+    let inside = within (length c.args.slots.items) c.args.done.items yielded outcome rest c.requires.once split in record {
       can = tt;
       ends = tt;
       split = split ∙ sym (append_assoc yielded (outcome ∷ []) rest);

@@ -11,19 +11,6 @@ use Rattle.dml_wave.proofs.CommitLemmas.{busy_apart, busy_enough, committed_all,
 use Rattle.dml_wave.proofs.ValueLemmas.{values_in, wave_held}
 use Rattle.dml_wave.proofs.carrying.carry_out_wave.Goals as goal
 
-pub effects_of-requires-clause-slots : goal.effects_of-requires-clause-slots
-effects_of-requires-clause-slots g c =
-    let memory = c.args.image.now in
-    let jobs = c.args.jobs.now in
-    let chunk = c.args.settings.now.chunk in
-    let wave = c.args.wave.now in
-    let tasks = c.in_ok-tasks.tasks.items in
-    let filled = c.in_ok-slots.ensures in
-    let slots : c.deref_mut.result.now ≡ map (λ (o : Outcome). Some o) filled.outcomes =
-    c.deref_mut.ensures.value ∙ filled.full in
-    subst (HoldWave memory jobs chunk wave) (sym slots)
-    (wave_held memory jobs chunk wave tasks (map (λ (o : Outcome). Some o) filled.outcomes) c.in_ok-tasks.ensures.tasks (values_in memory tasks filled.outcomes filled.values))
-
 pub commit_all-requires-clause-places : goal.commit_all-requires-clause-places
 commit_all-requires-clause-places g c =
     let jobs = c.args.jobs.now in

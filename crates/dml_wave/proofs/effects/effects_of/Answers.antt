@@ -1,4 +1,4 @@
-use Rattle.std.proofs.Common.{◌≡◌, ◌+◌, ◌<◌, ◌-◌, Option, List, Vec, Global, drop, take, get_or, vec_len, vec_capacity, length, refl, sym, ◌∙◌, ap, subst, arith}
+use Rattle.std.proofs.Common.{◌≡◌, ◌+◌, ◌<◌, ◌-◌, true, false, Option, List, Vec, Global, drop, take, get_or, vec_len, vec_capacity, length, refl, sym, ◌∙◌, ap, subst, arith}
 use Rattle.std.specs.Prelude.{unwrap_or}
 use Rattle.std.specs.List.{AllZip}
 use Rattle.std.proofs.lemmas.List.{get_or_default}
@@ -12,9 +12,9 @@ use Rattle.dml_levels.specs.Tasks.{task_count}
 use Rattle.dml_levels.specs.Waves.{job_at}
 use Rattle.dml_wave.specs.declared.effects.JobEffect.{JobEffect}
 use Rattle.dml_wave.specs.Effects.{HoldWave, IsEffectAt, IsEffectOf}
-use Rattle.dml_wave.specs.Waves.{busy}
+use Rattle.dml_wave.specs.Waves.{busy, is_busy}
 use Rattle.dml_wave.proofs.WaveLemmas.{held_within, held_behind, found_more, found_same}
-use Rattle.dml_wave.proofs.effects.effects_of.Goals.{in-NoOp, in_default}
+use Rattle.dml_wave.proofs.effects.effects_of.Goals.{then-is_busy, else-is_busy}
 use Rattle.dml_wave.proofs.effects.effects_of.Goals as goal
 
 pub loop-place-preserved : goal.loop-place-preserved
@@ -37,34 +37,38 @@ loop-place-preserved c =
     let operation : operation_of (job_at jobs place) ≡ c.op.result =
     ap operation_of (sym job) ∙ ap (λ (o : Option Op). unwrap_or o NoOp) c.op.ensures.rules.operation in
     let inside = held_within memory jobs chunk wave index below slots from to hold c.loop-place.invariant.within ends in
-    elim c.match-op.branch [
-      | in-NoOp w ↦
+    elim c.if-is_busy.branch [
+      | else-is_busy w ↦
+          let idle : is_busy (operation_of (job_at jobs place)) ≡ false =
+          ap is_busy operation ∙ (sym c.is_busy.ensures ∙ w.if-is_busy.false) in
           record {
             slots =
-                subst (λ n. HoldWave memory jobs chunk (drop (index + 1) wave) (drop n c.match-op.slots)) (sym w.from-is)
-                (held_behind memory jobs chunk wave index below slots c.match-op.slots from to hold ends (ap (drop to) w.slots-is));
-            within = omega (arith, inside, w.from-is, c.match-op.auto.slots);
+                subst (λ n. HoldWave memory jobs chunk (drop (index + 1) wave) (drop n c.if-is_busy.slots)) (sym w.from-is)
+                (held_behind memory jobs chunk wave index below slots c.if-is_busy.slots from to hold ends (ap (drop to) w.slots-is));
+            within = omega (arith, inside, w.from-is, c.if-is_busy.auto.slots);
             found =
                 subst (λ (v : Vec JobEffect Global). AllZip (IsEffectAt memory jobs) (busy jobs (take (index + 1) wave)) v.items) (sym w.effects-is)
-                (found_same memory jobs chunk wave index below c.loop-place.effects.items c.loop-place.invariant.found (operation ∙ w.in-NoOp.is));
+                (found_same memory jobs chunk wave index below c.loop-place.effects.items c.loop-place.invariant.found idle);
             few = omega (arith, ap (λ (v : Vec JobEffect Global). vec_len v) w.effects-is, c.loop-place.invariant.few);
-            room = ap (λ (v : Vec JobEffect Global). vec_capacity v) w.effects-is ∙ c.loop-place.invariant.room;
+            room = omega (arith, ap (λ (v : Vec JobEffect Global). vec_capacity v) w.effects-is, c.loop-place.invariant.room);
           }
-      | in_default w ↦
-          let kept : drop to c.match-op.slots ≡ drop to slots =
+      | then-is_busy w ↦
+          let kept : drop to c.if-is_busy.slots ≡ drop to slots =
           ap (drop to) w.slots-is ∙ drop-put_mid from (to - from) slots w.effect_of-effect.new.slots to (omega arith) c.loop-place.invariant.within (omega (arith, inside, w.effect_of-effect.auto.slots)) in
           let is : IsEffectAt memory jobs place (record { place = place; effect = w.effect_of-effect.result }) =
           record { place = refl; effect = subst (λ (j : Job). IsEffectOf memory j w.effect_of-effect.result) job w.effect_of-effect.ensures } in
+          let some : is_busy (operation_of (job_at jobs place)) ≡ true =
+          ap is_busy operation ∙ (sym c.is_busy.ensures ∙ w.if-is_busy.true) in
           record {
             slots =
-                subst (λ n. HoldWave memory jobs chunk (drop (index + 1) wave) (drop n c.match-op.slots)) (sym w.from-is)
-                (held_behind memory jobs chunk wave index below slots c.match-op.slots from to hold ends kept);
-            within = omega (arith, inside, w.from-is, c.match-op.auto.slots);
+                subst (λ n. HoldWave memory jobs chunk (drop (index + 1) wave) (drop n c.if-is_busy.slots)) (sym w.from-is)
+                (held_behind memory jobs chunk wave index below slots c.if-is_busy.slots from to hold ends kept);
+            within = omega (arith, inside, w.from-is, c.if-is_busy.auto.slots);
             found =
                 subst (λ (l : List JobEffect). AllZip (IsEffectAt memory jobs) (busy jobs (take (index + 1) wave)) l)
                 (sym (ap (λ (v : Vec JobEffect Global). v.items) w.effects-is ∙ w.push_reserved.ensures.items))
-                (found_more memory jobs chunk wave index below c.loop-place.effects.items _ c.loop-place.invariant.found (λ idle. w.in_default.not-NoOp (sym operation ∙ idle)) is);
+                (found_more memory jobs chunk wave index below c.loop-place.effects.items _ c.loop-place.invariant.found some is);
             few = omega (arith, ap (λ (v : Vec JobEffect Global). vec_len v) w.effects-is, w.push_reserved.ensures.len, c.loop-place.invariant.few);
-            room = ap (λ (v : Vec JobEffect Global). vec_capacity v) w.effects-is ∙ (w.push_reserved.ensures.capacity ∙ c.loop-place.invariant.room);
+            room = omega (arith, ap (λ (v : Vec JobEffect Global). vec_capacity v) w.effects-is, w.push_reserved.ensures.capacity, c.loop-place.invariant.room);
           }
     ]

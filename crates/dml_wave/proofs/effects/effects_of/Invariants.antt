@@ -11,5 +11,5 @@ invariant-loop-place l =
       within : l.from ≤ length l.slots;
       found : AllZip (IsEffectAt l.image l.jobs) (busy l.jobs (take l.place-index l.wave)) l.effects.items;
       few : vec_len l.effects ≤ l.place-index;
-      room : vec_capacity l.effects ≡ length l.wave;
+      room : length l.wave ≤ vec_capacity l.effects;
     }

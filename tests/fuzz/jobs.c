@@ -4,10 +4,6 @@
 #include <stdlib.h>
 #include <string.h>
 
-// The rule of fences, in one place. While it is false, a fence is refused with 0x11 everywhere; once it is true, a
-// batch accepts fences, each of which abandons the jobs from it on where an earlier job of the batch has failed.
-static const bool batches_have_fences = true;
-
 bool has(const struct image *image, whole address) {
     return address < (whole)image->pages * PAGE && image->present[address / PAGE];
 }
@@ -140,7 +136,7 @@ static bool has_range_past(const struct job *job) {
 
 uint8_t refusal(const struct job *job, uint64_t staging, bool in_batch) {
     uint32_t accepted = 0x02 | 0x04 | 0x08 | 0x80 | 0x100;
-    if (batches_have_fences && in_batch)
+    if (in_batch)
         accepted |= FLAG_FENCE;
     if (job->opcode != NO_OP && (job->opcode < MOVE || job->opcode > DUALCAST))
         return 0x10;
@@ -360,7 +356,7 @@ struct record step(struct image *image, const struct job *job, uint64_t staging,
 // ---- batches
 
 struct record batch_step(struct batch *batch, struct image *image, const struct job *job, uint64_t staging) {
-    if (batches_have_fences && (job->flags & FLAG_FENCE) != 0 && batch->has_failed)
+    if ((job->flags & FLAG_FENCE) != 0 && batch->has_failed)
         batch->is_abandoned = true;
     if (batch->is_abandoned)
         return (struct record){0x00, 0, 0, 0, 0};

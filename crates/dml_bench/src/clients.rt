@@ -200,7 +200,10 @@ fn shares_polled(seats: &mut Vec<Seat>) -> bool {
     let mut all = true;
     for seat in seats.iter_mut() {
         for _ in 0..SHARE {
-            all = seat.poll().is_some_and(|record| record.status == Status::Success) && all;
+            all = seat
+                .poll()
+                .is_some_and(|record| record.status == Status::Success)
+                && all;
         }
     }
     all

@@ -13,10 +13,7 @@ use std::alloc::{AllocError, Global};
 /// # Errors
 ///
 /// Where the allocator has no memory left for the list.
-pub fn empty_slots<'a>(
-    alloc: Global,
-    count: usize,
-) -> Result<Vec<Option<Outcome<'a>>>, AllocError>
+pub fn empty_slots<'a>(alloc: Global, count: usize) -> Result<Vec<Option<Outcome<'a>>>, AllocError>
     ensures { IfOk result (λ slots. slots.items ≡ replicate count None) }
 {
     let mut slots = Vec::with_capacity(alloc, count)?;
@@ -44,10 +41,7 @@ pub fn slots_of<'a>(
 }
 
 /// What full slots hold, behind one another in a list with room for it.
-pub fn opened<'a>(
-    slots: Vec<Option<Outcome<'a>>>,
-    mut all: Vec<Outcome<'a>>,
-) -> Vec<Outcome<'a>>
+pub fn opened<'a>(slots: Vec<Option<Outcome<'a>>>, mut all: Vec<Outcome<'a>>) -> Vec<Outcome<'a>>
     requires full { All IsSome slots.items }
     requires empty { all.items ≡ [] }
     requires room { length slots.items ≤ vec_capacity all }

@@ -5,11 +5,11 @@ mod gates;
 mod growths;
 mod portals;
 
-use portals::One;
 use crate::{Full, Portal, PortalError};
 use dml_engine::Engine;
 use dml_image::Image;
 use dml_types::{Job, Record, Settings, Status};
+use portals::One;
 use std::alloc::Global;
 use std::test::Fail;
 

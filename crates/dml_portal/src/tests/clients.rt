@@ -118,12 +118,7 @@ fn strangers(rt: HostRuntime) -> Result<(), Fail> {
 }
 
 /// Submits jobs and polls for so many turns: the seat, and the records that it has polled.
-fn polled(
-    rt: &impl Abort,
-    alloc: Global,
-    seat: Seat,
-    list: &[(Job, Record)],
-) -> (Seat, Vec<Record>)
+fn polled(rt: &impl Abort, alloc: Global, seat: Seat, list: &[(Job, Record)]) -> (Seat, Vec<Record>)
     ensures { IsSameSeat seat result.0 }
 {
     let mut seat = submitted(rt, seat, list);

@@ -91,8 +91,10 @@ fn every_submit_runs_at_once(rt: HostRuntime) -> Result<(), Fail> {
         let engine = engine_of_eight(rt.alloc())
             .ok_or("no memory")?
             .with_gate(gate);
-        let (mut server, mut seats) =
-            Portal::open(rt.alloc(), engine, 1, 2).map_err(|(_, error)| error)?;
+        let (mut server, mut seats) = Portal::open(rt.alloc(), engine, 1, 2).map_err(|(
+            _,
+            error,
+        )| error)?;
         let mut seat = seats.pop().ok_or("no seat")?;
         assert_eq!(rt; seat.try_submit(Job::fill(1, 0, 16)), Ok(()));
         assert_eq!(rt; seat.try_submit(Job::fill(2, 64, 8)), Ok(()));

@@ -55,11 +55,7 @@ impl One {
     }
 
     /// The client finishes, and the portal is settled.
-    pub(super) fn settle<R: Threads + Wait + Sync>(
-        self,
-        rt: &R,
-        alloc: Global,
-    ) -> Option<Settled> {
+    pub(super) fn settle<R: Threads + Wait + Sync>(self, rt: &R, alloc: Global) -> Option<Settled> {
         let One { server, seat } = self;
         let dones = vec![in alloc; seat.finish()].ok()?;
         server.settle(rt, alloc, dones).ok()
@@ -97,11 +93,7 @@ impl Two {
     }
 
     /// Both clients finish, and the portal is settled.
-    pub(super) fn settle<R: Threads + Wait + Sync>(
-        self,
-        rt: &R,
-        alloc: Global,
-    ) -> Option<Settled> {
+    pub(super) fn settle<R: Threads + Wait + Sync>(self, rt: &R, alloc: Global) -> Option<Settled> {
         let Two {
             server,
             first,

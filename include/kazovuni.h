@@ -108,15 +108,15 @@ bool kazovuni_rest(const uint8_t descriptor[64], const uint8_t record[32], uint8
  * Carries out a job over the caller's bytes and writes its completion record. The descriptor's addresses are offsets:
  * the bytes begin at address 0, all of their pages are present, and no other page is. A refused job changes no byte.
  * `staging` is the most that a job may need (kazovuni_need): above it the job is refused with 0x7e. Neither the
- * descriptor nor the record may lie in the bytes.
+ * descriptor nor the record may lie in the bytes. KAZOVUNI_NOT_PAGES, or KAZOVUNI_NO_MEMORY.
  */
 uint8_t kazovuni_submit_over(
     uint8_t *bytes, size_t length, const uint8_t descriptor[64], uint32_t staging, uint8_t record[32]);
 
 /*
  * Carries out the jobs of some descriptors one after another, and writes the completion record of each. There are
- * `jobs` descriptors of 64 bytes and `answers` records of 32, each behind the other: of `uint8_t descriptors[8][64]`
- * the first, `descriptors[0]`, is passed.
+ * `jobs` descriptors of 64 bytes and `answers` records of 32, each behind the other: of `uint8_t descriptors[8][64]`,
+ * `(const uint8_t *)descriptors` is passed. KAZOVUNI_NOT_PAGES, KAZOVUNI_NOT_AS_MANY, or KAZOVUNI_NO_MEMORY.
  */
 uint8_t kazovuni_submit_list_over(
     uint8_t *bytes, size_t length, const uint8_t *descriptors, size_t jobs, uint32_t staging, uint8_t *records,
@@ -127,7 +127,7 @@ uint8_t kazovuni_submit_list_over(
  * is taken off each address of the descriptor, and put back on the address of a page fault; both wrap at 2^64. Where
  * base and length together are at most 2^64, as those of real memory, an address below the base is past the end of the
  * pages: the job meets a page fault there as behind the end, or is refused with 0x7d where its range goes on over the
- * base.
+ * base. KAZOVUNI_NOT_PAGES, or KAZOVUNI_NO_MEMORY.
  */
 uint8_t kazovuni_submit_pointers(
     uint64_t base, uint8_t *bytes, size_t length, const uint8_t descriptor[64], uint32_t staging,
@@ -139,7 +139,7 @@ uint8_t kazovuni_submit_pointers(
  */
 uint8_t kazovuni_create(kazovuni_engine *engine, uint32_t pages, uint32_t staging);
 
-/* Frees the engine, if there is one, and zeroes the handle. */
+/* Frees the engine, if there is one, and zeroes the handle's fields. */
 void kazovuni_free(kazovuni_engine *engine);
 
 /*

@@ -16,7 +16,7 @@ constexpr uint32_t page_bytes = KAZOVUNI_PAGE_BYTES;
 using Descriptor = std::array<uint8_t, KAZOVUNI_DESCRIPTOR_BYTES>;
 using Record = std::array<uint8_t, KAZOVUNI_RECORD_BYTES>;
 
-// An engine; it is freed with the object, and stays where it is, since its handle may not be copied.
+// An engine; it is freed with the object, which is not copied: of two copies of a handle one alone may be used.
 class Engine {
 public:
     Engine(uint32_t pages, uint32_t staging) { expect(kazovuni_create(&handle, pages, staging)); }

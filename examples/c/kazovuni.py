@@ -31,7 +31,7 @@ class Record(ctypes.Structure):
 
 
 class Handle(ctypes.Structure):
-    """kazovuni_engine: zeroed at first, and never copied"""
+    """kazovuni_engine: zeroed at first; of two copies one alone may be used"""
     _fields_ = [("engine", ctypes.c_void_p), ("is_open", ctypes.c_bool)]
 
 

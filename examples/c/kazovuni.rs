@@ -106,8 +106,8 @@ pub fn submit_over(bytes: &mut [u8], descriptor: &Descriptor) -> Result<RecordBy
     done(record, answer)
 }
 
-/// An engine with an image of its own, whose pages are present or absent. The handle may not be copied, so it stands in
-/// a box; it is freed with the engine.
+/// An engine with an image of its own, whose pages are present or absent. Of two copies of a handle one alone may be
+/// used, so it stands in a box and is moved with it; it is freed with the engine.
 pub struct Engine(Box<Handle>);
 
 impl Engine {

@@ -1,4 +1,5 @@
 pub mod Batches
 pub mod Lists
 pub mod Loads
+pub mod Resuming
 pub mod State

@@ -8,6 +8,7 @@ mod errors;
 mod lists;
 mod loads;
 mod opening;
+mod resuming;
 mod submitting;
 
 pub use dml_resume::law_resume;

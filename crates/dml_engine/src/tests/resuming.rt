@@ -62,6 +62,7 @@ fn go_on<R: Abort + Threads + Wait + Sync, G: Gate + Sync>(
     row: &Row,
     engine: &mut Engine<G>,
 ) -> Result<(), Fail> {
+    engine.law_resume(&row.job, row.brought.0, &page_of(row.brought.1)); // does nothing
     let stopped = engine.submit(rt, alloc, row.job);
     assert_eq!(rt; stopped, row.stopped, "{:?}", row.job);
     engine.bring(row.brought.0, &page_of(row.brought.1))?;

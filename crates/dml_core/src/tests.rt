@@ -51,6 +51,17 @@ fn two_fills() -> [Step; 5] {
     ]
 }
 
+/// What both fills go on by: each task is done, and its wave committed.
+fn two_commits() -> [Step; 5] {
+    [
+        Step::Finish { worker: 0 },
+        Step::Commit,
+        Step::Take { worker: 0 },
+        Step::Finish { worker: 0 },
+        Step::Commit,
+    ]
+}
+
 #[test]
 fn one_job_world(rt: HostRuntime) -> Result<(), Fail> {
     let steps = [
@@ -115,14 +126,7 @@ fn two_clients_fetched_in_turn(rt: HostRuntime) -> Result<(), Fail> {
     let Ok(world) = world.replay(rt.alloc(), &two_fills()) else {
         return Err("a step was refused".into());
     };
-    let steps = [
-        Step::Finish { worker: 0 },
-        Step::Commit,
-        Step::Take { worker: 0 },
-        Step::Finish { worker: 0 },
-        Step::Commit,
-    ];
-    let Ok(world) = world.replay(rt.alloc(), &steps) else {
+    let Ok(world) = world.replay(rt.alloc(), &two_commits()) else {
         return Err("a step was refused".into());
     };
     assert_eq!(rt; world.image().byte(0), Some(1));
@@ -221,23 +225,37 @@ fn set_up_of_replay(rt: HostRuntime) -> Result<(), Fail> {
     Ok(())
 }
 
+/// The world before a step of `two_fills`, or of `two_commits` behind them.
+fn expect_before(rt: &impl Abort, world: &World, step: usize) {
+    assert_eq!(rt; world.sent(0).len(), step.min(1));
+    assert_eq!(rt; world.sent(1).len(), step.saturating_sub(1).min(1));
+    assert_eq!(rt; world.fetched().len(), step.saturating_sub(2).min(2));
+    let (byte, answered) = match step {
+        0..=6 => (0, 0),
+        7..=9 => (2, 1),
+        _ => (1, 2),
+    };
+    assert_eq!(rt; world.image().byte(0), Some(byte));
+    let answers = world
+        .fetched()
+        .iter()
+        .filter(|job| job.answer == Some(FILLED));
+    assert_eq!(rt; answers.count(), answered);
+}
+
 /// The world behind the steps, or the one before the step that found no memory.
 #[test]
 fn refused_replay(rt: HostRuntime) -> Result<(), Fail> {
     let world = world(rt.alloc(), 2).ok_or("no memory")?;
-    match world.replay(rt.alloc(), &two_fills()) {
-        Ok(world) => assert_eq!(rt; world.fetched().len(), 2),
-        Err((world, fault)) => {
-            let at = match fault {
-                StepFault::NoMemory(at) => at,
-                StepFault::NotAllowed(_) => return Err("a step was not allowed".into()),
-            };
-            assert!(rt; at < 5);
-            assert_eq!(rt; world.sent(0).len(), at.min(1));
-            assert_eq!(rt; world.sent(1).len(), at.saturating_sub(1).min(1));
-            assert_eq!(rt; world.fetched().len(), at.saturating_sub(2).min(2));
-            assert_eq!(rt; world.image().byte(0), Some(0));
-        }
-    }
+    let (world, done) = match world.replay(rt.alloc(), &two_fills()) {
+        Ok(world) => match world.replay(rt.alloc(), &two_commits()) {
+            Ok(world) => (world, 10),
+            Err((world, StepFault::NoMemory(at))) => (world, 5 + at),
+            Err(_) => return Err("a step was not allowed".into()),
+        },
+        Err((world, StepFault::NoMemory(at))) => (world, at),
+        Err(_) => return Err("a step was not allowed".into()),
+    };
+    expect_before(&rt, &world, done);
     Ok(())
 }

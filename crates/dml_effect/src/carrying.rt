@@ -94,6 +94,7 @@ fn needs_some(job: &Job, staging: u32) -> bool
 /// Carries out a job as one chunk, and returns its completion record. Nothing is allocated.
 ///
 /// A create and an apply stage their record in the arena; all else goes straight.
+#[inline(always)]
 pub fn carry_out(image: &mut Image, arena: &mut Arena, job: &Checked) -> Record
     requires staging { IsDelta job.now → need job.now ≤ arena.old.size }
     ensures image { image.new ≡ (checked_step image.old job.now).0 }
@@ -126,6 +127,7 @@ fn carry_out_staged(image: &mut Image, arena: &mut Arena, job: &Checked) -> Reco
 }
 
 /// Carries out a job that stages nothing as one chunk, within the image, and returns its completion record.
+#[inline(always)]
 pub fn carry_out_straight(image: &mut Image, job: &Checked) -> Record
     requires staging { IsDelta job.now → need job.now ≡ 0 }
     ensures image { image.new ≡ (checked_step image.old job.now).0 }

@@ -243,19 +243,26 @@ fn expect_before(rt: &impl Abort, world: &World, step: usize) {
     assert_eq!(rt; answers.count(), answered);
 }
 
-/// The world behind the steps, or the one before the step that found no memory.
+/// The world behind the steps, or the one before the step that found no memory, and how many steps were done.
+fn replayed(alloc: Global, world: World, steps: &[Step]) -> Option<(World, usize)> {
+    match world.replay(alloc, steps) {
+        Ok(world) => Some((world, steps.len())),
+        Err((world, fault)) => match fault {
+            StepFault::NoMemory(at) => Some((world, at)),
+            StepFault::NotAllowed(_) => None,
+        },
+    }
+}
+
 #[test]
 fn refused_replay(rt: HostRuntime) -> Result<(), Fail> {
     let world = world(rt.alloc(), 2).ok_or("no memory")?;
-    let (world, done) = match world.replay(rt.alloc(), &two_fills()) {
-        Ok(world) => match world.replay(rt.alloc(), &two_commits()) {
-            Ok(world) => (world, 10),
-            Err((world, StepFault::NoMemory(at))) => (world, 5 + at),
-            Err(_) => return Err("a step was not allowed".into()),
-        },
-        Err((world, StepFault::NoMemory(at))) => (world, at),
-        Err(_) => return Err("a step was not allowed".into()),
-    };
-    expect_before(&rt, &world, done);
+    let (world, done) = replayed(rt.alloc(), world, &two_fills()).ok_or("not allowed")?;
+    if done < 5 {
+        expect_before(&rt, &world, done);
+        return Ok(());
+    }
+    let (world, done) = replayed(rt.alloc(), world, &two_commits()).ok_or("not allowed")?;
+    expect_before(&rt, &world, done.saturating_add(5));
     Ok(())
 }

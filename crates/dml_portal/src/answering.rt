@@ -38,7 +38,7 @@ fn push_answers(client: u32, lane: &mut Lane, log: &[LogEntry])
     ensures same { IsSameLane lane.old lane.new }
 {
     for i in lane.answered..log.len() {
-        let entry = log[i];
+        let entry = &log[i];
         if entry.client == client && lane.records.push(entry.answer).is_err() {
             return;
         }

@@ -20,3 +20,4 @@ pub mod FenceLaws
 pub mod FenceLemmas
 pub mod PartLaws
 pub mod PieceLaws
+pub mod BatchLaws

@@ -143,21 +143,21 @@ free_levels jobs none =
 bit_kept : (flags : ℕ) → bit_and (bit_and flags 1) 1 ≡ bit_and flags 1
 bit_kept flags = omega (arith, and_mask (bit_and flags 1) 1, and_mask flags 1)
 
-fence_kept : (staging : ℕ) (job : Job) → is_fenced (fenced_unless_refused staging job) ≡ is_fenced job
+pub fence_kept : (staging : ℕ) (job : Job) → is_fenced (fenced_unless_refused staging job) ≡ is_fenced job
 fence_kept staging job =
     elim (is_some (refusal (unfenced job) staging)) as (λ b. is_fenced (cond b (record no_op_job { flags = bit_and job.flags 1 }) job) ≡ is_fenced job) [
       | true ↦ ap (λ n. nat_eq n 1) (bit_kept job.flags)
       | false ↦ refl
     ]
 
-free_kept : (staging : ℕ) (job : Job) → unfenced (fenced_unless_refused staging job) ≡ unless_refused staging (unfenced job)
+pub free_kept : (staging : ℕ) (job : Job) → unfenced (fenced_unless_refused staging job) ≡ unless_refused staging (unfenced job)
 free_kept staging job =
     elim (is_some (refusal (unfenced job) staging)) as (λ b. unfenced (cond b (record no_op_job { flags = bit_and job.flags 1 }) job) ≡ cond b no_op_job (unfenced job)) [
       | true ↦ ap (λ (f : ℕ). record no_op_job { flags = f }) (let e : bit_and job.flags 1 - bit_and (bit_and job.flags 1) 1 ≡ 0 = omega (arith, bit_kept job.flags) in e)
       | false ↦ refl
     ]
 
-all_free_kept : (staging : ℕ) (jobs : List Job) → map unfenced (one_list staging jobs) ≡ map (unless_refused staging) (map unfenced jobs)
+pub all_free_kept : (staging : ℕ) (jobs : List Job) → map unfenced (one_list staging jobs) ≡ map (unless_refused staging) (map unfenced jobs)
 all_free_kept staging [] = refl
 all_free_kept staging (job ∷ jobs) = ap₂ (λ (first : Job) (rest : List Job). first ∷ rest) (free_kept staging job) (all_free_kept staging jobs)
 

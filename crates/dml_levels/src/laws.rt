@@ -1,6 +1,6 @@
 ghost use Rattle.dml_levels.specs.Laws.{AnyOrder, ClashesWithoutRefusedHold, EffectStands, FrontByItself, FrontThenLeft, JobsCommute, OwnClashesHold, WavesInOrder, WavesThenLeft};
 ghost use Rattle.dml_levels.specs.Fences.{BatchesHoldConflicts, FencesOnlyAdd, FencesPart, FencesPartWaves, FrontIsFold, WavesBeforeFence};
-ghost use Rattle.dml_levels.specs.Pieces.{PiecesAreWaves};
+ghost use Rattle.dml_levels.specs.Pieces.{AllPiecesAreWaves, OneListIsFold, PiecesAreWaves, WavesMeetFences};
 
 /// The law of conflicts: two jobs that do not conflict give the same image and the same two records in either order,
 /// and the effect of each, found before the other is carried out, stands afterwards. What a refused job names does not
@@ -34,7 +34,9 @@ pub fn law_of_waves()
 /// and the records of those jobs, carried out by themselves, and leave all other records. In one statement: each fence
 /// parts the waves into those of the jobs before it, which give their fold, and those of the jobs from it on, each
 /// found by themselves. So the waves of a batch, with a no-op that keeps its fence in the place of each refused job, are
-/// those of its pieces, each from one fence up to the next, one piece after another.
+/// those of its pieces, each from one fence up to the next, one piece after another: up to each fence, and in whole. These
+/// waves give the image and the records of the batch's jobs without their fences, and those before the first with a job at
+/// a fence or behind it give them of the jobs before the fence.
 pub fn law_of_fences()
     ensures only_add { FencesOnlyAdd }
     ensures part { FencesPart }
@@ -43,4 +45,7 @@ pub fn law_of_fences()
     ensures of_batches { BatchesHoldConflicts }
     ensures waves { FencesPartWaves }
     ensures pieces { PiecesAreWaves }
+    ensures whole { AllPiecesAreWaves }
+    ensures one_list { OneListIsFold }
+    ensures meet { WavesMeetFences }
 {}

@@ -1,7 +1,7 @@
 -- Jobs that do nothing: with their records at their places, they may be left out of a wave.
-use Rattle.std.proofs.Common.{◌≡◌, ℕ, ◌<◌, true, false, cond, List, [], ◌∷◌, Some, None, length, get_or, set, map, refl, sym, ◌∙◌, ap, subst, ⊎_elim, All}
+use Rattle.std.proofs.Common.{◌≡◌, ℕ, ◌+◌, ◌<◌, Bool, true, false, cond, List, [], ◌∷◌, Some, None, length, get_or, set, map, drop, refl, sym, ◌∙◌, ap, ap₂, subst, ⊎_elim, All}
 use Rattle.std.proofs.lemmas.Bool.{cases_eq, false≢true}
-use Rattle.std.proofs.lemmas.List.{length-set, get_or-set_same, get_or-set_other, get_or-map, set-get_or}
+use Rattle.std.proofs.lemmas.List.{drop_more, length-map, length-set, get_or-set_same, get_or-set_other, get_or-map, set-get_or}
 use Rattle.std.proofs.lemmas.List.Elements.{All-head, All-tail}
 use Rattle.std.specs.Prelude.{is_some, unwrap_or}
 use Rattle.dml_types.specs.declared.jobs.Job.{Job}
@@ -124,3 +124,54 @@ free_checked [] staging = refl
 free_checked (job ∷ jobs) staging =
     ap (λ (first : Job). first ∷ map unfenced (map (unless_refused staging) jobs)) (free_unless_refused job staging)
     ∙ ap (λ (rest : List Job). unless_refused staging job ∷ rest) (free_checked jobs staging)
+
+-- without their fences as many jobs do anything
+busy_unfenced : (checked : List Job) (wave : List ℕ) → All (λ i. i < length checked) wave → busy (map unfenced checked) wave ≡ busy checked wave
+busy_unfenced checked [] places = refl
+busy_unfenced checked (i ∷ wave) places =
+    let at = get_or-map unfenced checked i no_op_job no_op_job (All-head (λ i. i < length checked) i wave places) in
+    ap₂ (λ (b : Bool) (rest : List ℕ). cond b (i ∷ rest) rest) (ap (λ (job : Job). is_busy (operation_of job)) at)
+    (busy_unfenced checked wave (All-tail (λ i. i < length checked) i wave places))
+
+-- the busy jobs of a wave, checked and without their fences, do what the wave does
+pub checked_run : (jobs checked : List Job) (staging : ℕ) (wave : List ℕ) (now : Progress) → map unfenced checked ≡ map (unless_refused staging) jobs → AreOpened jobs staging now.records → All (λ i. i < length checked) wave
+    → run_all (carried (map unfenced checked) staging) now (busy checked wave) ≡ run_all (carried jobs staging) now wave
+checked_run jobs checked staging wave now free opened places =
+    let size : length checked ≡ length jobs = sym (length-map checked unfenced) ∙ (ap length free ∙ length-map jobs (unless_refused staging)) in
+    ap (run_all (carried (map unfenced checked) staging) now) (sym (busy_unfenced checked wave places))
+    ∙ (ap (λ (list : List Job). run_all (carried list staging) now (busy list wave)) free
+    ∙ busy_run jobs staging wave now opened (subst (λ n. All (λ i. i < n) wave) size places))
+
+-- one place of a wave more, where its job does nothing, and where it does something
+abbrev pub Remaining : List Job → ℕ → List ℕ → Progress → ℕ → Progress
+Remaining checked staging places now at =
+    run_all (carried (map unfenced checked) staging) now (busy checked (drop at places))
+
+place_more : (checked : List Job) (staging : ℕ) (places : List ℕ) (now : Progress) (at : ℕ) → at < length places
+    → Remaining checked staging places now at
+    ≡ run_all (carried (map unfenced checked) staging) now (cond (is_busy (operation_of (job_at checked (get_or places at 0)))) (get_or places at 0 ∷ busy checked (drop (at + 1) places)) (busy checked (drop (at + 1) places)))
+place_more checked staging places now at below =
+    ap (λ (rest : List ℕ). run_all (carried (map unfenced checked) staging) now (busy checked rest)) (drop_more places at 0 below)
+
+pub idle_more : (checked : List Job) (staging : ℕ) (places : List ℕ) (now : Progress) (at : ℕ) → at < length places
+    → is_busy (operation_of (job_at checked (get_or places at 0))) ≡ false
+    → Remaining checked staging places now (at + 1) ≡ Remaining checked staging places now at
+idle_more checked staging places now at below idle =
+    let i = get_or places at 0 in
+    let rest = busy checked (drop (at + 1) places) in
+    sym (place_more checked staging places now at below
+    ∙ ap (λ b. run_all (carried (map unfenced checked) staging) now (cond b (i ∷ rest) rest)) idle)
+
+pub busy_more : (checked : List Job) (staging : ℕ) (places : List ℕ) (now next : Progress) (at : ℕ) → at < length places → get_or places at 0 < length checked
+    → is_busy (operation_of (job_at checked (get_or places at 0))) ≡ true
+    → next ≡ (let done = step now.image (unfenced (job_at checked (get_or places at 0))) staging in begun done.0 (set now.records (get_or places at 0) done.1))
+    → Remaining checked staging places next (at + 1) ≡ Remaining checked staging places now at
+busy_more checked staging places now next at below inside some is =
+    let i = get_or places at 0 in
+    let rest = busy checked (drop (at + 1) places) in
+    let after = carried (map unfenced checked) staging in
+    let job = get_or-map unfenced checked i no_op_job no_op_job inside in
+    let done : next ≡ after now i =
+    is ∙ ap (λ (j : Job). begun (step now.image j staging).0 (set now.records i (step now.image j staging).1)) (sym job) in
+    ap (λ (state : Progress). run_all after state rest) done
+    ∙ sym (place_more checked staging places now at below ∙ ap (λ b. run_all after now (cond b (i ∷ rest) rest)) some)

@@ -1,4 +1,5 @@
 pub mod BatchLemmas
+pub mod FenceWalks
 pub mod IdleLemmas
 pub mod ListLemmas
 pub mod LoadLemmas

@@ -5,11 +5,25 @@ use Rattle.dml_types.specs.declared.jobs.Job.{Job}
 use Rattle.dml_types.specs.declared.records.Record.{Record}
 use Rattle.dml_types.specs.declared.statuses.Status.TheVariants.{Success}
 use Rattle.dml_types.specs.Effect.{ended}
+use Rattle.dml_types.specs.Job.{unfenced}
 use Rattle.dml_types.specs.Refusal.{refusal}
 use Rattle.dml_desc.specs.Checked.{operation_of}
 use Rattle.dml_levels.specs.Laws.{unless_refused}
+use Rattle.dml_levels.specs.Pieces.{fenced_unless_refused}
 use Rattle.dml_levels.specs.Waves.{IsSmall, job_at}
 use Rattle.dml_wave.specs.Waves.{AreApart, is_busy}
+use Rattle.dml_engine.specs.declared.opening.Fences.{Fences}
+use Rattle.dml_engine.specs.declared.opening.Fences.TheVariants.{Refused, Accepted}
+
+-- the job that is judged and carried out: in a batch without its fence
+abbrev pub judged : Fences → Job → Job
+judged Refused = λ job. job
+judged Accepted = unfenced
+
+-- a job as far as it does anything; in a batch it has its fence
+abbrev pub opened : Fences → ℕ → Job → Job
+opened Refused = unless_refused
+opened Accepted = fenced_unless_refused
 
 -- the record of a no-op
 abbrev pub no_op_record : Record

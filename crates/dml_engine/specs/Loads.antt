@@ -7,8 +7,9 @@ use Rattle.dml_types.specs.declared.operations.Op.{Op}
 use Rattle.dml_types.specs.declared.operations.Op.TheVariants.{Move, Fill, Compare, ComparePattern, CreateDelta, ApplyDelta, Dualcast}
 use Rattle.dml_desc.specs.Checked.{operation_of}
 use Rattle.dml_levels.specs.Tasks.{task_count}
-use Rattle.dml_levels.specs.Laws.{unless_refused}
 use Rattle.dml_engine.specs.declared.loads.Load.{Load}
+use Rattle.dml_engine.specs.declared.opening.Fences.{Fences}
+use Rattle.dml_engine.specs.Lists.{opened}
 use Rattle.dml_engine.specs.State.{State}
 
 -- the bytes of a job that workers share: they are faster by compares and creates alone, and each of so many
@@ -73,8 +74,8 @@ abbrev pub shareable : List Job → ℕ
 shareable jobs = sum_by (λ job. shareable_by (op_of job) job) jobs
 
 -- whether a list of jobs, as far as they do anything, is given more than one
-abbrev pub is_for_waves : State → List Job → Bool
-is_for_waves engine jobs =
+abbrev pub is_for_waves : State → Fences → List Job → Bool
+is_for_waves engine fences jobs =
     let settings = engine.settings in
-    let load = load_of settings.chunk (map (unless_refused settings.staging) jobs) in
+    let load = load_of settings.chunk (map (opened fences settings.staging) jobs) in
     nat_lt 1 (list_workers engine.watched settings.workers load)

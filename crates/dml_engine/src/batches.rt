@@ -1,14 +1,18 @@
 //! Batches: lists in which a fenced job waits for all jobs before it, and is carried out only where each succeeded.
-ghost use Rattle.std.specs.Prelude.{◌≡◌, ◌↔◌, ◌+◌, ◌<◌, ◌≤◌, ◌++◌, ℕ, false, true, IfOk, IsErrOf, OnErr, OnOk, drop, length, map, replicate, slice_index_or, take, vec_capacity};
-ghost use Rattle.dml_types.specs.Job.{is_fenced, no_op_job, unfenced};
+ghost use Rattle.std.specs.Prelude.{◌≡◌, ◌↔◌, ◌+◌, ◌-◌, ◌<◌, ◌≤◌, ◌++◌, ℕ, false, true, IfOk, IsErrOf, OnErr, OnOk, drop, length, nat_le, replicate, slice_index_or, take, vec_capacity};
+ghost use Rattle.std.specs.List.{list_any};
+ghost use Rattle.dml_types.specs.Job.{is_fenced, no_op_job};
 ghost use Rattle.dml_types.specs.Effect.{ended};
-ghost use Rattle.dml_types.specs.Step.{batch, batch_answer, batch_jobs, ends_before, have_succeeded, memory_after, records_of};
+ghost use Rattle.dml_types.specs.Step.{batch, batch_answer, batch_jobs, ends_before, have_succeeded};
 ghost use Rattle.dml_types.specs.declared.statuses.Status.TheVariants.{Abandoned};
 ghost use Rattle.dml_engine.specs.Batches.{EndsAt, IsCarried};
 
 use crate::engines::Engine;
 use crate::errors::SubmitError;
+use crate::lists::plan_waves;
+use crate::opening::{Fences, open_all};
 use crate::submitting::MOST_JOBS;
+use dml_levels::law_of_fences;
 use dml_pool::Gate;
 use dml_types::{BatchRecord, Job, Record, Status, law_of_batches, law_of_folds};
 use std::alloc::{AllocError, Global};
@@ -22,6 +26,7 @@ impl<G: Gate + Sync> Engine<G> {
     ///
     /// # Errors
     /// `TooMany` where there are more jobs, and `NoMemory` where there is no room for the records.
+    #[tactic(auto, using(crate::proofs::BatchLemmas::batch_answers))]
     pub fn submit_batch<R: Threads + Wait + Sync>(
         &mut self,
         rt: &R,
@@ -43,11 +48,35 @@ impl<G: Gate + Sync> Engine<G> {
         let Ok(mut records) = abandoned(alloc, jobs) else {
             return Err(SubmitError::NoMemory);
         };
-        let done = self.carry_out_batch(rt, alloc, jobs, records.as_mut_slice());
+        let done = self.carry_out_or_abandon(rt, alloc, jobs, records.as_mut_slice());
         Ok((batch_record(&records[..done]), records))
     }
 
-    /// Carries out the jobs of a batch as far as its fences let them, and answers how many that are.
+    /// Carries out the jobs of a batch as far as its fences let them, and abandons the others. Answers how many are
+    /// carried out.
+    fn carry_out_or_abandon<R: Threads + Wait + Sync>(
+        &mut self,
+        rt: &R,
+        alloc: Global,
+        jobs: &[Job],
+        records: &mut [Record],
+    ) -> usize
+        requires few { length jobs.now ≤ 1024 }
+        requires size { length records.old ≡ length jobs.now }
+        ensures count { result ≡ length (batch_jobs self.old.image jobs.now self.old.settings.staging) }
+        ensures within { result ≤ length jobs.now }
+        ensures image { self.new.image ≡ (batch self.old.image jobs.now self.old.settings.staging).0 }
+        ensures records { records.new ≡ (batch self.old.image jobs.now self.old.settings.staging).2 }
+        ensures settings { self.new.settings ≡ self.old.settings }
+        ensures watched { self.new.watched ≡ self.old.watched }
+    {
+        let done = self.carry_out_batch(rt, alloc, jobs, records);
+        abandon(records, done);
+        done
+    }
+
+    /// Carries out the jobs of a batch as far as its fences let them, and answers how many that are. The records of the
+    /// others are of no account.
     fn carry_out_batch<R: Threads + Wait + Sync>(
         &mut self,
         rt: &R,
@@ -57,71 +86,60 @@ impl<G: Gate + Sync> Engine<G> {
     ) -> usize
         requires few { length jobs.now ≤ 1024 }
         requires size { length records.old ≡ length jobs.now }
-        ensures carried { IsCarried self.old.image jobs.now self.old.settings.staging records.old
-            result self.new.image records.new }
+        ensures carried { IsCarried self.old.image jobs.now self.old.settings.staging result
+            self.new.image records.new }
         ensures ends { EndsAt jobs.now result records.new }
         ensures settings { self.new.settings ≡ self.old.settings }
         ensures watched { self.new.watched ≡ self.old.watched }
     {
-        if self.may_pay(jobs) {
-            if let Ok(free) = free_jobs(alloc, jobs) {
-                if self.is_worth_waves(free.as_slice()) {
-                    return self.batch_by_pieces(rt, alloc, jobs, free.as_slice(), records);
-                }
-            }
+        if self.is_worth_waves(jobs, Fences::Accepted) {
+            self.batch_in_waves(rt, alloc, jobs, records)
+        } else {
+            self.batch_in_list_order(jobs, records)
         }
-        self.batch_in_list_order(jobs, records)
     }
 
-    /// The same by pieces, each a list of its own: from one fence up to the next.
-    fn batch_by_pieces<R: Threads + Wait + Sync>(
+    /// The same wave by wave. Before the first wave with a job at a fence or behind it the statuses of all jobs before
+    /// the fence are looked at. Where no memory is left to find the waves, the batch goes on in list order.
+    fn batch_in_waves<R: Threads + Wait + Sync>(
         &mut self,
         rt: &R,
         alloc: Global,
         jobs: &[Job],
-        free: &[Job],
         records: &mut [Record],
     ) -> usize
         requires few { length jobs.now ≤ 1024 }
-        requires free { free.now ≡ map unfenced jobs.now }
         requires size { length records.old ≡ length jobs.now }
-        ensures carried { IsCarried self.old.image jobs.now self.old.settings.staging records.old
-            result self.new.image records.new }
+        ensures carried { IsCarried self.old.image jobs.now self.old.settings.staging result
+            self.new.image records.new }
         ensures ends { EndsAt jobs.now result records.new }
         ensures settings { self.new.settings ≡ self.old.settings }
         ensures watched { self.new.watched ≡ self.old.watched }
     {
-        let mut done = 0;
-        while done < jobs.len() && !ends_before(jobs, records, done) {
-            let end = next_fence(jobs, done + 1);
-            self.carry_out_piece(rt, alloc, &free[done..end], &mut records[done..end]);
-            done = end;
+        let settings = self.settings();
+        let Ok(list) = open_all(alloc, jobs, Fences::Accepted, settings.staging, records) else {
+            return self.batch_in_list_order(jobs, records);
+        };
+        let checked = list.as_slice();
+        let Ok(waves) = plan_waves(alloc, checked, settings) else {
+            return self.batch_in_list_order(jobs, records);
+        };
+        // Its contract says that the image is whole, which the law asks for.
+        let _pages = self.image().pages();
+        law_of_fences();
+        let mut fence = next_fence(jobs, 0);
+        let mut alone = false;
+        for wave in &waves {
+            let places = wave.list.as_slice();
+            if reaches(places, fence) {
+                if ends_before(jobs, records, fence) {
+                    return fence;
+                }
+                fence = next_fence(jobs, fence + 1);
+            }
+            alone = self.next_wave(rt, alloc, checked, places, records, alone);
         }
-        done
-    }
-}
-
-impl<G: Gate + Sync> Engine<G> {
-    /// Carries out a piece of a batch that is worth workers: a given gate is to see each of its waves.
-    fn carry_out_piece<R: Threads + Wait + Sync>(
-        &mut self,
-        rt: &R,
-        alloc: Global,
-        jobs: &[Job],
-        records: &mut [Record],
-    )
-        requires few { length jobs.now ≤ 1024 }
-        requires size { length records.old ≡ length jobs.now }
-        ensures image { self.new.image ≡ memory_after self.old.image jobs.now self.old.settings.staging }
-        ensures records { records.new ≡ records_of self.old.image jobs.now self.old.settings.staging }
-        ensures settings { self.new.settings ≡ self.old.settings }
-        ensures watched { self.new.watched ≡ self.old.watched }
-    {
-        if self.is_watched() {
-            self.in_waves(rt, alloc, jobs, records);
-        } else {
-            self.carry_out_list(rt, alloc, jobs, records);
-        }
+        jobs.len()
     }
 }
 
@@ -129,8 +147,8 @@ impl<G> Engine<G> {
     /// The same by this worker alone, in list order.
     fn batch_in_list_order(&mut self, jobs: &[Job], records: &mut [Record]) -> usize
         requires size { length records.old ≡ length jobs.now }
-        ensures carried { IsCarried self.old.image jobs.now self.old.settings.staging records.old
-            result self.new.image records.new }
+        ensures carried { IsCarried self.old.image jobs.now self.old.settings.staging result
+            self.new.image records.new }
         ensures ends { EndsAt jobs.now result records.new }
         ensures settings { self.new.settings ≡ self.old.settings }
         ensures watched { self.new.watched ≡ self.old.watched }
@@ -145,13 +163,6 @@ impl<G> Engine<G> {
     }
 }
 
-/// The jobs without their fences.
-fn free_jobs(alloc: Global, jobs: &[Job]) -> Result<Vec<Job>, AllocError>
-    ensures { IfOk result (λ list. list.items ≡ map unfenced jobs.now) }
-{
-    jobs.iter().map(|job| job.unfenced()).collect(alloc)
-}
-
 /// A record for each job, all as of abandoned ones.
 fn abandoned(alloc: Global, jobs: &[Job]) -> Result<Vec<Record>, AllocError>
     ensures { IfOk result (λ list. list.items ≡ replicate (length jobs.now) (ended Abandoned 0 0 0)) }
@@ -161,6 +172,16 @@ fn abandoned(alloc: Global, jobs: &[Job]) -> Result<Vec<Record>, AllocError>
         records.push_reserved(Record::refused(Status::Abandoned));
     }
     Ok(records)
+}
+
+/// Writes the records of abandoned jobs from a place on.
+fn abandon(records: &mut [Record], from: usize)
+    requires { from ≤ length records.old }
+    ensures { records.new ≡ take from records.old ++ replicate (length records.old - from) (ended Abandoned 0 0 0) }
+{
+    for i in from..records.len() {
+        records[i] = Record::refused(Status::Abandoned);
+    }
 }
 
 /// The first place from `start` on whose job is fenced, or the end of the list.
@@ -175,6 +196,13 @@ fn next_fence(jobs: &[Job], start: usize) -> usize
         place += 1;
     }
     place
+}
+
+/// Whether a wave has a job at a place or behind it.
+fn reaches(wave: &[u32], place: usize) -> bool
+    ensures { result ≡ list_any (λ i. nat_le place i) wave.now }
+{
+    wave.iter().any(|i| *i as usize >= place)
 }
 
 /// Whether a batch ends before the job at a place: it is fenced, and one of all those before it has not succeeded.

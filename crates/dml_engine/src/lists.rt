@@ -1,23 +1,26 @@
 //! Lists of jobs, carried out one after another or wave by wave.
 ghost use Rattle.std.specs.Prelude.{◌≡◌, ◌↔◌, ◌<◌, ◌≤◌, ◌⊎◌, IfOk, IsTrue, true, length, map};
 ghost use Rattle.std.specs.List.{All};
+ghost use Rattle.dml_types.specs.Job.{unfenced};
 ghost use Rattle.dml_types.specs.Limits.{IsValid};
 ghost use Rattle.dml_types.specs.Refusal.{need};
 ghost use Rattle.dml_types.specs.Step.{memory_after, records_of};
 ghost use Rattle.dml_order.specs.Order.{run_all};
-ghost use Rattle.dml_levels.specs.Laws.{begun, carried, unless_refused};
+ghost use Rattle.dml_levels.specs.Laws.{begun, carried};
 ghost use Rattle.dml_levels.specs.Waves as word;
 ghost use Rattle.dml_types.specs.Conflict as table;
-ghost use Rattle.dml_engine.specs.Lists.{AreOpened, IsReady};
+ghost use Rattle.dml_wave.specs.Waves.{busy};
+ghost use Rattle.dml_engine.specs.Lists.{IsReady};
 ghost use Rattle.dml_engine.specs.Loads.{is_for_waves, shareable};
 
 use crate::engines::Engine;
 use crate::loads::{Load, may_pay};
-use crate::opening::open_all;
+use crate::opening::{Fences, open_all};
 use dml_desc::Checked;
 use dml_levels::{LevelError, Wave, law_of_conflicts, law_of_fences, law_of_waves, levels, waves};
 use dml_pool::Gate;
 use dml_types::{Job, Record, Settings};
+use dml_wave::is_busy;
 use std::alloc::Global;
 use std::sync::Wait;
 use std::thread::Threads;
@@ -38,7 +41,7 @@ impl<G: Gate + Sync> Engine<G> {
         ensures settings { self.new.settings ≡ self.old.settings }
         ensures watched { self.new.watched ≡ self.old.watched }
     {
-        if self.is_worth_waves(jobs) {
+        if self.is_worth_waves(jobs, Fences::Refused) {
             self.in_waves(rt, alloc, jobs, records);
         } else {
             self.in_list_order(jobs, records);
@@ -46,7 +49,7 @@ impl<G: Gate + Sync> Engine<G> {
     }
 
     /// Carries out a list of jobs wave by wave; where no memory is left to find the waves, one after another.
-    pub(crate) fn in_waves<R: Threads + Wait + Sync>(
+    fn in_waves<R: Threads + Wait + Sync>(
         &mut self,
         rt: &R,
         alloc: Global,
@@ -61,10 +64,11 @@ impl<G: Gate + Sync> Engine<G> {
         ensures watched { self.new.watched ≡ self.old.watched }
     {
         let settings = self.settings();
-        let Ok(checked) = open_all(alloc, jobs, settings.staging, records) else {
+        let Ok(list) = open_all(alloc, jobs, Fences::Refused, settings.staging, records) else {
             return self.in_list_order(jobs, records);
         };
-        let Ok(waves) = plan_waves(alloc, checked.as_slice(), settings) else {
+        let checked = list.as_slice();
+        let Ok(waves) = plan_waves(alloc, checked, settings) else {
             return self.in_list_order(jobs, records);
         };
         // Its contract says that the image is whole, which the laws ask for.
@@ -74,35 +78,27 @@ impl<G: Gate + Sync> Engine<G> {
         law_of_waves();
         let mut alone = false;
         for wave in &waves {
-            alone = self.next_wave(
-                rt,
-                alloc,
-                jobs,
-                checked.as_slice(),
-                &wave.list,
-                records,
-                alone,
-            );
+            alone = self.next_wave(rt, alloc, checked, &wave.list, records, alone);
         }
     }
 
-    /// Carries out the jobs of a wave: on workers, as many as they pay for, or `alone`, one after another. Answers
-    /// whether one worker is to go on alone from here, as it is once no memory is left.
-    fn next_wave<R: Threads + Wait + Sync>(
+    /// Carries out the jobs of a wave that do anything, without their fences: on workers, as many as they pay for, or
+    /// `alone`, one after another. Answers whether one worker is to go on alone from here, as it is once no memory is
+    /// left.
+    pub(crate) fn next_wave<R: Threads + Wait + Sync>(
         &mut self,
         rt: &R,
         alloc: Global,
-        jobs: &[Job],
         checked: &[Checked],
         wave: &[u32],
         records: &mut [Record],
         alone: bool,
     ) -> bool
-        requires checked { checked.now ≡ map (unless_refused self.old.settings.staging) jobs.now }
-        requires opened { AreOpened jobs.now self.old.settings.staging records.old }
+        requires size { length records.old ≡ length checked.now }
         requires ready { IsReady checked.now self.old.settings.staging self.old.settings.chunk wave.now }
         ensures done { begun self.new.image records.new
-            ≡ run_all (carried jobs.now self.old.settings.staging) (begun self.old.image records.old) wave.now }
+            ≡ run_all (carried (map unfenced checked.now) self.old.settings.staging)
+            (begun self.old.image records.old) (busy checked.now wave.now) }
         ensures settings { self.new.settings ≡ self.old.settings }
         ensures watched { self.new.watched ≡ self.old.watched }
     {
@@ -115,7 +111,7 @@ impl<G: Gate + Sync> Engine<G> {
                 return false;
             }
         }
-        self.carry_out_places(jobs, wave, records);
+        self.carry_out_places(checked, wave, records);
         alone || shared
     }
 }
@@ -130,12 +126,15 @@ impl<G> Engine<G> {
     }
 
     /// Whether a list of jobs is given more than one worker.
-    pub(crate) fn is_worth_waves(&self, jobs: &[Job]) -> bool
-        ensures { result ≡ is_for_waves self.now jobs.now }
+    pub(crate) fn is_worth_waves(&self, jobs: &[Job], fences: Fences) -> bool
+        ensures { result ≡ is_for_waves self.now fences jobs.now }
     {
         let settings = self.settings();
         self.may_pay(jobs)
-            && Load::of_list(jobs, settings).list_workers(self.is_watched(), settings.workers) > 1
+            && Load::of_list(jobs, fences, settings).list_workers(
+                self.is_watched(),
+                settings.workers,
+            ) > 1
     }
 
     /// Carries out a list of jobs one after another, and writes the record of each at its place.
@@ -151,24 +150,32 @@ impl<G> Engine<G> {
         }
     }
 
-    /// Carries out the jobs at these places one after another, and writes the record of each at its place.
-    fn carry_out_places(&mut self, jobs: &[Job], places: &[u32], records: &mut [Record])
+    /// Carries out the jobs at these places that do anything, without their fences and one after another, and writes the
+    /// record of each at its place.
+    fn carry_out_places(&mut self, jobs: &[Checked], places: &[u32], records: &mut [Record])
         requires places { All (λ i. i < length jobs.now) places.now }
         requires size { length records.old ≡ length jobs.now }
         ensures done { begun self.new.image records.new
-            ≡ run_all (carried jobs.now self.old.settings.staging) (begun self.old.image records.old) places.now }
+            ≡ run_all (carried (map unfenced jobs.now) self.old.settings.staging)
+            (begun self.old.image records.old) (busy jobs.now places.now) }
         ensures settings { self.new.settings ≡ self.old.settings }
         ensures watched { self.new.watched ≡ self.old.watched }
     {
         for place in places {
             let i = *place as usize;
-            records[i] = self.carry_out_alone(&jobs[i]);
+            if is_busy(jobs[i].op()) {
+                records[i] = self.carry_out_in_batch(jobs[i].job());
+            }
         }
     }
 }
 
 /// The waves of a list of jobs.
-fn plan_waves(alloc: Global, jobs: &[Checked], settings: Settings) -> Result<Vec<Wave>, LevelError>
+pub(crate) fn plan_waves(
+    alloc: Global,
+    jobs: &[Checked],
+    settings: Settings,
+) -> Result<Vec<Wave>, LevelError>
     requires few { length jobs.now ≤ 1024 }
     requires needs { All (λ job. need job ≤ settings.staging) jobs.now }
     requires valid { IsValid settings }

@@ -3,13 +3,13 @@ ghost use Rattle.std.specs.Prelude.{◌≡◌, ◌↔◌, ◌<◌, ◌≤◌, Is
 ghost use Rattle.std.specs.List.{All};
 ghost use Rattle.dml_types.specs.Job.{op_of};
 ghost use Rattle.dml_types.specs.Limits.{IsValid};
-ghost use Rattle.dml_levels.specs.Laws.{unless_refused};
 ghost use Rattle.dml_levels.specs.Tasks.{IsChunk};
 ghost use Rattle.dml_levels.specs.Waves.{job_at};
+ghost use Rattle.dml_engine.specs.Lists.{opened};
 ghost use Rattle.dml_engine.specs.Loads.{load_of, no_load, shareable, shareable_by, with_job, workers_for};
 ghost use Rattle.dml_engine.specs.Loads as word;
 
-use crate::opening::open;
+use crate::opening::{Fences, open};
 use dml_desc::Checked;
 use dml_levels::task_count;
 use dml_types::{Job, Op, Settings};
@@ -49,13 +49,13 @@ impl Load {
     }
 
     /// That of a list of jobs, as far as they do anything.
-    pub fn of_list(jobs: &[Job], settings: Settings) -> Load
+    pub fn of_list(jobs: &[Job], fences: Fences, settings: Settings) -> Load
         requires { IsValid settings }
-        ensures { result ≡ load_of settings.chunk (map (unless_refused settings.staging) jobs.now) }
+        ensures { result ≡ load_of settings.chunk (map (opened fences settings.staging) jobs.now) }
     {
         let mut load = Load::none();
         for job in jobs {
-            let (checked, _) = open(job, settings.staging);
+            let (checked, _) = open(job, fences, settings.staging);
             load = load.with(&checked, settings.chunk);
         }
         load

@@ -114,3 +114,33 @@ fn poll_with_one_slot(rt: HostRuntime) -> Result<(), Fail> {
     assert_eq!(rt; portal.poll(), Some(done(0)));
     Ok(())
 }
+
+/// In a client's queue a fence is refused and holds nothing back: each other job is carried out.
+#[test]
+fn fence_in_a_queue(rt: HostRuntime) -> Result<(), Fail> {
+    let mut portal = One::open(rt.alloc(), 4).ok_or("no memory")?;
+    let jobs = [
+        Job::fill(1, 4096, 8),
+        Job::no_op().with_flags(1),
+        Job::fill(2, 0, 8).with_flags(1),
+        Job::fill(3, 8, 8),
+    ];
+    for job in jobs {
+        assert_eq!(rt; portal.submit(job), Ok(()));
+    }
+    assert_eq!(rt; portal.serve(&rt, rt.alloc()), Ok(4));
+    let fault = Record {
+        fault: 4096,
+        ..Record::refused(Status::WriteFault)
+    };
+    let refused = Record::refused(Status::BadFlags);
+    for answer in [fault, refused, refused, done(8)] {
+        assert_eq!(rt; portal.poll(), Some(answer));
+    }
+    assert_eq!(rt; portal.poll(), None);
+    let settled = portal.settle(&rt, rt.alloc()).ok_or("not settled")?;
+    for (addr, byte) in [(0, 0), (7, 0), (8, 3), (9, 0)] {
+        assert_eq!(rt; settled.image.byte(addr), Some(byte), "{addr}");
+    }
+    Ok(())
+}

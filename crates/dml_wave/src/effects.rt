@@ -57,7 +57,7 @@ pub(crate) fn effects_of<'a>(
 }
 
 /// Whether an operation does anything.
-fn is_busy(op: Op) -> bool
+pub fn is_busy(op: Op) -> bool
     ensures { result ≡ is_busy op }
 {
     match op {

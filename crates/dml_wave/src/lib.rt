@@ -10,6 +10,7 @@ mod errors;
 mod units;
 
 pub use carrying::carry_out_wave;
+pub use effects::is_busy;
 pub use errors::WaveError;
 
 #[cfg(test)]

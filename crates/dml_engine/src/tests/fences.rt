@@ -1,6 +1,6 @@
 //! Fences in batches, at many settings with the same answers. In a list, and in a job by itself, a fence is refused.
 
-use super::rows::settings;
+use super::rows::{self, expect_as_list, plain_row, settings};
 use super::{USUAL, answer};
 use crate::Engine;
 use dml_image::Image;
@@ -244,19 +244,47 @@ fn fences_one_after_another(rt: HostRuntime) -> Result<(), Fail> {
     expect(&rt, rt.alloc(), &row)
 }
 
-/// Outside a batch a fence is refused.
+/// A job with the fence, which is refused outside a batch.
+const FENCED_FILL: Job = Job {
+    opcode: 0x04,
+    flags: 1,
+    source: 1,
+    target: 0,
+    size: 8,
+    extra: 0,
+    delta_size: 0,
+    expected: 0,
+};
+
+/// A list is carried out without it.
 #[test]
 fn fence_in_list(rt: HostRuntime) -> Result<(), Fail> {
-    let alloc = rt.alloc();
-    let Ok(mut engine) = Engine::new(alloc, image(alloc, &[]).ok_or("no memory")?, USUAL) else {
-        return Err("no memory".into());
+    let row = rows::Row {
+        jobs: &[FENCED_FILL, Job::fill(2, 8, 8)],
+        records: &[
+            answer(Status::BadFlags, 0, 0, 0),
+            answer(Status::Success, 0, 8, 0),
+        ],
+        left: &[(0, &[0; 8]), (8, &[2, 0, 0, 0, 0, 0, 0, 0])],
+        ..plain_row("fence_in_list")
     };
-    let fenced = Job::fill(1, 0, 8).with_flags(1);
+    expect_as_list(&rt, rt.alloc(), &row)
+}
+
+/// A job by itself leaves the image as it was.
+#[test]
+fn fence_in_a_job(rt: HostRuntime) -> Result<(), Fail> {
+    let alloc = rt.alloc();
     let refused = answer(Status::BadFlags, 0, 0, 0);
-    assert_eq!(rt; engine.submit(&rt, alloc, fenced), refused);
-    let records = engine.submit_list(&rt, alloc, &[fenced, Job::fill(2, 8, 8)])?;
-    let want = [refused, answer(Status::Success, 0, 8, 0)];
-    assert_eq!(rt; records.as_slice(), want.as_slice());
-    assert_eq!(rt; engine.image().byte(0), Some(0));
+    for settings in settings(USUAL.staging) {
+        let Ok(mut own) = Engine::new(alloc, image(alloc, &[]).ok_or("no memory")?, settings) else {
+            return Err("no memory".into());
+        };
+        assert_eq!(rt; own.submit(&rt, alloc, FENCED_FILL), refused);
+        assert_eq!(rt; own.image().byte(0), Some(0));
+        let mut given = own.with_gate(Free);
+        assert_eq!(rt; given.submit(&rt, alloc, FENCED_FILL), refused);
+        assert_eq!(rt; given.image().byte(0), Some(0));
+    }
     Ok(())
 }

@@ -1,6 +1,6 @@
 //! Lists and batches at many settings, all with the same answers.
 
-use super::rows::{Row, expect, plain_row};
+use super::rows::{Row, expect, expect_as_list, plain_row};
 use super::{USUAL, answer, engine};
 use crate::{Engine, SubmitError};
 use dml_image::Image;
@@ -77,23 +77,35 @@ fn conflict_chain(rt: HostRuntime) -> Result<(), Fail> {
     expect(&rt, rt.alloc(), &row)
 }
 
+/// The fence of the fourth job is refused in a list. A batch accepts it, so that its row has the first three.
 #[test]
 fn flags_before_size(rt: HostRuntime) -> Result<(), Fail> {
+    let jobs = [
+        Job::move_bytes(0, 0, 1_048_577).with_flags(0x10),
+        Job::move_bytes(0, 0, 1_048_577),
+        Job::move_bytes(0, 0, 0),
+        Job::no_op().with_flags(1),
+    ];
+    let records = [
+        answer(Status::BadFlags, 0, 0, 0),
+        answer(Status::BadSize, 0, 0, 0),
+        answer(Status::Success, 0, 0, 0),
+        answer(Status::BadFlags, 0, 0, 0),
+    ];
     let row = Row {
-        jobs: &[
-            Job::move_bytes(0, 0, 1_048_577).with_flags(0x10),
-            Job::move_bytes(0, 0, 1_048_577),
-            Job::move_bytes(0, 0, 0),
-        ],
-        records: &[
-            answer(Status::BadFlags, 0, 0, 0),
-            answer(Status::BadSize, 0, 0, 0),
-            answer(Status::Success, 0, 0, 0),
-        ],
+        present: &[],
+        jobs: &jobs,
+        records: &records,
         status: Status::BatchFailed,
         ..plain_row("flags_before_size")
     };
-    expect(&rt, rt.alloc(), &row)?;
+    expect_as_list(&rt, rt.alloc(), &row)?;
+    let without_fence = Row {
+        jobs: &jobs[..3],
+        records: &records[..3],
+        ..row
+    };
+    expect(&rt, rt.alloc(), &without_fence)?;
     let empty = Row {
         name: "empty batch",
         jobs: &[],

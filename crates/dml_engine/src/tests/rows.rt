@@ -89,17 +89,27 @@ pub(super) fn settings(staging: u32) -> [Settings; 12] {
     all
 }
 
-/// Submits the jobs as a list and as a batch, and expects the row's answers.
-fn expect_row<R: Abort + Threads + Wait + Sync, G: Gate + Sync>(
+/// Submits the jobs as a list, and expects the row's answers.
+fn expect_list<R: Abort + Threads + Wait + Sync, G: Gate + Sync>(
     rt: &R,
     alloc: Global,
     row: &Row,
-    list: &mut Engine<G>,
-    batch: &mut Engine<G>,
+    engine: &mut Engine<G>,
 ) -> Result<(), SubmitError> {
-    let records = list.submit_list(rt, alloc, row.jobs)?;
+    let records = engine.submit_list(rt, alloc, row.jobs)?;
     assert_eq!(rt; records.as_slice(), row.records, "{}", row.name);
-    let (answer, records) = batch.submit_batch(rt, alloc, row.jobs)?;
+    expect_left(rt, row, engine.image());
+    Ok(())
+}
+
+/// Submits the jobs as a batch, and expects the same.
+fn expect_batch<R: Abort + Threads + Wait + Sync, G: Gate + Sync>(
+    rt: &R,
+    alloc: Global,
+    row: &Row,
+    engine: &mut Engine<G>,
+) -> Result<(), SubmitError> {
+    let (answer, records) = engine.submit_batch(rt, alloc, row.jobs)?;
     assert_eq!(rt; records.as_slice(), row.records, "{}", row.name);
     assert_eq!(rt;
         (answer.status, answer.completed),
@@ -107,8 +117,7 @@ fn expect_row<R: Abort + Threads + Wait + Sync, G: Gate + Sync>(
         "{}",
         row.name
     );
-    expect_left(rt, row, list.image());
-    expect_left(rt, row, batch.image());
+    expect_left(rt, row, engine.image());
     Ok(())
 }
 
@@ -127,19 +136,32 @@ fn engine_of(alloc: Global, row: &Row, settings: Settings) -> Option<Engine> {
     Engine::new(alloc, image_of(alloc, row)?, settings).ok()
 }
 
-/// Expects a row's answers at all settings, with its own gate and with one given.
-fn expect_everywhere<R: Abort + Threads + Wait + Sync>(
+/// Expects what a row's list answers at all settings, with its own gate and with one given.
+fn lists_everywhere<R: Abort + Threads + Wait + Sync>(
     rt: &R,
     alloc: Global,
     row: &Row,
 ) -> Option<()> {
     for settings in settings(row.staging) {
-        let mut list = engine_of(alloc, row, settings)?;
-        let mut batch = engine_of(alloc, row, settings)?;
-        expect_row(rt, alloc, row, &mut list, &mut batch).ok()?;
-        let mut list = engine_of(alloc, row, settings)?.with_gate(Free);
-        let mut batch = engine_of(alloc, row, settings)?.with_gate(Free);
-        expect_row(rt, alloc, row, &mut list, &mut batch).ok()?;
+        let mut own = engine_of(alloc, row, settings)?;
+        expect_list(rt, alloc, row, &mut own).ok()?;
+        let mut given = engine_of(alloc, row, settings)?.with_gate(Free);
+        expect_list(rt, alloc, row, &mut given).ok()?;
+    }
+    Some(())
+}
+
+/// The same of a row's batch.
+fn batches_everywhere<R: Abort + Threads + Wait + Sync>(
+    rt: &R,
+    alloc: Global,
+    row: &Row,
+) -> Option<()> {
+    for settings in settings(row.staging) {
+        let mut own = engine_of(alloc, row, settings)?;
+        expect_batch(rt, alloc, row, &mut own).ok()?;
+        let mut given = engine_of(alloc, row, settings)?.with_gate(Free);
+        expect_batch(rt, alloc, row, &mut given).ok()?;
     }
     Some(())
 }
@@ -150,6 +172,17 @@ pub(super) fn expect<R: Abort + Threads + Wait + Sync>(
     alloc: Global,
     row: &Row,
 ) -> Result<(), Fail> {
-    expect_everywhere(rt, alloc, row).ok_or("no memory")?;
+    lists_everywhere(rt, alloc, row).ok_or("no memory")?;
+    batches_everywhere(rt, alloc, row).ok_or("no memory")?;
+    Ok(())
+}
+
+/// Expects a row's answers at all settings, as a list alone.
+pub(super) fn expect_as_list<R: Abort + Threads + Wait + Sync>(
+    rt: &R,
+    alloc: Global,
+    row: &Row,
+) -> Result<(), Fail> {
+    lists_everywhere(rt, alloc, row).ok_or("no memory")?;
     Ok(())
 }

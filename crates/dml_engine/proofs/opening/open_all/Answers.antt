@@ -4,17 +4,17 @@ use Rattle.std.proofs.lemmas.List.Elements.{All-append, All-cons, All-nil}
 use Rattle.dml_types.specs.declared.jobs.Job.{Job}
 use Rattle.dml_types.specs.Job.{no_op_job}
 use Rattle.dml_types.specs.Refusal.{need}
-use Rattle.dml_levels.specs.Laws.{unless_refused}
 use Rattle.dml_levels.specs.Waves.{job_at}
-use Rattle.dml_engine.specs.Lists.{idle_record, no_op_record}
-use Rattle.dml_engine.proofs.ListLemmas.{record_more}
+use Rattle.dml_engine.specs.Lists.{idle_record, judged, no_op_record, opened}
+use Rattle.dml_engine.proofs.ListLemmas.{all_opened, record_more}
 use Rattle.dml_engine.proofs.opening.open_all.Goals as goal
 
 pub loop-i-preserved : goal.loop-i-preserved
 loop-i-preserved c =
     let jobs = c.args.jobs.now in
     let staging = c.args.staging in
-    let checked = unless_refused staging in
+    let fences = c.args.fences in
+    let checked = opened fences staging in
     let i = c.loop-i.i in
     let old = c.loop-i in
     let below : i < length jobs = omega arith in
@@ -29,5 +29,9 @@ loop-i-preserved c =
       subst (All (λ (job : Job). need job ≤ staging)) (sym c.push_reserved.ensures.items)
           (All-append (λ (job : Job). need job ≤ staging) old.list.items (job ∷ []) old.invariant.2
           (All-cons (λ (job : Job). need job ≤ staging) job [] small (All-nil (λ (job : Job). need job ≤ staging)))),
-      record_more old.records (λ k. idle_record staging (job_at jobs k)) i c.open-checked.result.1 no_op_record inside old.invariant.3 c.open-checked.ensures.record,
+      record_more old.records (λ k. idle_record staging (judged fences (job_at jobs k))) i c.open-checked.result.1 no_op_record inside old.invariant.3 c.open-checked.ensures.record,
     )
+
+pub returns-clause-opened : goal.returns-clause-opened
+returns-clause-opened c =
+    all_opened c.args.fences c.args.jobs.now c.args.staging c.loop-i.i c.loop-i.records (omega (arith, c.loop-i.auto.records, c.requires.size)) (omega arith) c.loop-i.invariant.3

@@ -1,4 +1,4 @@
-use Rattle.std.proofs.Common.{◌≡◌, ◌+◌, ◌<◌, false, length, get_or, ap, sym, ◌∙◌, arith}
+use Rattle.std.proofs.Common.{◌≡◌, ◌<◌, false, length, get_or, ap, sym, ◌∙◌, arith}
 use Rattle.std.proofs.lemmas.List.{length-set}
 use Rattle.dml_types.specs.declared.limits.Settings.{Settings}
 use Rattle.dml_types.specs.Job.{no_op_job, unfenced}
@@ -21,7 +21,7 @@ loop-i-preserved g c =
     let answer : c.carry_out_in_batch.result ≡ (step now.image (unfenced (get_or jobs i no_op_job)) c.args.self.now.settings.staging).1 =
     c.carry_out_in_batch.ensures.answer
     ∙ ap (λ (s : Settings). (step now.image (unfenced (get_or jobs i no_op_job)) s.staging).1) known.2 in (
-      carried_one c.args.self.now.image jobs c.args.self.now.settings.staging c.args.records.now c.requires.size i now.image c.carry_out_in_batch.new.self.image records c.carry_out_in_batch.result known.0 below tested image answer,
+      carried_one c.args.self.now.image jobs c.args.self.now.settings.staging i now.image c.carry_out_in_batch.new.self.image records c.carry_out_in_batch.result known.0 below tested image answer,
       length-set records i c.carry_out_in_batch.result ∙ known.1,
       c.carry_out_in_batch.ensures.settings ∙ known.2,
       c.carry_out_in_batch.ensures.watched ∙ known.3,

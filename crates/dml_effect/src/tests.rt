@@ -230,7 +230,7 @@ fn moves_in_two_chunks(rt: HostRuntime) -> Result<(), Fail> {
 
 #[test]
 fn pages_that_can_be_lent(rt: HostRuntime) -> Result<(), Fail> {
-    let bytes = vec![in rt.alloc(); 0; 3 * 4096]?;
+    let bytes = vec![in rt.alloc(); 0; 4097 * 4096]?;
     for (len, is_lent) in [
         (0, false),
         (1, false),
@@ -240,6 +240,10 @@ fn pages_that_can_be_lent(rt: HostRuntime) -> Result<(), Fail> {
         (8192, true),
         (12_287, false),
         (12_288, true),
+        (16_777_215, false),
+        (16_777_216, true),
+        (16_777_217, false),
+        (16_781_312, false),
     ] {
         assert_eq!(rt; bytes.get(..len).map(are_pages), Some(is_lent));
     }

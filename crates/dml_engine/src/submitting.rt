@@ -13,7 +13,7 @@ use std::sync::Wait;
 use std::thread::Threads;
 
 /// The most jobs of a list or a batch.
-pub(crate) const MOST_JOBS: usize = 1024;
+pub(crate) const MOST_JOBS: usize = dml_types::MOST_JOBS as usize;
 
 impl<G: Gate + Sync> Engine<G> {
     /// Carries out a job, and returns its completion record. A refused job changes nothing. One job pays for no worker,

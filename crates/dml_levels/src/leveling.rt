@@ -18,7 +18,7 @@ use std::alloc::{AllocError, Global};
 const FEW_JOBS: usize = 16;
 
 /// Above so many jobs too.
-const MOST_JOBS: usize = 65_536;
+const MANY_JOBS: usize = 65_536;
 
 /// And where the jobs' ranges cover more cells, each counted as often as it is covered.
 const MOST_COVERED: u64 = 262_144;
@@ -31,7 +31,7 @@ pub(crate) fn find_levels(alloc: Global, jobs: &[Checked]) -> Result<Vec<u32>, A
     ensures { IfOk result (λ list. list.items ≡ word.levels jobs.now) }
 {
     let reaches = find_reaches(alloc, jobs)?;
-    if jobs.len() > FEW_JOBS && jobs.len() <= MOST_JOBS && !are_apart(reaches.as_slice()) {
+    if jobs.len() > FEW_JOBS && jobs.len() <= MANY_JOBS && !are_apart(reaches.as_slice()) {
         let starts = find_starts(alloc, jobs)?;
         let footprints = find_footprints(alloc, starts.as_slice(), jobs)?;
         if covered(footprints.as_slice()) <= MOST_COVERED {

@@ -4,8 +4,9 @@
  *
  * A job is a descriptor of 64 bytes and answers a completion record of 32, both laid out as linux/idxd.h has them; all
  * numbers are little-endian. No function has a precondition but that its pointers are valid for the bytes named, and
- * that memory which is written is passed once only. Each answers a code where something may be wrong with the call
- * itself; what is wrong with a job stands in its completion record. docs/C.md says all of it.
+ * that memory which is written is passed once only; a pointer with a length or a number of 0 may be NULL. Each answers
+ * a code where something may be wrong with the call itself; what is wrong with a job stands in its completion record.
+ * docs/C.md says all of it.
  */
 #ifndef KAZOVUNI_H
 #define KAZOVUNI_H

@@ -1,6 +1,7 @@
 /*
  * The worked rows of calls that are no jobs, through kazovuni.h: handles with and without an engine, pages and bytes at
- * the edges of an image, counts that differ, and lists that are longer than one wave or one list of the program takes.
+ * the edges of an image, counts that differ, lists that are longer than one wave or one list of the program takes, and
+ * NULL with a length or a number of 0.
  */
 #include "kazovuni.h"
 
@@ -144,6 +145,35 @@ static void try_lists(void)
     kazovuni_free(&engine);
 }
 
+/* NULL with a length or a number of 0, in each call that takes one: it is no pages, a range of no byte, or no job. */
+static void try_null(void)
+{
+    static uint8_t page[PAGE], descriptors[1][64], records[1][32];
+    const uint8_t *list = descriptors[0];
+    kazovuni_engine engine = {0};
+    memset(records, 0xcc, sizeof records);
+    EXPECT(kazovuni_submit_over(NULL, 0, list, 0, records[0]) == KAZOVUNI_NOT_PAGES);
+    EXPECT(kazovuni_submit_pointers(0, NULL, 0, list, 0, records[0]) == KAZOVUNI_NOT_PAGES);
+    EXPECT(kazovuni_submit_list_over(NULL, 0, list, 1, 0, records[0], 1) == KAZOVUNI_NOT_PAGES);
+    EXPECT(kazovuni_submit_list_over(NULL, 0, NULL, 0, 0, NULL, 0) == KAZOVUNI_NOT_PAGES);
+    EXPECT(kazovuni_submit_list_over(page, PAGE, NULL, 0, 0, NULL, 0) == KAZOVUNI_OK);
+    EXPECT(kazovuni_submit_list_over(page, PAGE, NULL, 0, 0, records[0], 1) == KAZOVUNI_NOT_AS_MANY);
+    EXPECT(kazovuni_submit_list_over(page, PAGE, list, 1, 0, NULL, 0) == KAZOVUNI_NOT_AS_MANY);
+    EXPECT(kazovuni_read(&engine, 0, NULL, 0) == KAZOVUNI_NO_ENGINE);
+    EXPECT(kazovuni_write(&engine, 0, NULL, 0) == KAZOVUNI_NO_ENGINE);
+    EXPECT(kazovuni_submit_list(&engine, NULL, 0, NULL, 0) == KAZOVUNI_NO_ENGINE);
+    EXPECT(kazovuni_create(&engine, 1, 0) == KAZOVUNI_OK); /* its page is absent */
+    EXPECT(kazovuni_read(&engine, 0, NULL, 0) == KAZOVUNI_OK);
+    EXPECT(kazovuni_read(&engine, UINT64_MAX, NULL, 0) == KAZOVUNI_OK);
+    EXPECT(kazovuni_write(&engine, 0, NULL, 0) == KAZOVUNI_OK);
+    EXPECT(kazovuni_write(&engine, UINT64_MAX, NULL, 0) == KAZOVUNI_OK);
+    EXPECT(kazovuni_submit_list(&engine, NULL, 0, NULL, 0) == KAZOVUNI_OK);
+    EXPECT(kazovuni_submit_list(&engine, NULL, 0, records[0], 1) == KAZOVUNI_NOT_AS_MANY);
+    EXPECT(kazovuni_submit_list(&engine, list, 1, NULL, 0) == KAZOVUNI_NOT_AS_MANY);
+    EXPECT(records[0][0] == 0xcc && kazovuni_read(&engine, 0, page, 1) == KAZOVUNI_ABSENT);
+    kazovuni_free(&engine);
+}
+
 int main(void)
 {
     kazovuni_engine engine = {0};
@@ -155,6 +185,7 @@ int main(void)
     try_last_page();
     try_pages();
     try_lists();
+    try_null();
     if (!failed)
         printf("table_calls: all as they have to be\n");
     return failed;

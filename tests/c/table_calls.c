@@ -1,7 +1,7 @@
 /*
  * The worked rows of calls that are no jobs, through kazovuni.h: handles with and without an engine, pages and bytes at
  * the edges of an image, counts that differ, lists that are longer than one wave or one list of the program takes, and
- * NULL with a length or a number of 0.
+ * NULL with a length or a number of 0. Then the largest create and the largest apply that there are, over lent memory.
  */
 #include "kazovuni.h"
 
@@ -174,6 +174,72 @@ static void try_null(void)
     kazovuni_free(&engine);
 }
 
+/* The most bytes that a create compares, and that its record has then, where all of its blocks differ. */
+enum { MOST_BYTES = 0x80000, MOST_RECORD = 655360, SECOND = MOST_BYTES, RECORD = 2 * MOST_BYTES };
+enum { LENT_BYTES = RECORD + MOST_RECORD };
+
+static uint8_t lent[LENT_BYTES];
+
+enum lent_form { BY_OFFSETS, AS_A_LIST, BY_POINTERS, LENT_FORMS };
+
+/* Submits a job whose addresses are offsets, over all lent bytes. */
+static uint8_t submit_lent(enum lent_form form, kazovuni_job job, uint32_t staging, uint8_t record[32])
+{
+    uint8_t descriptor[64];
+    uint64_t base = form == BY_POINTERS ? (uintptr_t)lent : 0;
+    job.source += base;
+    job.target += base;
+    job.extra += job.opcode == 0x07 ? base : 0; /* the place of a create's record */
+    EXPECT(kazovuni_encode(&job, descriptor) && kazovuni_need(descriptor) == MOST_RECORD);
+    memset(record, 0xcc, 32);
+    switch (form) {
+    case BY_OFFSETS:
+        return kazovuni_submit_over(lent, LENT_BYTES, descriptor, staging, record);
+    case AS_A_LIST:
+        return kazovuni_submit_list_over(lent, LENT_BYTES, descriptor, 1, staging, record, 1);
+    default:
+        return kazovuni_submit_pointers(base, lent, LENT_BYTES, descriptor, staging, record);
+    }
+}
+
+/* Whether the two ranges hold these bytes, and the record at its place an entry for each block of the second. */
+static bool holds(const uint8_t *first, const uint8_t *second)
+{
+    for (size_t block = 0; block < MOST_BYTES / 8; block++) {
+        const uint8_t *entry = lent + RECORD + 10 * block;
+        if (entry[0] != (uint8_t)block || entry[1] != (uint8_t)(block >> 8) ||
+            memcmp(entry + 2, second + 8 * block, 8) != 0)
+            return false;
+    }
+    return memcmp(lent, first, MOST_BYTES) == 0 && memcmp(lent + SECOND, second, MOST_BYTES) == 0;
+}
+
+/* A create of all that it may compare, where each block differs, and an apply of its record, which is as long. */
+static void try_largest(enum lent_form form)
+{
+    static uint8_t zeros[MOST_BYTES], second[MOST_BYTES];
+    uint8_t record[32], wanted[32] = {0x7e};
+    kazovuni_job create = {.opcode = 0x07, .target = SECOND, .extra = RECORD, .size = MOST_BYTES};
+    kazovuni_job apply = {.opcode = 0x08, .source = RECORD, .size = MOST_BYTES, .delta_size = MOST_RECORD};
+    create.delta_size = MOST_RECORD;
+    memset(lent, 0, LENT_BYTES);
+    for (size_t place = 0; place < MOST_BYTES; place++)
+        second[place] = (uint8_t)(1 + (place / 8 + place) % 255);
+    memcpy(lent + SECOND, second, MOST_BYTES);
+    EXPECT(submit_lent(form, create, MOST_RECORD - 1, record) == KAZOVUNI_OK && memcmp(record, wanted, 32) == 0);
+    wanted[0] = 0x01;
+    wanted[1] = 1;
+    put(wanted + 4, MOST_BYTES, 4);
+    put(wanted + 16, MOST_RECORD, 4);
+    EXPECT(submit_lent(form, create, MOST_RECORD, record) == KAZOVUNI_OK && memcmp(record, wanted, 32) == 0);
+    EXPECT(holds(zeros, second));
+    wanted[1] = 0;
+    put(wanted + 4, MOST_RECORD, 4);
+    put(wanted + 16, 0, 4);
+    EXPECT(submit_lent(form, apply, MOST_RECORD, record) == KAZOVUNI_OK && memcmp(record, wanted, 32) == 0);
+    EXPECT(holds(second, second));
+}
+
 int main(void)
 {
     kazovuni_engine engine = {0};
@@ -186,6 +252,8 @@ int main(void)
     try_pages();
     try_lists();
     try_null();
+    for (enum lent_form form = BY_OFFSETS; form < LENT_FORMS; form++)
+        try_largest(form);
     if (!failed)
         printf("table_calls: all as they have to be\n");
     return failed;

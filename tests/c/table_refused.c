@@ -11,7 +11,8 @@
 #include <stdlib.h>
 #include <string.h>
 
-enum { PAGE = KAZOVUNI_PAGE_BYTES, STAGING = 40 };
+/* What the create below needs, which an engine is made with, and the limit over lent memory, which is far above it. */
+enum { PAGE = KAZOVUNI_PAGE_BYTES, NEED = 40, LIMIT = 1 << 20 };
 
 /* ---- the heap */
 
@@ -94,7 +95,7 @@ static void walk_engine(const uint8_t page[PAGE])
 {
     kazovuni_engine engine = {0};
     uint8_t bytes[PAGE], records[1][32];
-    while (!is_done(CREATE, kazovuni_create(&engine, 2, STAGING)))
+    while (!is_done(CREATE, kazovuni_create(&engine, 2, NEED)))
         expect("the handle of no engine", engine.engine == NULL && !engine.is_open && blocks == 0);
     while (!is_done(BRING, kazovuni_bring(&engine, 0, page)))
         expect("a page that was not brought", kazovuni_read(&engine, 0, bytes, 1) == KAZOVUNI_ABSENT);
@@ -120,16 +121,17 @@ static uint8_t submit(enum call call, uint8_t bytes[PAGE], uint8_t records[1][32
     uint8_t by_pointers[64];
     switch (call) {
     case OVER:
-        return kazovuni_submit_over(bytes, PAGE, create[0], STAGING, records[0]);
+        return kazovuni_submit_over(bytes, PAGE, create[0], LIMIT, records[0]);
     case LIST_OVER:
-        return kazovuni_submit_list_over(bytes, PAGE, create[0], 1, STAGING, records[0], 1);
+        return kazovuni_submit_list_over(bytes, PAGE, create[0], 1, LIMIT, records[0], 1);
     default:
         memcpy(by_pointers, create[0], 64);
         by_pointers[17] = by_pointers[25] = by_pointers[41] = 0x10; /* behind the base */
-        return kazovuni_submit_pointers(PAGE, bytes, PAGE, by_pointers, STAGING, records[0]);
+        return kazovuni_submit_pointers(PAGE, bytes, PAGE, by_pointers, LIMIT, records[0]);
     }
 }
 
+/* A call takes what its job needs, whatever the limit is. */
 static void walk_lent(enum call call, const uint8_t page[PAGE])
 {
     static uint8_t bytes[PAGE];
@@ -137,13 +139,14 @@ static void walk_lent(enum call call, const uint8_t page[PAGE])
     memcpy(bytes, page, PAGE);
     memset(records, 0xcc, 32);
     memset(untouched, 0xcc, 32);
+    largest = 0;
     while (!is_done(call, submit(call, bytes, records))) {
         expect("the bytes of a job that was not begun", memcmp(bytes, page, PAGE) == 0);
         expect("its record", memcmp(records[0], untouched, 32) == 0);
     }
     expect("the record", memcmp(records[0], created, 32) == 0);
     expect("the delta record", memcmp(bytes + 128, delta, 20) == 0);
-    expect("the blocks of a call", blocks == 0);
+    expect("the staging of a call", largest == NEED && blocks == 0);
 }
 
 /* A list takes the greatest need of its jobs that stage bytes, whatever the limit is, and whatever the others need. */
@@ -151,7 +154,7 @@ static void walk_list(void)
 {
     static uint8_t bytes[PAGE], descriptors[5][64], records[5][32];
     static const uint8_t statuses[5] = {0x01, 0x01, 0x13, 0x01, 0x01};
-    memcpy(descriptors[0], create[0], 64); /* needs 40 */
+    memcpy(descriptors[0], create[0], 64);
     memcpy(descriptors[1], create[0], 64);
     descriptors[1][32] = 8; /* needs 10 */
     memcpy(descriptors[2], create[0], 64);
@@ -165,8 +168,8 @@ static void walk_list(void)
         largest = 0;
         memset(records, 0xcc, sizeof records);
     } while (!is_done(
-        LIST_OVER, kazovuni_submit_list_over(bytes, PAGE, descriptors[0], 5, 1 << 20, records[0], 5)));
-    expect("the staging of a list", largest == 40 && blocks == 0);
+        LIST_OVER, kazovuni_submit_list_over(bytes, PAGE, descriptors[0], 5, LIMIT, records[0], 5)));
+    expect("the staging of a list", largest == NEED && blocks == 0);
     for (size_t i = 0; i < 5; i++)
         expect("the status of a job of a list", records[i][0] == statuses[i]);
 }

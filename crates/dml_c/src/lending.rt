@@ -4,7 +4,7 @@ ghost use Rattle.dml_types.specs.Refusal.{need};
 ghost use Rattle.dml_types.specs.Step.{memory_after, records_of, step};
 ghost use Rattle.dml_desc.specs.Descriptor.{bytes_of_record, decoded};
 ghost use Rattle.dml_c.specs.Bases as bases;
-ghost use Rattle.dml_c.specs.Needs.{IsEnough, IsGreatestNeed, TakesSome, room_of};
+ghost use Rattle.dml_c.specs.Needs.{IsEnough, IsGreatestNeed, IsOwnNeed, TakesSome, room_of};
 ghost use Rattle.dml_effect.specs.Pages.{IsPages, all_present};
 ghost use Rattle.dml_effect.specs.Straight.{TakesStaging};
 
@@ -69,7 +69,7 @@ pub extern "C" fn kazovuni_submit_list_over(
     if descriptors.len() != answers.len() {
         return NOT_AS_MANY;
     }
-    let Ok(mut arena) = arena_for(alloc, descriptors, staging) else {
+    let Ok(mut arena) = list_arena(alloc, descriptors, staging) else {
         return NO_MEMORY;
     };
     submit_all(bytes, &mut arena, descriptors, staging, answers);
@@ -93,7 +93,7 @@ fn submit_all(
 {
     for i in 0..descriptors.len() {
         let job = dml_desc::decode(&descriptors[i]);
-        answers[i] = dml_desc::record_bytes(&submit_in(bytes, arena, &job, staging));
+        answers[i] = dml_desc::record_bytes(&submit_one(bytes, arena, &job, staging));
     }
 }
 
@@ -101,7 +101,7 @@ fn submit_all(
 ///
 /// # Errors
 /// There is no memory.
-fn arena_for(
+fn list_arena(
     alloc: Global,
     descriptors: &[[u8; 64]],
     staging: u32,
@@ -130,8 +130,8 @@ fn greatest_need(descriptors: &[[u8; 64]], staging: u32) -> u32
     most
 }
 
-/// Carries out a job in an arena, or without one where it takes no staging.
-fn submit_in(bytes: &mut [u8], arena: &mut Option<Arena>, job: &Job, staging: u32) -> Record
+/// Carries out a job, in an arena or, where it takes no staging, without one.
+fn submit_one(bytes: &mut [u8], arena: &mut Option<Arena>, job: &Job, staging: u32) -> Record
     requires pages { IsPages bytes.old }
     requires staging { TakesStaging job.now staging → need job.now ≤ room_of arena.old }
     ensures content { bytes.new ≡ (step (all_present bytes.old) job.now staging).0.bytes }
@@ -144,21 +144,31 @@ fn submit_in(bytes: &mut [u8], arena: &mut Option<Arena>, job: &Job, staging: u3
     }
 }
 
-/// Carries out a job in an arena of its own, which is taken only where the job takes staging; `None` where there is no
-/// memory for it.
+/// Carries out a job in an arena of its own; `None` where there is no memory for it.
 fn submit_alone(alloc: Global, bytes: &mut [u8], job: &Job, staging: u32) -> Option<Record>
     requires pages { IsPages bytes.old }
     ensures content { IsSome result → bytes.new ≡ (step (all_present bytes.old) job.now staging).0.bytes }
     ensures answer { IfSome result (λ answer. answer ≡ (step (all_present bytes.old) job.now staging).1) }
     ensures no_memory { result ≡ None → TakesStaging job.now staging × (bytes.new ≡ bytes.old) }
 {
-    if !takes_staging(job, staging) {
-        return Some(submit_straight_over(bytes, job, staging));
-    }
-    let Ok(mut arena) = Arena::new(alloc, dml_desc::need(job) as u32) else {
+    let Ok(mut arena) = job_arena(alloc, job, staging) else {
         return None;
     };
-    Some(submit_over(bytes, &mut arena, job, staging))
+    Some(submit_one(bytes, &mut arena, job, staging))
+}
+
+/// The arena of a single job, of as many bytes as it needs; none where it takes no staging.
+///
+/// # Errors
+/// There is no memory.
+fn job_arena(alloc: Global, job: &Job, staging: u32) -> Result<Option<Arena>, ArenaError>
+    ensures size { IfOk result (λ arena. IsOwnNeed (room_of arena) job.now staging) }
+    ensures no_memory { IsErr result → TakesStaging job.now staging }
+{
+    if !takes_staging(job, staging) {
+        return Ok(None);
+    }
+    Ok(Some(Arena::new(alloc, dml_desc::need(job) as u32)?))
 }
 
 /// As `kazovuni_submit_over`, where the descriptor's addresses are the caller's own, and the pages begin at `base`.

@@ -14,20 +14,20 @@ loop-i-preserved c =
     let i = c.loop-i.i in
     let rest = map decoded (drop (i + 1) ds) in
     let before = all_present c.loop-i.bytes in
-    let new = c.submit_in.new.bytes in
+    let new = c.submit_one.new.bytes in
     let job = decoded (get_or ds i []) in
     let known = c.loop-i.invariant in
     let low : i < length ds = omega (arith, c.loop-i-test.true) in
     let same : length new ≡ length c.loop-i.bytes = cc in
-    let bytes : new ≡ (step before job c.args.staging).0.bytes = c.submit_in.ensures.content ∙ ap (λ (j : Job). (step before j c.args.staging).0.bytes) c.decode-job.ensures in
+    let bytes : new ≡ (step before job c.args.staging).0.bytes = c.submit_one.ensures.content ∙ ap (λ (j : Job). (step before j c.args.staging).0.bytes) c.decode-job.ensures in
     let lies = stepped c.loop-i.bytes new job c.args.staging bytes same in
     let next : map decoded (drop i ds) ≡ job ∷ rest = ap (map decoded) (drop_more ds i [] low) in
     let answer : c.record_bytes.result ≡ bytes_of_record (step before job c.args.staging).1 =
-    c.record_bytes.ensures ∙ ap bytes_of_record (c.submit_in.ensures.answer ∙ ap (λ (j : Job). (step before j c.args.staging).1) c.decode-job.ensures) in
+    c.record_bytes.ensures ∙ ap bytes_of_record (c.submit_one.ensures.answer ∙ ap (λ (j : Job). (step before j c.args.staging).1) c.decode-job.ensures) in
     let told : List ℕ → List (List ℕ) = λ bytes. map bytes_of_record (records_of (all_present bytes) rest c.args.staging) in
     record {
       pages = record { whole = omega (arith, same, known.pages.whole); least = omega (arith, same, known.pages.least); most = omega (arith, same, known.pages.most) };
-      arena = c.submit_in.ensures.arena ∙ known.arena;
+      arena = c.submit_one.ensures.arena ∙ known.arena;
       as_many = length-set c.loop-i.answers i c.record_bytes.result ∙ known.as_many;
       image =
           ap (λ (m : Memory). memory_after m rest c.args.staging) lies

@@ -92,6 +92,13 @@ impl CEngine {
         }
     }
 
+    /// Frees the engine, where there is one.
+    pub fn close(&mut self, alloc: Global)
+        ensures { self.new.handle.state ≡ None }
+    {
+        drop(self.take(alloc));
+    }
+
     /// Puts an engine in.
     pub fn put(&mut self, engine: Box<Engine>)
         requires { self.old.handle.state ≡ None }

@@ -55,7 +55,7 @@ pub extern "C" fn kazovuni_create(
 pub extern "C" fn kazovuni_free(alloc: Global, engine: &mut CEngine)
     ensures { engine.new.handle.state ≡ None }
 {
-    drop(engine.take(alloc));
+    engine.close(alloc);
 }
 
 /// Makes a page present with these bytes; a page that is present is overwritten, and needs no memory.

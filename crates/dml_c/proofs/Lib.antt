@@ -1,4 +1,5 @@
 pub mod AsBox
+pub mod BaseLemmas
 pub mod PageLemmas
 pub mod Steps
 pub mod Walks

@@ -1,5 +1,8 @@
 //! Jobs whose addresses are the caller's own pointers.
-ghost use Rattle.std.specs.Prelude.{◌≡◌};
+ghost use Rattle.std.specs.Prelude.{◌≡◌, ◌↔◌, ℕ, ◌+◌, ◌-◌, ◌^◌, ◌<◌, ◌≤◌, ◌⊎◌, true, false, List, length};
+ghost use Rattle.dml_types.specs.Job.{is_past, span};
+ghost use Rattle.dml_types.specs.Memory.{has};
+ghost use Rattle.dml_effect.specs.Pages.{all_present};
 ghost use Rattle.dml_c.specs.Bases as base;
 
 use dml_types::{Job, Op, Record, Status};
@@ -55,3 +58,21 @@ pub fn answered_at(start: u64, answer: &Record) -> Record
         _ => *answer,
     }
 }
+
+/// Addresses counted from a base: with the base put back they are the caller's again; from the base on they are the
+/// distance. Of pages that end at 2^64 at most, each byte is present at its own address, and from an address below the
+/// base, or behind the pages, on there is none. A range ends above 2^64 exactly where it goes on over the base.
+pub fn law_of_bases()
+    ensures back { (start address : ℕ) → start < 2 ^ 64 → address < 2 ^ 64 →
+        base.address_at start (base.distance start address) ≡ address }
+    ensures from_the_base { (start address : ℕ) → start ≤ address → address < 2 ^ 64 →
+        base.distance start address ≡ address - start }
+    ensures within { (start address : ℕ) (content : List ℕ) → base.ArePagesAt start content →
+        start ≤ address → address < start + length content →
+        has (all_present content) (base.distance start address) ≡ true }
+    ensures outside { (start address i : ℕ) (content : List ℕ) → base.ArePagesAt start content →
+        address < 2 ^ 64 → (address < start) ⊎ (start + length content ≤ address) →
+        has (all_present content) (base.distance start address + i) ≡ false }
+    ensures range { (start address n : ℕ) → start < 2 ^ 64 → address < 2 ^ 64 →
+        (is_past (span (base.distance start address) n) ≡ true) ↔ base.GoesOver start address n }
+{}

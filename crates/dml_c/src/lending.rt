@@ -172,7 +172,8 @@ fn job_arena(alloc: Global, job: &Job, staging: u32) -> Result<Option<Arena>, Ar
 }
 
 /// As `kazovuni_submit_over`, where the descriptor's addresses are the caller's own, and the pages begin at `base`.
-/// A fault is answered with the caller's address. An address below the base is past the end of the pages.
+/// A fault is answered with the caller's address. Where `base` and the bytes together are at most 2^64, an address below
+/// the base is past the end of the pages (`law_of_bases`).
 #[unsafe(no_mangle)]
 pub extern "C" fn kazovuni_submit_pointers(
     alloc: Global,

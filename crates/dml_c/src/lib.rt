@@ -14,6 +14,7 @@ mod looking;
 mod parts;
 mod values;
 
+pub use bases::law_of_bases;
 pub use handles::CEngine;
 pub use holding::{
     kazovuni_bring, kazovuni_create, kazovuni_free, kazovuni_read, kazovuni_submit,

@@ -11,6 +11,7 @@
 #include <string.h>
 
 static_assert(sizeof(kazovuni_job) == 40, "the fields of a job as the library has them");
+static_assert(offsetof(kazovuni_job, opcode) == 0, "opcode");
 static_assert(offsetof(kazovuni_job, expected) == 1, "expected");
 static_assert(offsetof(kazovuni_job, flags) == 4, "flags");
 static_assert(offsetof(kazovuni_job, source) == 8, "source");
@@ -20,6 +21,8 @@ static_assert(offsetof(kazovuni_job, size) == 32, "size");
 static_assert(offsetof(kazovuni_job, delta_size) == 36, "delta_size");
 
 static_assert(sizeof(kazovuni_record) == 24, "the fields of a record as the library has them");
+static_assert(offsetof(kazovuni_record, status) == 0, "status");
+static_assert(offsetof(kazovuni_record, result) == 1, "result");
 static_assert(offsetof(kazovuni_record, completed) == 4, "completed");
 static_assert(offsetof(kazovuni_record, fault) == 8, "fault");
 static_assert(offsetof(kazovuni_record, delta_size) == 16, "delta_size");

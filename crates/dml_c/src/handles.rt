@@ -1,5 +1,6 @@
 //! The handle of an engine, as C holds it.
 ghost use Rattle.std.specs.Prelude.{◌≡◌, ◌↔◌, Option, None, Some, IsSome, IsTrue, option_map};
+ghost use denote.RawPtr.{null_ptr};
 ghost use Rattle.dml_c.specs.State.{State};
 
 use crate::engines::Engine;
@@ -25,7 +26,7 @@ impl Model for Handle {
 impl Handle {
     /// That of no engine, which is zero.
     fn none(alloc: Global) -> Handle
-        ensures { result.state ≡ None }
+        ensures { (result.state ≡ None) × (result.at ≡ null_ptr) }
     {
         let at = std::ptr::null_mut();
         Handle { at, alloc }
@@ -58,12 +59,13 @@ impl Handle {
     }
 }
 
-/// An engine's handle; `struct kazovuni_engine` of C. Zeroed, it has no engine.
+/// An engine's handle; `struct kazovuni_engine` of C. Without an engine it is zeroed.
 #[repr(C)]
 pub struct CEngine {
     pub handle: Handle,
     pub is_open: bool,
     ghost tied: { IsTrue is_open ↔ IsSome handle.state },
+    ghost zeroed: { handle.state ≡ None → handle.at ≡ null_ptr },
 }
 
 impl CEngine {

@@ -10,7 +10,7 @@ use Rattle.dml_order.specs.Order.{run_all, is_in}
 use Rattle.dml_order.specs.Waves.{joined}
 use Rattle.dml_core.specs.Types.{Job, Settings, Fetched, Task, Step, Submit, Fetch, Take, Finish, Commit}
 use Rattle.dml_core.specs.Plan.{no_entry, entry_at, jobs_of, tasks_at}
-use Rattle.dml_core.specs.World.{Kept, Value, value_of, World, new_world, sent_by, part_of, next_job, in_hand, no_hand, is_empty, is_allowed, carry_out, progress_of, wave_at, wave_tasks, entry_for, kept_by, kept_now, after, run, Reaches}
+use Rattle.dml_core.specs.World.{Kept, Value, value_of, World, new_world, sent_by, part_of, next_job, in_hand, no_hand, is_empty, is_allowed, carry_out, world_progress, wave_at, wave_tasks, entry_for, kept_by, kept_now, after, run, Reaches}
 use Rattle.dml_core.specs.Laws.{held, how_many, CoreKeeps, submitted, SentIsSubmitted, OnlyCommitWrites, is_task, kept_with, job_tasks, EachHasItsValues, KeptJoinToStep}
 use Rattle.dml_core.proofs.FoldLemmas.{blank, blanks_stay}
 use Rattle.dml_core.proofs.OrderedLemmas.{IsOrdered, ordered_at_first, ordered_after_wave, ordered_after_fetch, ordered_image, ordered_answers}
@@ -127,8 +127,8 @@ parts_after w (Take worker) parts allowed client = parts client
 parts_after w (Finish worker) parts allowed client = parts client
 parts_after w Commit parts allowed client =
     let old = parts client in
-    let next = (run_all (carry_out w.settings.staging) (progress_of w) (wave_at w 0)).fetched in
-    (old.0, old.1 ∙ ap (λ (list : List Job). list ++ old.0) (same_part client w.fetched next (sym (blanks_stay w.settings.staging (wave_at w 0) (progress_of w)))))
+    let next = (run_all (carry_out w.settings.staging) (world_progress w) (wave_at w 0)).fetched in
+    (old.0, old.1 ∙ ap (λ (list : List Job). list ++ old.0) (same_part client w.fetched next (sym (blanks_stay w.settings.staging (wave_at w 0) (world_progress w)))))
 
 -- the tasks
 abbrev pub finished_tasks : World → List Task

@@ -6,9 +6,9 @@ use Rattle.std.proofs.lemmas.List.Folds.{list_any-append}
 use Rattle.std.proofs.lemmas.List.Elements.{All-head}
 use Rattle.std.specs.Prelude.{nat_eq, nat_lt, slice_index, ◌&&◌}
 use Rattle.std.specs.List.{range_with_len}
-use Rattle.dml_types.specs.Conflict.{levels_of}
+use Rattle.dml_types.specs.Conflict.{clash_levels}
 use Rattle.dml_order.specs.Order.{is_in, IsOrder, without, Picks}
-use Rattle.dml_order.specs.Waves.{joined, waves_for, IsOfOneLevel}
+use Rattle.dml_order.specs.Waves.{joined, clash_waves, IsOfOneLevel}
 use Rattle.dml_order.proofs.OrderLemmas.{left_after}
 use Rattle.dml_order.proofs.LevelLemmas.{levels_rise}
 use Rattle.dml_order.proofs.WaveLemmas.{waves_order, in_filter}
@@ -122,9 +122,9 @@ picks_behind clash [] ys left picks = picks
 picks_behind clash (x ∷ xs) ys left picks = picks_behind clash xs ys (without left x) picks.1
 
 -- no earlier place clashes with one of the first wave
-pub first_is_free : (fits : List ℕ → Bool) (clash : ℕ → ℕ → Bool) (n : ℕ) (wave : List ℕ) (rest : List (List ℕ)) → waves_for fits clash n ≡ wave ∷ rest → (i k : ℕ) → is_in i wave ≡ true → k < i → clash k i ≡ false
+pub first_is_free : (fits : List ℕ → Bool) (clash : ℕ → ℕ → Bool) (n : ℕ) (wave : List ℕ) (rest : List (List ℕ)) → clash_waves fits clash n ≡ wave ∷ rest → (i k : ℕ) → is_in i wave ≡ true → k < i → clash k i ≡ false
 first_is_free fits clash n wave rest cut i k here low =
-    let levels = levels_of clash n in
+    let levels = clash_levels clash n in
     let order : IsOrder clash n (wave ++ joined rest) = subst (λ (w : List (List ℕ)). IsOrder clash n (joined w)) cut (waves_order fits clash n) in
     let level : IsOfOneLevel levels wave = All-head (IsOfOneLevel levels) wave rest (subst (λ (w : List (List ℕ)). All (IsOfOneLevel levels) w) cut (waves_of_one_level fits levels)) in
     let split = member_split wave i here in

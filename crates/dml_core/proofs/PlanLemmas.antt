@@ -9,7 +9,7 @@ use Rattle.dml_types.specs.Conflict.{conflict, clash_of, levels, ranges_of}
 use Rattle.dml_types.specs.declared.spans.Span.{Span}
 use Rattle.dml_types.specs.Job.{reads, writes}
 use Rattle.dml_order.specs.Order.{is_in, Picks, all_below}
-use Rattle.dml_order.specs.Waves.{joined, waves_for, is_nil}
+use Rattle.dml_order.specs.Waves.{joined, clash_waves, is_nil}
 use Rattle.dml_order.proofs.OrderLemmas.{left_after}
 use Rattle.dml_order.proofs.KeepsLemmas.{left_after_is}
 use Rattle.dml_order.proofs.WaveLemmas.{picks_range, picks_append, left_after_append, waves_picks, waves_order}
@@ -139,7 +139,7 @@ alone wave =
     ] refl
 
 -- the plan, by the waves of the accepted jobs
-by_waves : (jobs : List Job) (staging chunk : ℕ) (opened : ℕ → Bool) (n : ℕ) (places : List ℕ) → places ≡ filter (accepted_test jobs staging opened) (range_with_len 0 n) → (list : List (List ℕ)) → waves_for (fits_wave (map (job_at jobs) places) staging chunk) (clash_of (map (job_at jobs) places)) (length (map (job_at jobs) places)) ≡ list → IsPlanned (waits jobs staging) (opened_below opened n) (joined (with_refused jobs staging (filter opened (range_with_len 0 n)) (map (map (slice_index places)) list)))
+by_waves : (jobs : List Job) (staging chunk : ℕ) (opened : ℕ → Bool) (n : ℕ) (places : List ℕ) → places ≡ filter (accepted_test jobs staging opened) (range_with_len 0 n) → (list : List (List ℕ)) → clash_waves (fits_wave (map (job_at jobs) places) staging chunk) (clash_of (map (job_at jobs) places)) (length (map (job_at jobs) places)) ≡ list → IsPlanned (waits jobs staging) (opened_below opened n) (joined (with_refused jobs staging (filter opened (range_with_len 0 n)) (map (map (slice_index places)) list)))
 by_waves jobs staging chunk opened n places is [] cut =
     let own = clash_of (map (job_at jobs) places) in
     let size = length-map places (job_at jobs) in

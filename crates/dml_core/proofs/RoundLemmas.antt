@@ -13,7 +13,7 @@ use Rattle.dml_order.proofs.OrderLemmas.{left_after, range_split, filter_range_s
 use Rattle.dml_order.proofs.KeepsLemmas.{left_after_is}
 use Rattle.dml_core.specs.Types.{Job, Settings, Record, Fetched, Task, Step, Submit, Fetch, Take, Finish, Commit}
 use Rattle.dml_core.specs.Plan.{no_entry, entry_at, jobs_of, is_open, open_places, planned, plan_of, tasks_of}
-use Rattle.dml_core.specs.World.{World, new_world, sent_by, part_of, next_job, no_hand, is_empty, is_allowed, progress_of, wave_at, wave_tasks, entry_for, after, Reaches}
+use Rattle.dml_core.specs.World.{World, new_world, sent_by, part_of, next_job, no_hand, is_empty, is_allowed, world_progress, wave_at, wave_tasks, entry_for, after, Reaches}
 use Rattle.dml_core.specs.Laws.{committed}
 use Rattle.dml_core.specs.Rounds.{Sent, jobs_in, fetch_steps, work_steps, wave_steps, round_steps, rounds_steps, all_sent, answered, IsRound, HasRun, RoundHasRun, RoundsHaveRuns}
 use Rattle.dml_core.proofs.FoldLemmas.{blank, blanks_stay, jobs_stay}
@@ -122,7 +122,7 @@ commits (wave ∷ waves) jobs staging chunk w cut known stages chunks ready none
     and_from _ _ (and_from _ _ (ap (λ (list : List (List ℕ)). not (is_empty list)) (here.waves ∙ cut) ∙ not_empty wave waves) (ap is_empty work.to_do)) (ap (list_all is_none) here.hands ∙ free) in
     let next = after v Commit in
     let rest = commits waves jobs staging chunk next (ap (drop 1) (here.waves ∙ cut))
-    (jobs_stay v.settings.staging (wave_at v 0) (progress_of v) ∙ (ap jobs_of here.fetched ∙ known))
+    (jobs_stay v.settings.staging (wave_at v 0) (world_progress v) ∙ (ap jobs_of here.fetched ∙ known))
     (ap (λ (s : Settings). s.staging) here.settings ∙ stages) (ap (λ (s : Settings). s.chunk) here.settings ∙ chunks) refl refl
     (ap (list_all is_none) here.hands ∙ free) (subst (λ (list : List (Option Task)). 0 < length list) (sym here.hands) some) in
     record {
@@ -132,7 +132,7 @@ commits (wave ∷ waves) jobs staging chunk w cut known stages chunks ready none
       same = record {
         settings = rest.same.settings ∙ here.settings;
         sent = rest.same.sent ∙ here.sent;
-        fetched = rest.same.fetched ∙ (blanks_stay v.settings.staging (wave_at v 0) (progress_of v) ∙ ap (map blank) here.fetched);
+        fetched = rest.same.fetched ∙ (blanks_stay v.settings.staging (wave_at v 0) (world_progress v) ∙ ap (map blank) here.fetched);
         hands = rest.same.hands ∙ here.hands;
       };
       done = rest.done;

@@ -103,8 +103,8 @@ pub record Progress : Type 0 where
 abbrev pub progress : Memory → List Fetched → Progress
 progress image fetched = record { image = image; fetched = fetched }
 
-abbrev pub progress_of : World → Progress
-progress_of w = progress w.image w.fetched
+abbrev pub world_progress : World → Progress
+world_progress w = progress w.image w.fetched
 
 -- the job at a place carried out, with its answer set
 abbrev pub carry_out : ℕ → Progress → ℕ → Progress
@@ -141,7 +141,7 @@ after w (Take worker) =
 after w (Finish worker) =
     record w { hands = slice_set w.hands worker None; finished = w.finished ++ kept_now w (in_hand w worker) }
 after w Commit =
-    let done = run_all (carry_out w.settings.staging) (progress_of w) (wave_at w 0) in
+    let done = run_all (carry_out w.settings.staging) (world_progress w) (wave_at w 0) in
     set_out (record w { image = done.image; fetched = done.fetched; waves = drop 1 w.waves; finished = [] })
 
 -- the world after the steps, and no place; or the world before the first step that is not allowed, with its

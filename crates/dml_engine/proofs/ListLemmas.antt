@@ -6,7 +6,7 @@ use Rattle.dml_types.specs.declared.jobs.Job.{Job}
 use Rattle.dml_types.specs.declared.records.Record.{Record}
 use Rattle.dml_types.specs.Job.{no_op_job, unfenced}
 use Rattle.dml_types.specs.Refusal.{refusal}
-use Rattle.dml_types.specs.Conflict.{fenced_clash, fenced_levels, levels_of}
+use Rattle.dml_types.specs.Conflict.{fenced_clash, fenced_levels, clash_levels}
 use Rattle.dml_types.specs.Memory.{Memory, IsWhole}
 use Rattle.dml_order.specs.Order.{run_all}
 use Rattle.dml_order.specs.Waves.{joined, waves_of}
@@ -39,7 +39,7 @@ waves_give in_order hold only_add memory jobs checked staging room chunk blank l
     let clash = fenced_clash checked in
     let count : length checked ≡ length jobs = ap length same ∙ length-map jobs (unless_refused staging) in
     ap (λ (w : List (List ℕ)). run_all (carried jobs staging) (begun memory blank) (joined w))
-    (cut ∙ ap (λ n. waves_of fits (levels_of clash n)) count)
+    (cut ∙ ap (λ n. waves_of fits (clash_levels clash n)) count)
     ∙ in_order memory jobs staging blank clash fits whole size
     (subst (λ (list : List Job). HoldsConflicts (fenced_clash list) jobs staging) (sym same) (only_add jobs (map (unless_refused staging) jobs) staging (hold jobs staging)))
 

@@ -5,7 +5,7 @@ use Rattle.std.proofs.lemmas.List.{get_or-map, length-map, take_all}
 use Rattle.std.specs.List.{range_with_len}
 use Rattle.dml_types.specs.declared.jobs.Job.{Job}
 use Rattle.dml_types.specs.Job.{is_fenced, no_op_job, unfenced}
-use Rattle.dml_types.specs.Conflict.{conflict, fenced_clash, levels_of}
+use Rattle.dml_types.specs.Conflict.{conflict, fenced_clash, clash_levels}
 use Rattle.dml_order.specs.Order.{IsOrder, run_all}
 use Rattle.dml_order.specs.Waves.{further, joined, waves_of}
 use Rattle.dml_order.proofs.WaveLemmas.{joined_append, waves_order}
@@ -64,7 +64,7 @@ one_list_is_fold memory jobs staging chunk blank whole size =
     let own = list jobs staging in
     let these = free jobs staging in
     let fits = fits_wave own staging chunk in
-    ap (λ n. run_all (carried these staging) (begun memory blank) (joined (waves_of fits (levels_of (fenced_clash own) n))))
+    ap (λ n. run_all (carried these staging) (begun memory blank) (joined (waves_of fits (clash_levels (fenced_clash own) n))))
     (long jobs staging ∙ sym (long_free jobs staging))
     ∙ waves_in_order memory these staging blank (fenced_clash own) fits whole (size ∙ sym (long_free jobs staging)) (list_holds jobs staging)
 

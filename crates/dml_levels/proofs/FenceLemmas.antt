@@ -8,7 +8,7 @@ use Rattle.std.specs.List.{list_any}
 use Rattle.std.specs.Prelude.{slice_index, slice_range, ◌||◌}
 use Rattle.dml_types.specs.declared.jobs.Job.{Job}
 use Rattle.dml_types.specs.Job.{is_fenced, no_op_job}
-use Rattle.dml_types.specs.Conflict.{clash_of, conflict, fenced_clash, level_over, levels, levels_of}
+use Rattle.dml_types.specs.Conflict.{clash_of, conflict, fenced_clash, level_over, levels, clash_levels}
 use Rattle.dml_order.specs.Waves.{depth}
 use Rattle.dml_order.proofs.LevelLemmas.{length_levels_of, level_among, level_le, level_more, levels_of_more}
 use Rattle.dml_levels.specs.Waves.{job_at}
@@ -20,23 +20,23 @@ depth_more xs n below =
     ∙ (ap (fold max 0) (map-append (λ level. level + 1) (take n xs) (slice_index xs n ∷ []))
     ∙ fold-append max 0 (map (λ level. level + 1) (take n xs)) ((slice_index xs n + 1) ∷ []))
 
-depth_within : (clash : ℕ → ℕ → Bool) (m n : ℕ) → n ≤ m → depth (take n (levels_of clash m)) ≤ n
+depth_within : (clash : ℕ → ℕ → Bool) (m n : ℕ) → n ≤ m → depth (take n (clash_levels clash m)) ≤ n
 depth_within clash m zero within = omega arith
 depth_within clash m (suc n) within =
-    let xs = levels_of clash m in
+    let xs = clash_levels clash m in
     let step : depth (take (suc n) xs) ≡ max (depth (take n xs)) (slice_index xs n + 1) =
     ap (λ k. depth (take k xs)) (let e : suc n ≡ n + 1 = omega arith in e) ∙ depth_more xs n (omega (arith, length_levels_of clash m)) in
     omega (arith, step, depth_within clash m n (omega arith), level_le clash m n (omega arith))
 
 -- there are at most as many levels as places
-pub depth_le : (clash : ℕ → ℕ → Bool) (n : ℕ) → depth (levels_of clash n) ≤ n
+pub depth_le : (clash : ℕ → ℕ → Bool) (n : ℕ) → depth (clash_levels clash n) ≤ n
 depth_le clash n =
-    omega (arith, depth_within clash n n (omega arith), ap depth (take_all n (levels_of clash n) (omega (arith, length_levels_of clash n))))
+    omega (arith, depth_within clash n n (omega arith), ap depth (take_all n (clash_levels clash n) (omega (arith, length_levels_of clash n))))
 
 -- a place with which all places before `from` clash, and those from there on as by themselves
 module _ (clash own : ℕ → ℕ → Bool) (from count : ℕ) (before : (i k : ℕ) → i < from → from ≤ k → k < from + count → clash i k ≡ true) (inside : (j k : ℕ) → j < k → k < count → clash (from + j) (from + k) ≡ own j k) where
   abbrev front : List ℕ
-  front = levels_of clash from
+  front = clash_levels clash from
 
   abbrev raised : List ℕ → List ℕ
   raised piece = map (λ level. depth front + level) piece
@@ -90,23 +90,23 @@ module _ (clash own : ℕ → ℕ → Bool) (from count : ℕ) (before : (i k : 
     pub level_raised : level_over clash levels (from + m) ≡ depth front + level_over own piece m
     level_raised = in_piece m (omega arith)
 
-  pub levels_raised : (m : ℕ) → m ≤ count → levels_of clash (from + m) ≡ front ++ raised (levels_of own m)
+  pub levels_raised : (m : ℕ) → m ≤ count → clash_levels clash (from + m) ≡ front ++ raised (clash_levels own m)
   levels_raised zero within =
-      ap (levels_of clash) (let e : from + 0 ≡ from = omega arith in e) ∙ sym (append-nil front)
+      ap (clash_levels clash) (let e : from + 0 ≡ from = omega arith in e) ∙ sym (append-nil front)
   levels_raised (suc m) within =
       let so_far = levels_raised m (omega arith) in
-      let piece = levels_of own m in
-      let all = levels_of clash (from + m) in
+      let piece = clash_levels own m in
+      let all = clash_levels clash (from + m) in
       let next : from + suc m ≡ from + m + 1 = omega arith in
       let level = level_raised m (omega arith) all piece (length_levels_of own m) so_far in
       let last : List ℕ = level_over own piece m ∷ [] in
-      ap (levels_of clash) next
+      ap (clash_levels clash) next
       ∙ (levels_of_more clash (from + m)
       ∙ (ap (λ (x : ℕ). all ++ x ∷ []) level
       ∙ (ap (λ (xs : List ℕ). xs ++ raised last) so_far
       ∙ (append_assoc front (raised piece) (raised last)
       ∙ (ap (λ (xs : List ℕ). front ++ xs) (sym (map-append (λ x. depth front + x) piece last))
-      ∙ ap (λ (xs : List ℕ). front ++ raised xs) (sym (levels_of_more own m) ∙ ap (levels_of own) (let e : m + 1 ≡ suc m = omega arith in e)))))))
+      ∙ ap (λ (xs : List ℕ). front ++ raised xs) (sym (levels_of_more own m) ∙ ap (clash_levels own) (let e : m + 1 ≡ suc m = omega arith in e)))))))
 
 -- what a fence makes clash
 at_range : (jobs : List Job) (from to i : ℕ) → from + i < to → job_at (slice_range jobs from to) i ≡ job_at jobs (from + i)
@@ -146,7 +146,7 @@ clash_without_fence jobs i k below none =
 
 -- a piece of a list: its first job may be fenced, no other is
 pub piece_levels : (jobs : List Job) (from to : ℕ) → from ≤ to → to ≤ length jobs → ((i : ℕ) → i < from → is_fenced (job_at jobs from) ≡ true) → ((j : ℕ) → from < j → j < to → is_fenced (job_at jobs j) ≡ false)
-    → levels_of (fenced_clash jobs) to ≡ levels_of (fenced_clash jobs) from ++ map (λ level. depth (levels_of (fenced_clash jobs) from) + level) (levels (slice_range jobs from to))
+    → clash_levels (fenced_clash jobs) to ≡ clash_levels (fenced_clash jobs) from ++ map (λ level. depth (clash_levels (fenced_clash jobs) from) + level) (levels (slice_range jobs from to))
 piece_levels jobs from to order within fence none =
     let piece = slice_range jobs from to in
     let count = to - from in
@@ -159,12 +159,12 @@ piece_levels jobs from to order within fence none =
     ∙ ap (conflict (job_at jobs (from + j))) (at_range jobs from to k (omega (arith, high)))) in
     let clash_before : (i k : ℕ) → i < from → from ≤ k → k < from + count → fenced_clash jobs i k ≡ true =
     λ i k low high below. fence_clashes jobs from i k (fence i low) low high (omega (arith, below)) in
-    ap (levels_of (fenced_clash jobs)) (sym all)
+    ap (clash_levels (fenced_clash jobs)) (sym all)
     ∙ (levels_raised (fenced_clash jobs) (clash_of piece) from count clash_before clash_inside count (omega arith)
-    ∙ ap (λ n. levels_of (fenced_clash jobs) from ++ map (λ level. depth (levels_of (fenced_clash jobs) from) + level) (levels_of (clash_of piece) n)) (sym size))
+    ∙ ap (λ n. clash_levels (fenced_clash jobs) from ++ map (λ level. depth (clash_levels (fenced_clash jobs) from) + level) (clash_levels (clash_of piece) n)) (sym size))
 
 -- the first piece has no levels below it
-pub first_levels : (jobs : List Job) (to : ℕ) → to ≤ length jobs → ((j : ℕ) → 0 < j → j < to → is_fenced (job_at jobs j) ≡ false) → levels (slice_range jobs 0 to) ≡ levels_of (fenced_clash jobs) to
+pub first_levels : (jobs : List Job) (to : ℕ) → to ≤ length jobs → ((j : ℕ) → 0 < j → j < to → is_fenced (job_at jobs j) ≡ false) → levels (slice_range jobs 0 to) ≡ clash_levels (fenced_clash jobs) to
 first_levels jobs to within none =
     sym (piece_levels jobs 0 to (omega arith) within (λ i low. absurd (omega (arith, low))) none ∙ not_raised (levels (slice_range jobs 0 to)))
   where
@@ -173,7 +173,7 @@ first_levels jobs to within none =
     not_raised (x ∷ xs) = ap₂ (λ (first : ℕ) (rest : List ℕ). first ∷ rest) (let e : 0 + x ≡ x = omega arith in e) (not_raised xs)
 
 -- the levels of a piece fit where there are so few places
-pub raised_fit : (jobs : List Job) (from : ℕ) (piece : List Job) → from + length piece ≤ 2 ^ 32 → All (λ level. depth (levels_of (fenced_clash jobs) from) + level < 2 ^ 32) (levels piece)
+pub raised_fit : (jobs : List Job) (from : ℕ) (piece : List Job) → from + length piece ≤ 2 ^ 32 → All (λ level. depth (clash_levels (fenced_clash jobs) from) + level < 2 ^ 32) (levels piece)
 raised_fit jobs from piece few at d below =
     let inside : at < length piece = omega (arith, below, length_levels_of (clash_of piece) (length piece)) in
     let same : get_or (levels piece) at d ≡ slice_index (levels piece) at = get_or_default (levels piece) at d 0 below in

@@ -9,7 +9,7 @@ use Rattle.dml_types.specs.Memory.{Memory, IsWhole}
 use Rattle.dml_types.specs.Conflict.{conflict}
 use Rattle.dml_types.specs.Step.{step, memory_after, records_of}
 use Rattle.dml_order.specs.Order.{run_all, IsOrder, all_below, Commutes}
-use Rattle.dml_order.specs.Waves.{joined, waves_for}
+use Rattle.dml_order.specs.Waves.{joined, clash_waves}
 use Rattle.dml_order.proofs.OrderLemmas.{picks_all}
 use Rattle.dml_order.proofs.KeepsLemmas.{order_picks, order_whole, picks_front, picks_taken}
 use Rattle.dml_order.proofs.OrderLaws.{picks_then_rest}
@@ -85,7 +85,7 @@ front_by_itself memory jobs staging blank clash front behind whole holds is =
 
 pub waves_in_order : WavesInOrder
 waves_in_order memory jobs staging blank clash fits whole size holds =
-    any_order memory jobs staging blank clash (joined (waves_for fits clash (length jobs))) whole size holds (waves_order fits clash (length jobs))
+    any_order memory jobs staging blank clash (joined (clash_waves fits clash (length jobs))) whole size holds (waves_order fits clash (length jobs))
 
 pub waves_then_left : WavesThenLeft
 waves_then_left memory jobs staging blank clash fits front behind whole size holds cut =

@@ -10,7 +10,7 @@ use Rattle.dml_types.specs.declared.operations.Op.{Op}
 use Rattle.dml_types.specs.declared.operations.Op.TheVariants.{NoOp, Move, Fill, Compare, ComparePattern, CreateDelta, ApplyDelta, Dualcast}
 use Rattle.dml_types.specs.declared.spans.Span.{Span}
 use Rattle.dml_types.specs.Job.{any_shares, is_fenced, no_op_job, op_of, reads, unfenced, writes}
-use Rattle.dml_types.specs.Conflict.{conflict, fenced_clash, fenced_levels, levels_of, ranges_of}
+use Rattle.dml_types.specs.Conflict.{conflict, fenced_clash, fenced_levels, clash_levels, ranges_of}
 use Rattle.dml_order.specs.Order.{is_in, IsOrder}
 use Rattle.dml_order.specs.Waves.{depth, further, joined, waves_of}
 use Rattle.dml_order.proofs.LevelLemmas.{length_levels_of}
@@ -23,12 +23,12 @@ use Rattle.dml_levels.proofs.FenceLemmas.{fence_clashes, levels_raised}
 use Rattle.dml_levels.proofs.LawLemmas.{own_clashes_hold}
 
 -- places that clash alike have the same levels
-pub levels_alike : (clash own : ℕ → ℕ → Bool) (n : ℕ) → ((j k : ℕ) → j < k → k < n → clash j k ≡ own j k) → levels_of clash n ≡ levels_of own n
+pub levels_alike : (clash own : ℕ → ℕ → Bool) (n : ℕ) → ((j k : ℕ) → j < k → k < n → clash j k ≡ own j k) → clash_levels clash n ≡ clash_levels own n
 levels_alike clash own n same =
     let start : (k : ℕ) → 0 + k ≡ k = λ k. omega arith in
-    ap (levels_of clash) (sym (start n))
+    ap (clash_levels clash) (sym (start n))
     ∙ (levels_raised clash own 0 n (λ i k low. absurd (omega (arith, low))) (λ j k low below. ap₂ clash (start j) (start k) ∙ same j k low below) n (omega arith)
-    ∙ not_raised (levels_of own n))
+    ∙ not_raised (clash_levels own n))
   where
     not_raised : (xs : List ℕ) → map (λ level. 0 + level) xs ≡ xs
     not_raised [] = refl
@@ -58,12 +58,12 @@ levels_parted jobs fence is =
     let clash = fenced_clash jobs in
     let count = length jobs - fence in
     let all : fence + count ≡ length jobs = omega (arith, is.below) in
-    let first : levels_of clash fence ≡ fenced_levels (take fence jobs) =
+    let first : clash_levels clash fence ≡ fenced_levels (take fence jobs) =
     levels_alike clash (fenced_clash (take fence jobs)) fence (clash_before jobs fence)
-    ∙ ap (levels_of (fenced_clash (take fence jobs))) (let e : fence ≡ length (take fence jobs) = omega (arith, length-take fence jobs, is.below) in e) in
-    let rest : levels_of (fenced_clash (drop fence jobs)) count ≡ fenced_levels (drop fence jobs) =
-    ap (levels_of (fenced_clash (drop fence jobs))) (sym (length-drop fence jobs)) in
-    ap (levels_of clash) (sym all)
+    ∙ ap (clash_levels (fenced_clash (take fence jobs))) (let e : fence ≡ length (take fence jobs) = omega (arith, length-take fence jobs, is.below) in e) in
+    let rest : clash_levels (fenced_clash (drop fence jobs)) count ≡ fenced_levels (drop fence jobs) =
+    ap (clash_levels (fenced_clash (drop fence jobs))) (sym (length-drop fence jobs)) in
+    ap (clash_levels clash) (sym all)
     ∙ (levels_raised clash (fenced_clash (drop fence jobs)) fence count (λ i k low high below. fence_clashes jobs fence i k is.fenced low high (omega (arith, below, all))) (λ j k low below. clash_behind jobs fence j k low) count (omega arith)
     ∙ ap₂ (λ (xs ys : List ℕ). xs ++ map (λ level. depth xs + level) ys) first rest)
 
@@ -79,11 +79,11 @@ in_further base i (wave ∷ waves) found =
     (or_cases (is_in i (map (λ k. base + k) wave)) (is_in i (joined (further base waves))) (sym (list_any-append (nat_eq i) (map (λ k. base + k) wave) (joined (further base waves))) ∙ found))
 
 -- all waves of a list hold its places
-in_waves : (fits : List ℕ → Bool) (clash : ℕ → ℕ → Bool) (n i : ℕ) → is_in i (joined (waves_of fits (levels_of clash n))) ≡ nat_lt i n
+in_waves : (fits : List ℕ → Bool) (clash : ℕ → ℕ → Bool) (n i : ℕ) → is_in i (joined (waves_of fits (clash_levels clash n))) ≡ nat_lt i n
 in_waves fits clash n i =
     let order = waves_order fits clash n in
     ⊎_elim (λ low. order.all i low ∙ sym (lt-ltb i n low))
-    (λ high. ⊎_elim (λ found. absurd (omega (arith, high, order.below i found))) (λ gone. gone ∙ sym (le-ltb i n high)) (cases_Bool (is_in i (joined (waves_of fits (levels_of clash n))))))
+    (λ high. ⊎_elim (λ found. absurd (omega (arith, high, order.below i found))) (λ gone. gone ∙ sym (le-ltb i n high)) (cases_Bool (is_in i (joined (waves_of fits (clash_levels clash n))))))
     (cases_lt i n)
 
 pub fences_part_waves : FencesPartWaves

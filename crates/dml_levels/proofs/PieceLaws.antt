@@ -9,10 +9,10 @@ use Rattle.dml_types.specs.declared.jobs.Job.{Job}
 use Rattle.dml_types.specs.declared.operations.Op.{Op}
 use Rattle.dml_types.specs.declared.operations.Op.TheVariants.{NoOp, Move, Fill, Compare, ComparePattern, CreateDelta, ApplyDelta, Dualcast}
 use Rattle.dml_types.specs.Job.{is_fenced, no_op_job, op_of, unfenced}
-use Rattle.dml_types.specs.Conflict.{conflict, fenced_clash, fenced_levels, levels_of}
+use Rattle.dml_types.specs.Conflict.{conflict, fenced_clash, fenced_levels, clash_levels}
 use Rattle.dml_types.specs.Refusal.{need, operation_need, refusal}
 use Rattle.dml_types.proofs.FenceLemmas.{unfenced_free}
-use Rattle.dml_order.specs.Waves.{cut_behind, depth, further, is_nil, places_at, waves_at, waves_of}
+use Rattle.dml_order.specs.Waves.{cut_behind, depth, further, is_nil, level_places, level_waves, waves_of}
 use Rattle.dml_order.proofs.LevelLemmas.{length_levels_of}
 use Rattle.dml_levels.specs.Laws.{unless_refused}
 use Rattle.dml_levels.specs.Pieces.{IsPiece, PiecesAreWaves, fenced_unless_refused, one_list, piece_of, waves_by_levels}
@@ -47,10 +47,10 @@ flat_alike f g same (x ∷ xs) = ap₂ (λ (first rest : List (List ℕ)). first
 waves_alike : (fits own : List ℕ → Bool) (levels : List ℕ) → ((these : List ℕ) → Below (length levels) these → fits these ≡ own these) → waves_of fits levels ≡ waves_of own levels
 waves_alike fits own levels same =
     let n = length levels in
-    flat_alike (waves_at fits levels) (waves_at own levels)
+    flat_alike (level_waves fits levels) (level_waves own levels)
     (λ level.
     let at : ℕ → Bool = λ i. nat_eq (slice_index levels i) level in
-    cut_alike fits own n same (places_at levels level) [] (All-filter at (λ k. k < n) (range_with_len 0 n) (range_below n 0 n (omega arith))) (All-nil (λ k. k < n)))
+    cut_alike fits own n same (level_places levels level) [] (All-filter at (λ k. k < n) (range_with_len 0 n) (range_below n 0 n (omega arith))) (All-nil (λ k. k < n)))
     (range_with_len 0 (depth levels))
 
 -- sums of what is alike
@@ -137,7 +137,7 @@ free_levels jobs none =
     ∙ (sym (conflict_unfenced (job_at jobs j) (job_at jobs k))
     ∙ (sym (ap₂ conflict (at j (omega (arith, low, below))) (at k below))
     ∙ sym (clash_without_fence free j k (omega (arith, below, long)) (λ i above under. ap is_fenced (at i (omega (arith, under, below))) ∙ unfenced_free (job_at jobs i))))))
-    ∙ ap (levels_of (fenced_clash free)) (sym long)
+    ∙ ap (clash_levels (fenced_clash free)) (sym long)
 
 -- a job in the one list, with its fence and without
 bit_kept : (flags : ℕ) → bit_and (bit_and flags 1) 1 ≡ bit_and flags 1

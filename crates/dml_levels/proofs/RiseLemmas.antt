@@ -9,7 +9,7 @@ use Rattle.std.specs.List.Sorted.{IsPermutation}
 use Rattle.dml_types.specs.declared.jobs.Job.{Job}
 use Rattle.dml_types.specs.declared.spans.Span.{Span}
 use Rattle.dml_types.specs.Job.{no_op_job}
-use Rattle.dml_types.specs.Conflict.{clash_of, level_over, levels_of}
+use Rattle.dml_types.specs.Conflict.{clash_of, level_over, clash_levels}
 use Rattle.dml_order.proofs.LevelLemmas.{length_levels_of, level_among_le, level_le, levels_of_more}
 use Rattle.dml_levels.specs.declared.cells.Cells.{Cells}
 use Rattle.dml_levels.specs.declared.covers.Footprint.{Footprint}
@@ -22,7 +22,7 @@ use Rattle.dml_levels.proofs.PlaceLemmas.{ReadsCell, TouchesCell, WritesCell, cl
 
 -- what is known after the first i jobs
 pub record AreRisen (starts : List ℕ) (jobs : List Job) (i : ℕ) (levels : List ℕ) (heights : Heights) : Type 0 where
-  pub levels_so_far : levels ≡ levels_of (clash_of jobs) i
+  pub levels_so_far : levels ≡ clash_levels (clash_of jobs) i
   pub touched_long : length heights.touched.items ≡ length starts + 1
   pub written_long : length heights.written.items ≡ length starts + 1
   pub touched : AreHeights (TouchesCell starts jobs) levels i heights.touched.items
@@ -92,7 +92,7 @@ pub writes_within : (starts : List ℕ) (job : Job) (footprint : Footprint) (cel
 writes_within starts job footprint cells is long =
     subst (λ (f : Footprint). All (λ cover. cover.end ≤ cells) f.writes) (sym is) (cover_within starts (written_spans job) cells (omega (arith, long)))
 
-level_small : (clash : ℕ → ℕ → Bool) (levels : List ℕ) (i : ℕ) → levels ≡ levels_of clash i → level_over clash levels i ≤ i
+level_small : (clash : ℕ → ℕ → Bool) (levels : List ℕ) (i : ℕ) → levels ≡ clash_levels clash i → level_over clash levels i ≤ i
 level_small clash levels i is =
     level_among_le clash levels i i (λ k under. omega (arith, ap (λ (list : List ℕ). get_or list k 0) is, level_le clash i k under))
 

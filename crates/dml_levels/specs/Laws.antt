@@ -9,7 +9,7 @@ use Rattle.dml_types.specs.Refusal.{refusal}
 use Rattle.dml_types.specs.Conflict.{conflict, clash_of}
 use Rattle.dml_types.specs.Step.{effect, step, memory_after, records_of}
 use Rattle.dml_order.specs.Order.{run_all, IsOrder, left_in_order, taken_in_order}
-use Rattle.dml_order.specs.Waves.{joined, waves_for}
+use Rattle.dml_order.specs.Waves.{joined, clash_waves}
 use Rattle.dml_levels.specs.Waves.{job_at}
 
 -- a job as far as it does anything
@@ -103,7 +103,7 @@ WavesInOrder =
     (memory : Memory) (jobs : List Job) (staging : ℕ) (blank : List Record) (clash : ℕ → ℕ → Bool)
     (fits : List ℕ → Bool)
     → IsWhole memory → length blank ≡ length jobs → HoldsConflicts clash jobs staging
-    → run_all (carried jobs staging) (begun memory blank) (joined (waves_for fits clash (length jobs)))
+    → run_all (carried jobs staging) (begun memory blank) (joined (clash_waves fits clash (length jobs)))
     ≡ in_list_order memory jobs staging
 
 -- and the first of the waves, and then the jobs that are left, in list order
@@ -113,7 +113,7 @@ WavesThenLeft =
     (fits : List ℕ → Bool)
     (front behind : List (List ℕ))
     → IsWhole memory → length blank ≡ length jobs → HoldsConflicts clash jobs staging
-    → waves_for fits clash (length jobs) ≡ front ++ behind
+    → clash_waves fits clash (length jobs) ≡ front ++ behind
     → run_all (carried jobs staging) (begun memory blank)
     (joined front ++ left_in_order (length jobs) (joined front))
     ≡ in_list_order memory jobs staging

@@ -1,5 +1,5 @@
 ghost use Rattle.std.specs.Prelude.{◌≡◌, ◌^◌, ◌<◌, ◌≤◌, IfOk, length, map};
-ghost use Rattle.dml_types.specs.Conflict.{clash_of, level_over, levels_of};
+ghost use Rattle.dml_types.specs.Conflict.{clash_of, level_over, clash_levels};
 ghost use Rattle.dml_types.specs.Conflict as word;
 ghost use Rattle.std.specs.List.Sorted.{IsPermutation};
 ghost use Rattle.dml_levels.specs.Cells.{all_starts, footprint_of};
@@ -117,7 +117,7 @@ fn level_at(
     requires few { length jobs.now ≤ 2 ^ 32 }
     requires reaches { reaches.now ≡ map reach_of jobs.now }
     requires touched { touched.now ≡ map touched_by jobs.now }
-    requires levels { levels.now ≡ levels_of (clash_of jobs.now) place }
+    requires levels { levels.now ≡ clash_levels (clash_of jobs.now) place }
     ensures { result ≡ level_over (clash_of jobs.now) levels.now place }
 {
     let mut level = 0;

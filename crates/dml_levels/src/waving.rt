@@ -2,7 +2,7 @@ ghost use Rattle.std.specs.Prelude.{◌≡◌, ◌^◌, ◌≤◌, ◌++◌, All
 ghost use Rattle.dml_types.specs.Refusal.{need};
 ghost use Rattle.dml_types.specs.Conflict as table;
 ghost use Rattle.dml_order.specs.Order.{IsOrder};
-ghost use Rattle.dml_order.specs.Waves.{AreFull, IsOfOneLevel, Rises, depth, joined, waves_at};
+ghost use Rattle.dml_order.specs.Waves.{AreFull, IsOfOneLevel, Rises, depth, joined, level_waves};
 ghost use Rattle.dml_levels.specs.Tasks.{IsChunk};
 ghost use Rattle.dml_levels.specs.Waves.{IsSmall, IsUnfilled, fits_wave};
 ghost use Rattle.dml_levels.specs.Waves as word;
@@ -105,7 +105,7 @@ fn cut_level(
     requires empty { IsUnfilled filling.old }
     requires fit { All (IsSmall jobs.now staging chunk) waves.old.items }
     ensures cut { OnOk result (waves.new.items
-        ≡ waves.old.items ++ waves_at (fits_wave jobs.now staging chunk) levels.now level) }
+        ≡ waves.old.items ++ level_waves (fits_wave jobs.now staging chunk) levels.now level) }
     ensures fit { OnOk result (All (IsSmall jobs.now staging chunk) waves.new.items) }
     ensures empty { OnOk result (IsUnfilled filling.new) }
 {

@@ -6,7 +6,7 @@ use Rattle.std.proofs.lemmas.List.Elements.{filter-append}
 use Rattle.std.proofs.lemmas.List.Sums.{fold-append}
 use Rattle.std.specs.Prelude.{slice_index}
 use Rattle.std.specs.List.{range_with_len}
-use Rattle.dml_types.specs.Conflict.{level_over, levels_of}
+use Rattle.dml_types.specs.Conflict.{level_over, clash_levels}
 use Rattle.dml_order.proofs.OrderLemmas.{range_split}
 
 -- the level that the places below k give to place i
@@ -82,38 +82,38 @@ level_among_none clash levels i (suc n) none =
     ∙ (cond-false (clash n i) _ _ (none n (omega arith)) ∙ level_among_none clash levels i n (λ k below. none k (omega arith))))
 
 -- the list of levels
-pub length_levels_of : (clash : ℕ → ℕ → Bool) (n : ℕ) → length (levels_of clash n) ≡ n
+pub length_levels_of : (clash : ℕ → ℕ → Bool) (n : ℕ) → length (clash_levels clash n) ≡ n
 length_levels_of clash zero = refl
-length_levels_of clash (suc n) = omega (arith, length_push (levels_of clash n) (level_over clash (levels_of clash n) n), length_levels_of clash n)
+length_levels_of clash (suc n) = omega (arith, length_push (clash_levels clash n) (level_over clash (clash_levels clash n) n), length_levels_of clash n)
 
-pub levels_of_more : (clash : ℕ → ℕ → Bool) (n : ℕ) → levels_of clash (n + 1) ≡ levels_of clash n ++ level_over clash (levels_of clash n) n ∷ []
-levels_of_more clash n = ap (levels_of clash) (let e : n + 1 ≡ suc n = omega arith in e)
+pub levels_of_more : (clash : ℕ → ℕ → Bool) (n : ℕ) → clash_levels clash (n + 1) ≡ clash_levels clash n ++ level_over clash (clash_levels clash n) n ∷ []
+levels_of_more clash n = ap (clash_levels clash) (let e : n + 1 ≡ suc n = omega arith in e)
 
 -- a place's level is not changed by the places behind it
-pub level_stays : (clash : ℕ → ℕ → Bool) (n i : ℕ) → i < n → slice_index (levels_of clash n) i ≡ level_over clash (levels_of clash i) i
+pub level_stays : (clash : ℕ → ℕ → Bool) (n i : ℕ) → i < n → slice_index (clash_levels clash n) i ≡ level_over clash (clash_levels clash i) i
 level_stays clash zero i below = absurd (omega arith)
 level_stays clash (suc n) i below =
     ⊎_elim (λ same.
-    ap (slice_index (levels_of clash (suc n))) same
-    ∙ (get_or_push (levels_of clash n) (level_over clash (levels_of clash n) n) 0 n (length_levels_of clash n)
-    ∙ ap (λ k. level_over clash (levels_of clash k) k) (sym same)))
+    ap (slice_index (clash_levels clash (suc n))) same
+    ∙ (get_or_push (clash_levels clash n) (level_over clash (clash_levels clash n) n) 0 n (length_levels_of clash n)
+    ∙ ap (λ k. level_over clash (clash_levels clash k) k) (sym same)))
     (λ other.
-    get_or_append_left (levels_of clash n) (level_over clash (levels_of clash n) n ∷ []) 0 i (omega (arith, other, length_levels_of clash n))
+    get_or_append_left (clash_levels clash n) (level_over clash (clash_levels clash n) n ∷ []) 0 i (omega (arith, other, length_levels_of clash n))
     ∙ level_stays clash n i (omega (arith, other)))
     (cases_eq i n)
 
-pub level_le : (clash : ℕ → ℕ → Bool) (n i : ℕ) → i < n → slice_index (levels_of clash n) i ≤ i
+pub level_le : (clash : ℕ → ℕ → Bool) (n i : ℕ) → i < n → slice_index (clash_levels clash n) i ≤ i
 level_le clash zero i below = absurd (omega arith)
 level_le clash (suc n) i below =
     ⊎_elim (λ same.
-    let low = level_among_le clash (levels_of clash n) n n (λ k under. level_le clash n k under) in
-    omega (arith, low, ap (slice_index (levels_of clash (suc n))) same, get_or_push (levels_of clash n) (level_over clash (levels_of clash n) n) 0 n (length_levels_of clash n), same))
+    let low = level_among_le clash (clash_levels clash n) n n (λ k under. level_le clash n k under) in
+    omega (arith, low, ap (slice_index (clash_levels clash (suc n))) same, get_or_push (clash_levels clash n) (level_over clash (clash_levels clash n) n) 0 n (length_levels_of clash n), same))
     (λ other.
-    omega (arith, level_le clash n i (omega (arith, other)), get_or_append_left (levels_of clash n) (level_over clash (levels_of clash n) n ∷ []) 0 i (omega (arith, other, length_levels_of clash n))))
+    omega (arith, level_le clash n i (omega (arith, other)), get_or_append_left (clash_levels clash n) (level_over clash (clash_levels clash n) n ∷ []) 0 i (omega (arith, other, length_levels_of clash n))))
     (cases_eq i n)
 
-pub levels_rise : (clash : ℕ → ℕ → Bool) (n k i : ℕ) → k < i → i < n → clash k i ≡ true → slice_index (levels_of clash n) k < slice_index (levels_of clash n) i
+pub levels_rise : (clash : ℕ → ℕ → Bool) (n k i : ℕ) → k < i → i < n → clash k i ≡ true → slice_index (clash_levels clash n) k < slice_index (clash_levels clash n) i
 levels_rise clash n k i low below clashing =
-    let above = level_above clash (levels_of clash i) i k i low clashing in
-    let same : slice_index (levels_of clash i) k ≡ slice_index (levels_of clash n) k = level_stays clash i k low ∙ sym (level_stays clash n k (omega arith)) in
+    let above = level_above clash (clash_levels clash i) i k i low clashing in
+    let same : slice_index (clash_levels clash i) k ≡ slice_index (clash_levels clash n) k = level_stays clash i k low ∙ sym (level_stays clash n k (omega arith)) in
     omega (arith, above, same, level_stays clash n i below)

@@ -8,7 +8,7 @@ use Rattle.std.proofs.lemmas.List.Elements.{filter-append}
 use Rattle.std.proofs.lemmas.List.Sums.{fold-append}
 use Rattle.std.specs.Prelude.{nat_eq, slice_index, ◌||◌}
 use Rattle.std.specs.List.{range_with_len}
-use Rattle.dml_order.specs.Waves.{cut_behind, depth, further, is_nil, places_at, waves_at, waves_of}
+use Rattle.dml_order.specs.Waves.{cut_behind, depth, further, is_nil, level_places, level_waves, waves_of}
 use Rattle.dml_order.proofs.OrderLemmas.{filter_none, filter_range_same, range_split}
 use Rattle.dml_order.proofs.WaveLemmas.{level_below_depth}
 
@@ -94,7 +94,7 @@ module _ (fits : List ℕ → Bool) (front back : List ℕ) where
       get_or-append-add front (map (λ level. depth front + level) back) i 0
       ∙ get_or-map (λ level. depth front + level) back i 0 0 low
 
-  places_both : (level : ℕ) → places_at levels level ≡ filter (λ i. nat_eq (slice_index levels i) level) (range_with_len 0 (length front)) ++ filter (λ i. nat_eq (slice_index levels i) level) (range_with_len (length front + 0) (length back))
+  places_both : (level : ℕ) → level_places levels level ≡ filter (λ i. nat_eq (slice_index levels i) level) (range_with_len 0 (length front)) ++ filter (λ i. nat_eq (slice_index levels i) level) (range_with_len (length front + 0) (length back))
   places_both level =
       let p : ℕ → Bool = λ i. nat_eq (slice_index levels i) level in
       let long : length levels ≡ length front + length back =
@@ -104,25 +104,25 @@ module _ (fits : List ℕ → Bool) (front back : List ℕ) where
       ∙ (filter-append p (range_with_len 0 (length front)) (range_with_len (0 + length front) (length back))
       ∙ ap (λ from. filter p (range_with_len 0 (length front)) ++ filter p (range_with_len from (length back))) (let e : 0 + length front ≡ length front + 0 = omega arith in e)))
 
-  waves_low : (level : ℕ) → level < depth front → waves_at fits levels level ≡ waves_at fits front level
+  waves_low : (level : ℕ) → level < depth front → level_waves fits levels level ≡ level_waves fits front level
   waves_low level low =
       let p : ℕ → Bool = λ i. nat_eq (slice_index levels i) level in
-      let first : filter p (range_with_len 0 (length front)) ≡ places_at front level =
+      let first : filter p (range_with_len 0 (length front)) ≡ level_places front level =
       filter_range_same p (λ i. nat_eq (slice_index front i) level) 0 (length front) (λ i from below. ap (λ n. nat_eq n level) (in_front i (omega (arith, below)))) in
       let none : filter p (range_with_len (length front + 0) (length back)) ≡ [] =
       filter_further p (λ i. false) (length front) 0 (length back) (λ i below. ne_eqb (slice_index levels (length front + i)) level (λ same. absurd (omega (arith, same, in_back i (omega (arith, below)), low))))
       ∙ ap (map (λ i. length front + i)) (filter_none (λ i. false) 0 (length back) (λ i. refl)) in
-      ap (cut_behind fits []) (places_both level ∙ (ap₂ (λ (xs ys : List ℕ). xs ++ ys) first none ∙ append-nil (places_at front level)))
+      ap (cut_behind fits []) (places_both level ∙ (ap₂ (λ (xs ys : List ℕ). xs ++ ys) first none ∙ append-nil (level_places front level)))
 
-  waves_high : (level : ℕ) → waves_at fits levels (depth front + level) ≡ further (length front) (waves_at own back level)
+  waves_high : (level : ℕ) → level_waves fits levels (depth front + level) ≡ further (length front) (level_waves own back level)
   waves_high level =
       let p : ℕ → Bool = λ i. nat_eq (slice_index levels i) (depth front + level) in
       let none : filter p (range_with_len 0 (length front)) ≡ [] =
       filter_nowhere p 0 (length front) (λ i from below. ne_eqb (slice_index levels i) (depth front + level) (λ same. absurd (omega (arith, same, in_front i (omega (arith, below)), level_below_depth front i (omega (arith, below)))))) in
-      let rest : filter p (range_with_len (length front + 0) (length back)) ≡ map (λ i. length front + i) (places_at back level) =
+      let rest : filter p (range_with_len (length front + 0) (length back)) ≡ map (λ i. length front + i) (level_places back level) =
       filter_further p (λ i. nat_eq (slice_index back i) level) (length front) 0 (length back) (λ i below. ap (λ n. nat_eq n (depth front + level)) (in_back i (omega (arith, below))) ∙ same_above (slice_index back i) level) in
       ap (cut_behind fits []) (places_both (depth front + level) ∙ ap₂ (λ (xs ys : List ℕ). xs ++ ys) none rest)
-      ∙ cut_further fits (length front) (places_at back level) []
+      ∙ cut_further fits (length front) (level_places back level) []
     where
       same_above : (a b : ℕ) → nat_eq (depth front + a) (depth front + b) ≡ nat_eq a b
       same_above a b =
@@ -132,11 +132,11 @@ module _ (fits : List ℕ → Bool) (front back : List ℕ) where
 
   pub waves_both : waves_of fits levels ≡ waves_of fits front ++ further (length front) (waves_of own back)
   waves_both =
-      let wave = waves_at fits levels in
+      let wave = level_waves fits levels in
       ap (λ n. flat_map wave (range_with_len 0 n)) depth_both
       ∙ (ap (flat_map wave) (range_split 0 (depth front) (depth back))
       ∙ (flat_map-append wave (range_with_len 0 (depth front)) (range_with_len (0 + depth front) (depth back))
       ∙ ap₂ (λ (xs ys : List (List ℕ)). xs ++ ys)
-      (flat_same wave (waves_at fits front) 0 (depth front) (λ level from below. waves_low level (omega (arith, below))))
+      (flat_same wave (level_waves fits front) 0 (depth front) (λ level from below. waves_low level (omega (arith, below))))
       (ap (λ from. flat_map wave (range_with_len from (depth back))) (let e : 0 + depth front ≡ depth front + 0 = omega arith in e)
-      ∙ flat_further wave (waves_at own back) (map (λ i. length front + i)) (depth front) 0 (depth back) waves_high)))
+      ∙ flat_further wave (level_waves own back) (map (λ i. length front + i)) (depth front) 0 (depth back) waves_high)))

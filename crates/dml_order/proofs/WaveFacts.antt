@@ -7,7 +7,7 @@ use Rattle.std.proofs.lemmas.List.Folds.{list_any-append}
 use Rattle.std.specs.Prelude.{nat_eq, nat_le, nat_lt, slice_index, ◌&&◌, ◌||◌}
 use Rattle.std.specs.List.{range_with_len}
 use Rattle.dml_order.specs.Order.{is_in}
-use Rattle.dml_order.specs.Waves.{joined, depth, places_from, places_at, is_nil, cut_behind, waves_at, waves_from, waves_of, ComesBefore, Rises, IsOfOneLevel, IsFullBefore, AreFull}
+use Rattle.dml_order.specs.Waves.{joined, depth, later_places, level_places, is_nil, cut_behind, level_waves, higher_waves, waves_of, ComesBefore, Rises, IsOfOneLevel, IsFullBefore, AreFull}
 use Rattle.dml_order.proofs.WaveLemmas.{in_filter, joined_waves}
 
 in_append : (i : ℕ) (xs ys : List ℕ) → is_in i (xs ++ ys) ≡ true → (is_in i xs ≡ true) ⊎ (is_in i ys ≡ true)
@@ -42,15 +42,15 @@ rises levels (k ∷ before) i behind earlier rising found =
     (or_cases (nat_eq earlier k) (is_in earlier before) found)
 
 -- the level of a place that stands among those of a level
-place_of : (levels : List ℕ) (level from count i : ℕ) → is_in i (places_from levels level from count) ≡ true → (slice_index levels i ≡ level) × (from ≤ i)
+place_of : (levels : List ℕ) (level from count i : ℕ) → is_in i (later_places levels level from count) ≡ true → (slice_index levels i ≡ level) × (from ≤ i)
 place_of levels level from count i found =
     let parts = and_parts (nat_le from i && nat_lt i (from + count)) (nat_eq (slice_index levels i) level) (sym (in_filter (λ k. nat_eq (slice_index levels k) level) from count i) ∙ found) in
     (eqb-true (slice_index levels i) level parts.1, leb-true from i (and_parts (nat_le from i) (nat_lt i (from + count)) parts.0).0)
 
-rising_places : (levels : List ℕ) (level from count : ℕ) → Rising levels (places_from levels level from count)
+rising_places : (levels : List ℕ) (level from count : ℕ) → Rising levels (later_places levels level from count)
 rising_places levels level from zero = tt
 rising_places levels level from (suc count) =
-    elim (nat_eq (slice_index levels from) level) as (λ b. nat_eq (slice_index levels from) level ≡ b → Rising levels (cond b (from ∷ places_from levels level (from + 1) count) (places_from levels level (from + 1) count))) [
+    elim (nat_eq (slice_index levels from) level) as (λ b. nat_eq (slice_index levels from) level ≡ b → Rising levels (cond b (from ∷ later_places levels level (from + 1) count) (later_places levels level (from + 1) count))) [
       | true ↦ λ here. (
         λ k found.
             let other = place_of levels level (from + 1) count k found in
@@ -60,16 +60,16 @@ rising_places levels level from (suc count) =
       | false ↦ λ gone. rising_places levels level (from + 1) count
     ] refl
 
-level_at_least : (levels : List ℕ) (from count i : ℕ) → is_in i (flat_map (places_at levels) (range_with_len from count)) ≡ true → from ≤ slice_index levels i
+level_at_least : (levels : List ℕ) (from count i : ℕ) → is_in i (flat_map (level_places levels) (range_with_len from count)) ≡ true → from ≤ slice_index levels i
 level_at_least levels from zero i found = absurd (false≢true found)
 level_at_least levels from (suc count) i found =
     ⊎_elim (λ here. omega (arith, (place_of levels from 0 (length levels) i here).0)) (λ later. omega (arith, level_at_least levels (from + 1) count i later))
-    (in_append i (places_at levels from) (flat_map (places_at levels) (range_with_len (from + 1) count)) found)
+    (in_append i (level_places levels from) (flat_map (level_places levels) (range_with_len (from + 1) count)) found)
 
-rising_levels : (levels : List ℕ) (from count : ℕ) → Rising levels (flat_map (places_at levels) (range_with_len from count))
+rising_levels : (levels : List ℕ) (from count : ℕ) → Rising levels (flat_map (level_places levels) (range_with_len from count))
 rising_levels levels from zero = tt
 rising_levels levels from (suc count) =
-    rising_append levels (places_at levels from) (flat_map (places_at levels) (range_with_len (from + 1) count)) (rising_places levels from 0 (length levels)) (rising_levels levels (from + 1) count)
+    rising_append levels (level_places levels from) (flat_map (level_places levels) (range_with_len (from + 1) count)) (rising_places levels from 0 (length levels)) (rising_levels levels (from + 1) count)
     (λ i k here there.
     inl (omega (arith, (place_of levels from 0 (length levels) i here).0, level_at_least levels (from + 1) count k there)))
 
@@ -105,16 +105,16 @@ all_cut P fits wave (i ∷ places) first second =
 abbrev IsOf : List ℕ → ℕ → ℕ → Type 0
 IsOf levels level i = slice_index levels i ≡ level
 
-waves_at_level : (fits : List ℕ → Bool) (levels : List ℕ) (level : ℕ) → All (AllIn (IsOf levels level)) (waves_at fits levels level)
+waves_at_level : (fits : List ℕ → Bool) (levels : List ℕ) (level : ℕ) → All (AllIn (IsOf levels level)) (level_waves fits levels level)
 waves_at_level fits levels level =
-    all_cut (IsOf levels level) fits [] (places_at levels level) (λ i found. absurd (false≢true found))
+    all_cut (IsOf levels level) fits [] (level_places levels level) (λ i found. absurd (false≢true found))
     (λ i found. (place_of levels level 0 (length levels) i found).0)
 
-waves_one_level : (fits : List ℕ → Bool) (levels : List ℕ) (from count : ℕ) → All (IsOfOneLevel levels) (waves_from fits levels from count)
+waves_one_level : (fits : List ℕ → Bool) (levels : List ℕ) (from count : ℕ) → All (IsOfOneLevel levels) (higher_waves fits levels from count)
 waves_one_level fits levels from zero = All-nil (IsOfOneLevel levels)
 waves_one_level fits levels from (suc count) =
-    All-append (IsOfOneLevel levels) (waves_at fits levels from) (waves_from fits levels (from + 1) count)
-    (All-weaker (AllIn (IsOf levels from)) (IsOfOneLevel levels) (λ wave all i k here there. all i here ∙ sym (all k there)) (waves_at fits levels from) (waves_at_level fits levels from))
+    All-append (IsOfOneLevel levels) (level_waves fits levels from) (higher_waves fits levels (from + 1) count)
+    (All-weaker (AllIn (IsOf levels from)) (IsOfOneLevel levels) (λ wave all i k here there. all i here ∙ sym (all k there)) (level_waves fits levels from) (waves_at_level fits levels from))
     (waves_one_level fits levels (from + 1) count)
 
 pub waves_of_one_level : (fits : List ℕ → Bool) (levels : List ℕ) → All (IsOfOneLevel levels) (waves_of fits levels)
@@ -143,11 +143,11 @@ cut_fits fits wave (i ∷ places) alone first =
           All-cons (Fits fits) wave _ (first (or_parts (is_nil wave) (fits (wave ++ i ∷ [])) full).0) (cut_fits fits (i ∷ []) places rest (λ some. own))
     ] refl
 
-waves_fit_from : (fits : List ℕ → Bool) (levels : List ℕ) (from count : ℕ) → ((i : ℕ) → i < length levels → fits (i ∷ []) ≡ true) → All (Fits fits) (waves_from fits levels from count)
+waves_fit_from : (fits : List ℕ → Bool) (levels : List ℕ) (from count : ℕ) → ((i : ℕ) → i < length levels → fits (i ∷ []) ≡ true) → All (Fits fits) (higher_waves fits levels from count)
 waves_fit_from fits levels from zero alone = All-nil (Fits fits)
 waves_fit_from fits levels from (suc count) alone =
-    All-append (Fits fits) (waves_at fits levels from) (waves_from fits levels (from + 1) count)
-    (cut_fits fits [] (places_at levels from)
+    All-append (Fits fits) (level_waves fits levels from) (higher_waves fits levels (from + 1) count)
+    (cut_fits fits [] (level_places levels from)
     (λ i found.
     let parts = and_parts (nat_le 0 i && nat_lt i (0 + length levels)) (nat_eq (slice_index levels i) from) (sym (in_filter (λ k. nat_eq (slice_index levels k) from) 0 (length levels) i) ∙ found) in
     alone i (omega (arith, ltb-true i (0 + length levels) (and_parts (nat_le 0 i) (nat_lt i (0 + length levels)) parts.0).1)))
@@ -223,19 +223,19 @@ all_waves P (wave ∷ waves) all = (All-head P wave waves all, all_waves P waves
 abbrev IsAbove : List ℕ → ℕ → ℕ → Type 0
 IsAbove levels level i = level ≤ slice_index levels i
 
-waves_above : (fits : List ℕ → Bool) (levels : List ℕ) (from count : ℕ) → All (AllIn (IsAbove levels from)) (waves_from fits levels from count)
+waves_above : (fits : List ℕ → Bool) (levels : List ℕ) (from count : ℕ) → All (AllIn (IsAbove levels from)) (higher_waves fits levels from count)
 waves_above fits levels from zero = All-nil (AllIn (IsAbove levels from))
 waves_above fits levels from (suc count) =
-    All-append (AllIn (IsAbove levels from)) (waves_at fits levels from) (waves_from fits levels (from + 1) count)
-    (All-weaker (AllIn (IsOf levels from)) (AllIn (IsAbove levels from)) (λ wave all i found. omega (arith, all i found)) (waves_at fits levels from) (waves_at_level fits levels from))
-    (All-weaker (AllIn (IsAbove levels (from + 1))) (AllIn (IsAbove levels from)) (λ wave all i found. omega (arith, all i found)) (waves_from fits levels (from + 1) count) (waves_above fits levels (from + 1) count))
+    All-append (AllIn (IsAbove levels from)) (level_waves fits levels from) (higher_waves fits levels (from + 1) count)
+    (All-weaker (AllIn (IsOf levels from)) (AllIn (IsAbove levels from)) (λ wave all i found. omega (arith, all i found)) (level_waves fits levels from) (waves_at_level fits levels from))
+    (All-weaker (AllIn (IsAbove levels (from + 1))) (AllIn (IsAbove levels from)) (λ wave all i found. omega (arith, all i found)) (higher_waves fits levels (from + 1) count) (waves_above fits levels (from + 1) count))
 
-neighbours_full : (fits : List ℕ → Bool) (levels : List ℕ) (from count : ℕ) → Neighbours (IsFullBefore fits levels) (waves_from fits levels from count)
+neighbours_full : (fits : List ℕ → Bool) (levels : List ℕ) (from count : ℕ) → Neighbours (IsFullBefore fits levels) (higher_waves fits levels from count)
 neighbours_full fits levels from zero = tt
 neighbours_full fits levels from (suc count) =
-    neighbours_append (IsFullBefore fits levels) (AllIn (IsOf levels from)) (AllIn (IsAbove levels (from + 1))) (waves_at fits levels from) (waves_from fits levels (from + 1) count)
-    (cut_full fits levels [] (places_at levels from)) (neighbours_full fits levels (from + 1) count)
-    (all_waves _ (waves_at fits levels from) (waves_at_level fits levels from)) (all_waves _ (waves_from fits levels (from + 1) count) (waves_above fits levels (from + 1) count))
+    neighbours_append (IsFullBefore fits levels) (AllIn (IsOf levels from)) (AllIn (IsAbove levels (from + 1))) (level_waves fits levels from) (higher_waves fits levels (from + 1) count)
+    (cut_full fits levels [] (level_places levels from)) (neighbours_full fits levels (from + 1) count)
+    (all_waves _ (level_waves fits levels from) (waves_at_level fits levels from)) (all_waves _ (higher_waves fits levels (from + 1) count) (waves_above fits levels (from + 1) count))
     (λ wave next here there i k more begun found same.
     absurd (omega (arith, here k found, there i (ap (is_in i) begun ∙ or_left (nat_eq i i) _ (eq-eqb i i refl)), same)))
 

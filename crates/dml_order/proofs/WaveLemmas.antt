@@ -5,9 +5,9 @@ use Rattle.std.proofs.lemmas.List.{append-nil, nil_from_length}
 use Rattle.std.proofs.lemmas.List.Concat.{flat_map-append}
 use Rattle.std.specs.Prelude.{nat_eq, nat_lt, nat_le, slice_index, ◌&&◌, ◌||◌}
 use Rattle.std.specs.List.{range_with_len}
-use Rattle.dml_types.specs.Conflict.{levels_of}
+use Rattle.dml_types.specs.Conflict.{clash_levels}
 use Rattle.dml_order.specs.Order.{is_in, IsOrder, without, Picks, all_below}
-use Rattle.dml_order.specs.Waves.{joined, depth, places_at, is_nil, cut_behind, waves_at, waves_from, waves_for}
+use Rattle.dml_order.specs.Waves.{joined, depth, level_places, is_nil, cut_behind, level_waves, higher_waves, clash_waves}
 use Rattle.dml_order.proofs.OrderLemmas.{left_after, without_other}
 use Rattle.dml_order.proofs.KeepsLemmas.{left_after_is, order_from_picks}
 use Rattle.dml_order.proofs.LevelLemmas.{length_levels_of, levels_rise}
@@ -28,12 +28,12 @@ joined_cut fits wave (i ∷ places) =
 pub joined_append : (front back : List (List ℕ)) → joined (front ++ back) ≡ joined front ++ joined back
 joined_append front back = flat_map-append (λ wave. wave) front back
 
-pub joined_waves : (fits : List ℕ → Bool) (levels : List ℕ) (from count : ℕ) → joined (waves_from fits levels from count) ≡ flat_map (places_at levels) (range_with_len from count)
+pub joined_waves : (fits : List ℕ → Bool) (levels : List ℕ) (from count : ℕ) → joined (higher_waves fits levels from count) ≡ flat_map (level_places levels) (range_with_len from count)
 joined_waves fits levels from zero = refl
 joined_waves fits levels from (suc count) =
-    joined_append (waves_at fits levels from) (waves_from fits levels (from + 1) count)
-    ∙ (ap (λ front. front ++ joined (waves_from fits levels (from + 1) count)) (joined_cut fits [] (places_at levels from))
-    ∙ ap (λ back. places_at levels from ++ back) (joined_waves fits levels (from + 1) count))
+    joined_append (level_waves fits levels from) (higher_waves fits levels (from + 1) count)
+    ∙ (ap (λ front. front ++ joined (higher_waves fits levels (from + 1) count)) (joined_cut fits [] (level_places levels from))
+    ∙ ap (λ back. level_places levels from ++ back) (joined_waves fits levels (from + 1) count))
 
 -- which places a filtered range has
 pub in_filter : (p : ℕ → Bool) (from count i : ℕ) → is_in i (filter p (range_with_len from count)) ≡ ((nat_le from i && nat_lt i (from + count)) && p i)
@@ -109,11 +109,11 @@ without_level true from level =
     (λ other. ap not (ne_eqb level from other) ∙ sym (le-leb (from + 1) level (omega (arith, other)))) (cases_eq level from))
     (cases_lt level from)
 
-left_from_next : (levels : List ℕ) (n from : ℕ) (left : ℕ → Bool) → length levels ≡ n → IsLeftFrom levels n from left → IsLeftFrom levels n (from + 1) (left_after left (places_at levels from))
+left_from_next : (levels : List ℕ) (n from : ℕ) (left : ℕ → Bool) → length levels ≡ n → IsLeftFrom levels n from left → IsLeftFrom levels n (from + 1) (left_after left (level_places levels from))
 left_from_next levels n from left size is = record {
   same = λ i.
-      left_after_is (places_at levels from) left i
-      ∙ (ap (λ b. b && not (is_in i (places_at levels from))) (is.same i)
+      left_after_is (level_places levels from) left i
+      ∙ (ap (λ b. b && not (is_in i (level_places levels from))) (is.same i)
       ∙ (ap (λ b. (nat_lt i n && nat_le from (slice_index levels i)) && not b)
       (in_filter (λ k. nat_eq (slice_index levels k) from) 0 (length levels) i
       ∙ (ap (λ b. (b && nat_lt i (0 + length levels)) && nat_eq (slice_index levels i) from) (le-leb 0 i (omega arith))
@@ -121,13 +121,13 @@ left_from_next levels n from left size is = record {
       ∙ without_level (nat_lt i n) from (slice_index levels i)));
 }
 
-picks_levels : (clash : ℕ → ℕ → Bool) (n from count : ℕ) (left : ℕ → Bool) → IsLeftFrom (levels_of clash n) n from left → Picks clash left (flat_map (places_at (levels_of clash n)) (range_with_len from count)) × IsLeftFrom (levels_of clash n) n (from + count) (left_after left (flat_map (places_at (levels_of clash n)) (range_with_len from count)))
-picks_levels clash n from zero left is = (tt, subst (λ k. IsLeftFrom (levels_of clash n) n k left) (let e : from ≡ from + 0 = omega arith in e) is)
+picks_levels : (clash : ℕ → ℕ → Bool) (n from count : ℕ) (left : ℕ → Bool) → IsLeftFrom (clash_levels clash n) n from left → Picks clash left (flat_map (level_places (clash_levels clash n)) (range_with_len from count)) × IsLeftFrom (clash_levels clash n) n (from + count) (left_after left (flat_map (level_places (clash_levels clash n)) (range_with_len from count)))
+picks_levels clash n from zero left is = (tt, subst (λ k. IsLeftFrom (clash_levels clash n) n k left) (let e : from ≡ from + 0 = omega arith in e) is)
 picks_levels clash n from (suc count) left is =
-    let levels = levels_of clash n in
+    let levels = clash_levels clash n in
     let size = length_levels_of clash n in
-    let here = places_at levels from in
-    let rest = flat_map (places_at levels) (range_with_len (from + 1) count) in
+    let here = level_places levels from in
+    let rest = flat_map (level_places levels) (range_with_len (from + 1) count) in
     let first : Picks clash left here =
     picks_range clash (λ i. nat_eq (slice_index levels i) from) left 0 (length levels)
     (λ i low high found. is.same i ∙ and_from _ _ (lt-ltb i n (omega (arith, size))) (le-leb from _ (omega (arith, eqb-true (slice_index levels i) from found))))
@@ -154,9 +154,9 @@ below_greatest (x ∷ xs) least (suc i) below = below_greatest xs (max least (x 
 pub level_below_depth : (levels : List ℕ) (i : ℕ) → i < length levels → slice_index levels i < depth levels
 level_below_depth levels i below = below_greatest levels 0 i below
 
-pub waves_picks : (fits : List ℕ → Bool) (clash : ℕ → ℕ → Bool) (n : ℕ) → Picks clash (all_below n) (joined (waves_for fits clash n)) × ((i : ℕ) → left_after (all_below n) (joined (waves_for fits clash n)) i ≡ false)
+pub waves_picks : (fits : List ℕ → Bool) (clash : ℕ → ℕ → Bool) (n : ℕ) → Picks clash (all_below n) (joined (clash_waves fits clash n)) × ((i : ℕ) → left_after (all_below n) (joined (clash_waves fits clash n)) i ≡ false)
 waves_picks fits clash n =
-    let levels = levels_of clash n in
+    let levels = clash_levels clash n in
     let size = length_levels_of clash n in
     let start : IsLeftFrom levels n 0 (all_below n) = record { same = λ i. (let e : nat_lt i n ≡ (nat_lt i n && true) = and_true (nat_lt i n) in e) ∙ ap (λ b. nat_lt i n && b) (sym (le-leb 0 (slice_index levels i) (omega arith))) } in
     let all = picks_levels clash n 0 (depth levels) (all_below n) start in
@@ -173,6 +173,6 @@ waves_picks fits clash n =
     and_true true = refl
     and_true false = refl
 
-pub waves_order : (fits : List ℕ → Bool) (clash : ℕ → ℕ → Bool) (n : ℕ) → IsOrder clash n (joined (waves_for fits clash n))
+pub waves_order : (fits : List ℕ → Bool) (clash : ℕ → ℕ → Bool) (n : ℕ) → IsOrder clash n (joined (clash_waves fits clash n))
 waves_order fits clash n =
-    let all = waves_picks fits clash n in order_from_picks clash n (joined (waves_for fits clash n)) all.0 all.1
+    let all = waves_picks fits clash n in order_from_picks clash n (joined (clash_waves fits clash n)) all.0 all.1

@@ -1,7 +1,7 @@
 -- The places of a list, level by level, cut into waves.
 use Rattle.std.specs.Prelude.{false, true, ◌⊎◌, ◌<◌, ◌≡◌, ℕ, ◌+◌, max, Bool, ◌||◌, ◌==◌, List, [], ◌∷◌, ◌++◌, length, map, filter, flat_map, fold, slice_index, if◌then◌else◌}
 use Rattle.std.specs.List.{range_with_len}
-use Rattle.dml_types.specs.Conflict.{levels_of}
+use Rattle.dml_types.specs.Conflict.{clash_levels}
 use Rattle.dml_order.specs.Order.{is_in}
 
 -- the lists of places, one after another
@@ -13,11 +13,11 @@ abbrev pub depth : List ℕ → ℕ
 depth levels = fold max 0 (map (λ level. level + 1) levels)
 
 -- the places of a level that are at least `from`, in list order
-abbrev pub places_from : List ℕ → ℕ → ℕ → ℕ → List ℕ
-places_from levels level from count = filter (λ i. slice_index levels i == level) (range_with_len from count)
+abbrev pub later_places : List ℕ → ℕ → ℕ → ℕ → List ℕ
+later_places levels level from count = filter (λ i. slice_index levels i == level) (range_with_len from count)
 
-abbrev pub places_at : List ℕ → ℕ → List ℕ
-places_at levels level = places_from levels level 0 (length levels)
+abbrev pub level_places : List ℕ → ℕ → List ℕ
+level_places levels level = later_places levels level 0 (length levels)
 
 abbrev pub is_nil : List ℕ → Bool
 is_nil list = length list == 0
@@ -34,18 +34,18 @@ abbrev pub cut : (List ℕ → Bool) → List ℕ → List (List ℕ)
 cut fits places = cut_behind fits [] places
 
 -- the waves of a level, and of the levels that are at least `from`
-abbrev pub waves_at : (List ℕ → Bool) → List ℕ → ℕ → List (List ℕ)
-waves_at fits levels level = cut fits (places_at levels level)
+abbrev pub level_waves : (List ℕ → Bool) → List ℕ → ℕ → List (List ℕ)
+level_waves fits levels level = cut fits (level_places levels level)
 
-abbrev pub waves_from : (List ℕ → Bool) → List ℕ → ℕ → ℕ → List (List ℕ)
-waves_from fits levels from count = flat_map (waves_at fits levels) (range_with_len from count)
+abbrev pub higher_waves : (List ℕ → Bool) → List ℕ → ℕ → ℕ → List (List ℕ)
+higher_waves fits levels from count = flat_map (level_waves fits levels) (range_with_len from count)
 
 abbrev pub waves_of : (List ℕ → Bool) → List ℕ → List (List ℕ)
-waves_of fits levels = waves_from fits levels 0 (depth levels)
+waves_of fits levels = higher_waves fits levels 0 (depth levels)
 
 -- the waves of n places, by the levels that the clashes give
-abbrev pub waves_for : (List ℕ → Bool) → (ℕ → ℕ → Bool) → ℕ → List (List ℕ)
-waves_for fits clash n = waves_of fits (levels_of clash n)
+abbrev pub clash_waves : (List ℕ → Bool) → (ℕ → ℕ → Bool) → ℕ → List (List ℕ)
+clash_waves fits clash n = waves_of fits (clash_levels clash n)
 
 -- the same waves, of places that lie so much further on
 abbrev pub further : ℕ → List (List ℕ) → List (List ℕ)

@@ -1,7 +1,7 @@
 ghost use Rattle.std.specs.Prelude.{◌≡◌, ℕ, ◌<◌, Bool, true, List, [], ◌∷◌, ◌++◌, All, IsTrue, length};
 ghost use Rattle.std.specs.List.{range_with_len};
 ghost use Rattle.dml_order.specs.Order.{Commutes, IsOrder, left_in_order, run_all, taken_in_order};
-ghost use Rattle.dml_order.specs.Waves.{AreFull, IsOfOneLevel, Rises, joined, waves_for, waves_of};
+ghost use Rattle.dml_order.specs.Waves.{AreFull, IsOfOneLevel, Rises, joined, clash_waves, waves_of};
 
 /// The law of orders, for steps that keep a state good and of which two that do not clash may change places in every
 /// good state. Each order in which no step goes before an earlier one that clashes with it ends as the list does; so
@@ -23,7 +23,7 @@ pub fn law_of_orders<S>()
 /// earlier one that clashes with it. They go level by level, and in list order inside a level; a wave is of one level,
 /// it fits where each step fits by itself, and it ends only where its level does or the next step does not fit.
 pub fn law_of_waves()
-    ensures order { (fits : List ℕ → Bool) (clash : ℕ → ℕ → Bool) (n : ℕ) → IsOrder clash n (joined (waves_for fits clash n)) }
+    ensures order { (fits : List ℕ → Bool) (clash : ℕ → ℕ → Bool) (n : ℕ) → IsOrder clash n (joined (clash_waves fits clash n)) }
     ensures rise { (fits : List ℕ → Bool) (levels : List ℕ) → Rises levels (joined (waves_of fits levels)) }
     ensures one_level { (fits : List ℕ → Bool) (levels : List ℕ) → All (IsOfOneLevel levels) (waves_of fits levels) }
     ensures fit { (fits : List ℕ → Bool) (levels : List ℕ) → ((i : ℕ) → i < length levels → fits (i ∷ []) ≡ true) →

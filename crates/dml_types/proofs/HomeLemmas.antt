@@ -7,7 +7,7 @@ use Rattle.dml_types.specs.Refusal.{refusal}
 use Rattle.dml_types.specs.Effect.{Effect}
 use Rattle.dml_types.specs.Bytewise.{moved, dualcast, filled, compared}
 use Rattle.dml_types.specs.Delta.{created, applied}
-use Rattle.dml_types.specs.Step.{effect, operation_effect, effect_unless, step, memory_after, records_of}
+use Rattle.dml_types.specs.Step.{effect, operation_effect, judged_effect, step, memory_after, records_of}
 
 pub home_after_puts : (memory : Memory) (puts : List Put) → (puts_made memory puts).home ≡ memory.home
 home_after_puts memory [] = refl
@@ -32,7 +32,7 @@ by_elsewhere CreateDelta memory home job = refl
 by_elsewhere ApplyDelta memory home job = refl
 by_elsewhere Dualcast memory home job = refl
 
-unless_elsewhere : (refused : Option Status) (op : Option Op) (memory : Memory) (home : Option ℕ) (job : Job) → effect_unless refused op (at_home memory home) job ≡ effect_unless refused op memory job
+unless_elsewhere : (refused : Option Status) (op : Option Op) (memory : Memory) (home : Option ℕ) (job : Job) → judged_effect refused op (at_home memory home) job ≡ judged_effect refused op memory job
 unless_elsewhere (Some status) op memory home job = refl
 unless_elsewhere None None memory home job = refl
 unless_elsewhere None (Some op) memory home job = by_elsewhere op memory home job

@@ -5,17 +5,17 @@ use Rattle.dml_types.specs.Job.{op_of}
 use Rattle.dml_types.specs.Memory.{Memory, puts_made}
 use Rattle.dml_types.specs.Refusal.{refusal}
 use Rattle.dml_types.specs.Effect.{Effect, ended, refused}
-use Rattle.dml_types.specs.Step.{effect, operation_effect, effect_unless, step, memory_after, records_of}
+use Rattle.dml_types.specs.Step.{effect, operation_effect, judged_effect, step, memory_after, records_of}
 use Rattle.dml_types.proofs.MemoryLemmas.{puts_present}
 
 pub effect_refused : (memory : Memory) (job : Job) (staging : ℕ) (status : Status) → refusal job staging ≡ Some status → effect memory job staging ≡ refused status
 unfolding effect
-effect_refused memory job staging status is = ap (λ r. effect_unless r (op_of job) memory job) is
+effect_refused memory job staging status is = ap (λ r. judged_effect r (op_of job) memory job) is
 
 pub effect_accepted : (memory : Memory) (job : Job) (staging : ℕ) (op : Op) → refusal job staging ≡ None → op_of job ≡ Some op → effect memory job staging ≡ operation_effect op memory job
 unfolding effect
 effect_accepted memory job staging op free is =
-    ap (λ r. effect_unless r (op_of job) memory job) free ∙ ap (λ o. effect_unless None o memory job) is
+    ap (λ r. judged_effect r (op_of job) memory job) free ∙ ap (λ o. judged_effect None o memory job) is
 
 pub step_refused : (memory : Memory) (job : Job) (staging : ℕ) (status : Status) → refusal job staging ≡ Some status → step memory job staging ≡ (memory, ended status 0 0 0)
 step_refused memory job staging status is =

@@ -25,17 +25,17 @@ level_over clash levels i =
     fold max 0 (map (λ k. slice_index levels k + 1) (filter (λ k. clash k i) (range_with_len 0 i)))
 
 -- the levels of the first n jobs
-abbrev pub levels_of : (ℕ → ℕ → Bool) → ℕ → List ℕ
-levels_of clash zero = []
-levels_of clash (suc n) = levels_of clash n ++ level_over clash (levels_of clash n) n ∷ []
+abbrev pub clash_levels : (ℕ → ℕ → Bool) → ℕ → List ℕ
+clash_levels clash zero = []
+clash_levels clash (suc n) = clash_levels clash n ++ level_over clash (clash_levels clash n) n ∷ []
 
 -- the levels of a list's jobs: those clash that conflict
 abbrev pub levels : List Job → List ℕ
-levels jobs = levels_of (clash_of jobs) (length jobs)
+levels jobs = clash_levels (clash_of jobs) (length jobs)
 
 -- in a batch the jobs at two places also clash where one behind the first, up to the second, is fenced
 abbrev pub fenced_clash : List Job → ℕ → ℕ → Bool
 fenced_clash jobs i k = clash_of jobs i k || list_any is_fenced (slice_range jobs (i + 1) (k + 1))
 
 abbrev pub fenced_levels : List Job → List ℕ
-fenced_levels jobs = levels_of (fenced_clash jobs) (length jobs)
+fenced_levels jobs = clash_levels (fenced_clash jobs) (length jobs)

@@ -21,13 +21,13 @@ operation_effect ApplyDelta memory job = applied memory job
 operation_effect Dualcast memory job = dualcast memory job
 
 -- a job without an operation is always refused; the second line is there for totality alone
-abbrev pub effect_unless : Option Status → Option Op → Memory → Job → Effect
-effect_unless (Some status) op memory job = refused status
-effect_unless None None memory job = refused BadOpcode
-effect_unless None (Some op) memory job = operation_effect op memory job
+abbrev pub judged_effect : Option Status → Option Op → Memory → Job → Effect
+judged_effect (Some status) op memory job = refused status
+judged_effect None None memory job = refused BadOpcode
+judged_effect None (Some op) memory job = operation_effect op memory job
 
 unfoldable pub effect : Memory → Job → ℕ → Effect
-effect memory job staging = effect_unless (refusal job staging) (op_of job) memory job
+effect memory job staging = judged_effect (refusal job staging) (op_of job) memory job
 
 -- the new image and the record
 abbrev pub step : Memory → Job → ℕ → Memory × Record

@@ -1,5 +1,5 @@
 use Rattle.std.proofs.Common.{◌≡◌, ◌+◌, ◌-◌, ◌<◌, [], ◌++◌, length, Result, Ok, Err, OnOk, ap, subst, sym, ◌∙◌, arith, All, ⊎_elim}
-use Rattle.dml_order.specs.Waves.{cut_behind, places_from}
+use Rattle.dml_order.specs.Waves.{cut_behind, later_places}
 use Rattle.dml_order.proofs.WaveSteps.{places_here, places_past, places_end}
 use Rattle.dml_levels.specs.Waves.{fits_wave, IsFilling, IsSmall}
 use Rattle.dml_levels.proofs.FillingLemmas.{small_push}
@@ -13,7 +13,7 @@ loop-place-preserved c =
     let levels = c.args.levels.now in
     let place = c.loop-place.place in
     let below : place < length levels = omega arith in
-    let rest = places_from levels c.args.level (place + 1) (length levels - (place + 1)) in
+    let rest = later_places levels c.args.level (place + 1) (length levels - (place + 1)) in
     let old = c.loop-place in
     elim c.if-from-level.branch [
       | then-from-level+in_ok-take w ↦
@@ -45,8 +45,8 @@ returns-clause-cut c =
     let levels = c.args.levels.now in
     let old = c.loop-place in
     let ended : old.place ≡ length levels = omega arith in
-    let none : places_from levels c.args.level old.place (length levels - old.place) ≡ [] =
-    ap (λ place. places_from levels c.args.level place (length levels - place)) ended ∙ places_end levels c.args.level in
+    let none : later_places levels c.args.level old.place (length levels - old.place) ≡ [] =
+    ap (λ place. later_places levels c.args.level place (length levels - place)) ended ∙ places_end levels c.args.level in
     where_ok c.finish.result _ _
     (λ last.
     last fits

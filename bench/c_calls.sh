@@ -1,21 +1,93 @@
 #!/bin/sh
-# Builds the C library and bench/c_calls.c, and prints the times of its calls; then, where dml_bench is built, those of
-# the same moves inside Rattle (over_move SIZE NANOSECONDS), the least of nine runs. Exit status: that of
-# bench/c_calls.c.
+# Builds the C library and bench/c_calls.c, runs that and dml_bench alternately, and prints the least and the median of
+# the calls' times, and the bars of calls from C: a move of 4 KiB over memmove, and each call over the same one inside
+# Rattle (`submit_over` on the caller's pages, `submit_to` on an image's own).
 #
-# Usage: bench/c_calls.sh   wants rt, ar, and a C compiler as $CC or cc, with $CFLAGS or -O2.
+# Usage: bench/c_calls.sh [ROUNDS]   15 rounds, where nothing else is said.
+# Wants rt, ar, a C compiler as $CC or cc, with $CFLAGS or -O2, and the program dml_bench built (rt run in
+# crates/dml_bench). Each round runs both programs, every second round in the opposite order, and a difference is taken
+# within its round. Exit status: 0 where all bars are met, 1 where one is missed, 2 where nothing was measured.
 here=$(cd "$(dirname "$0")" && pwd)
+rounds=${1:-15}
+proved=$here/../crates/dml_bench/out/dml_bench
+if [ ! -x "$proved" ]; then
+    echo "bench/c_calls.sh: $proved is not built: run 'rt run' in crates/dml_bench" >&2
+    exit 2
+fi
 work=$(mktemp -d) || exit 2
 trap 'rm -rf "$work"' EXIT
 "$here/../tools/install_library.sh" "$work" >"$work/log" 2>&1 || { cat "$work/log" >&2; exit 2; }
 "${CC:-cc}" ${CFLAGS:--O2} -std=c11 -D_POSIX_C_SOURCE=200809L -I"$work/include" -o "$work/c_calls" "$here/c_calls.c" \
     "$work/lib/libkazovuni.a" || exit 2
-"$work/c_calls"
-status=$?
-proved=$here/../crates/dml_bench/out/dml_bench
-if [ -x "$proved" ]; then
-    for round in 1 2 3 4 5 6 7 8 9; do
-        "$proved" 8 2>&1 >/dev/null | grep '^over_move'
-    done | sort -k 2,2n -k 3,3n | awk '!seen[$2]++'
-fi
-exit "$status"
+
+# Writes "ROUND NAME BYTES NANOSECONDS" for each row of both programs.
+from_c() {
+    "$work/c_calls" >"$work/rows" || exit 2
+    sed "s/^/$1 /" "$work/rows" >>"$work/times"
+}
+in_rattle() {
+    "$proved" 8 2>"$work/rows" >"$work/out" || exit 2
+    sed -n "s/^\(over_move\|own_move\) /$1 &/p" "$work/rows" >>"$work/times"
+}
+
+echo "machine: $(sed -n 's/^model name[^:]*: //p' /proc/cpuinfo | head -n 1), $(nproc) processors"
+echo "load before: $(cut -d ' ' -f 1-3 /proc/loadavg)"
+round=1
+while [ "$round" -le "$rounds" ]; do
+    if [ $((round % 2)) -eq 1 ]; then
+        from_c "$round"
+        in_rattle "$round"
+    else
+        in_rattle "$round"
+        from_c "$round"
+    fi
+    round=$((round + 1))
+done
+
+awk '
+    function sort(list, count,    i, j, t) {
+        for (i = 2; i <= count; i++)
+            for (j = i; j > 1 && list[j - 1] > list[j]; j--) {
+                t = list[j]; list[j] = list[j - 1]; list[j - 1] = t
+            }
+    }
+    function median(list, count) {
+        sort(list, count)
+        return count % 2 ? list[(count + 1) / 2] : (list[count / 2] + list[count / 2 + 1]) / 2
+    }
+    function over(name, base, bytes,    r, list) {
+        for (r = 1; r <= rounds; r++) {
+            if (!((r, name, bytes) in times) || !((r, base, bytes) in times)) {
+                printf "no time of %s or %s, %d bytes: run \"rt run\" in crates/dml_bench\n", name, base, bytes
+                exit 2
+            }
+            list[r] = times[r, name, bytes] - times[r, base, bytes]
+        }
+        return median(list, rounds)
+    }
+    function bar(text, value, most) {
+        if (value > most) missed++
+        bars++
+        printf("%-64s %6.1f, at most %d: %s\n", text, value, most, (value > most) ? "missed" : "met")
+    }
+    { times[$1, $2, $3] = $4; if ($1 > rounds) rounds = $1 }
+    $1 == 1 { row[++rows] = $2 " " $3 }
+    END {
+        printf "%d rounds, nanoseconds of a job\n%-28s %8s %9s %9s\n", rounds, "call", "bytes", "least", "median"
+        for (n = 1; n <= rows; n++) {
+            split(row[n], part, " ")
+            for (r = 1; r <= rounds; r++) list[r] = times[r, part[1], part[2]]
+            middle = median(list, rounds)
+            printf "%-28s %8d %9.1f %9.1f\n", part[1], part[2], list[1], middle
+        }
+        printf "\n"
+        bar("kazovuni_submit_over of 4096 bytes, over memmove", over("kazovuni_submit_over", "memmove", 4096), 60)
+        for (bytes = 64; bytes <= 4096; bytes *= 64) {
+            bar("kazovuni_submit_over of " bytes " bytes, over submit_over in Rattle", \
+                over("kazovuni_submit_over", "over_move", bytes), 20)
+            bar("kazovuni_submit (a handle) of " bytes " bytes, over submit_to in Rattle", \
+                over("kazovuni_submit", "own_move", bytes), 20)
+        }
+        printf "%d of %d bars of calls from C are missed\n", missed, bars
+        exit missed > 0
+    }' "$work/times"

@@ -93,7 +93,8 @@ awk '
                     ratio(name[n], "words", size[s]), ratio(name[n], "memcmp", size[s])
         rows = split("create_equal:524288 create_sixteenth:524288 submit_create_equal:524288 " \
             "submit_create_sixteenth:524288 words_equal:524288 words_sixteenth:524288 apply_entries:32768 " \
-            "submit_apply_entries:32768 tasks_wave:8192 tasks_alone:8192 each_page_moves:1 over_move:64 over_move:4096 levels_in_order:64 levels_in_order:1024 " \
+            "submit_apply_entries:32768 tasks_wave:8192 tasks_alone:8192 each_page_moves:1 " \
+            "over_move:64 over_move:4096 own_move:64 own_move:4096 levels_in_order:64 levels_in_order:1024 " \
             "levels_shuffled:64 levels_shuffled:128 levels_shuffled:256 levels_shuffled:512 levels_shuffled:1024 " \
             "levels_dualcasts:64 levels_dualcasts:1024 levels_one_source:1024 levels_many_cells:1024 " \
             "levels_chain:1024 waves_in_order:1024 waves_chain:1024 ring_push:1024 seat_submit:1024 ring_pop:1024 " \

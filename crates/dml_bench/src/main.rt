@@ -266,6 +266,7 @@ fn main(rt: HostRuntime) -> io::Result<()> {
     }
     time_smaller(&rt, &image, if measures { 1 << 24 } else { 1 })?;
     lent::time_over(&rt, if measures { 200_000 } else { 1 })?;
+    lent::time_own(&rt, &mut image, if measures { 200_000 } else { 1 })?;
     deltas::time_deltas(&rt, alloc, if measures { 50 } else { 1 })?;
     lists::time_levels(&rt, if measures { 20 } else { 1 })?;
     let Ok(mut engine) = Engine::new(alloc, image, SETTINGS) else {

@@ -8,3 +8,4 @@ pub mod OpenLemmas
 pub mod LookLemmas
 pub mod SeatLemmas
 pub mod LeftLemmas
+pub mod BlockLemmas

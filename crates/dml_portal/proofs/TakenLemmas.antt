@@ -102,3 +102,7 @@ taken_along lanes start fetched now entries added same_start same_end same taken
     subst (λ w. IsTaken w (jobs_in (part_of client added)) (waiting l)) known
     (subst (λ js. IsTaken (waiting (get_or start client m)) js (waiting l)) jobs
     (subst (IsTaken (waiting (get_or start client m)) (jobs_in (part_of client entries))) left (taken client lane inside)))
+
+-- what waits is known as before
+pub taken_from : (lanes start now : List Lane) (entries : List LogEntry) → map waiting start ≡ map waiting lanes → AreTaken start entries now → AreTaken lanes entries now
+taken_from lanes start now entries same taken = taken_along lanes start now now entries entries same refl refl taken

@@ -3,6 +3,7 @@ pub mod Log
 pub mod Seats
 pub mod Lanes
 pub mod Blank
+pub mod Blocks
 pub mod Served
 pub mod Opened
 pub mod Settled

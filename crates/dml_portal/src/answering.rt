@@ -2,6 +2,7 @@
 ghost use Rattle.std.specs.Prelude.{◌≡◌, ◌+◌, ◌≤◌, drop, length, map, take};
 ghost use Rattle.dml_portal.specs.Log.{answers_in, sent_for};
 ghost use Rattle.dml_portal.specs.Lanes.{AreAnswered, ArePopped, ArePushed, AreSameLanes, IsAnswered, IsPushed, IsSameLane, waiting};
+ghost use Rattle.dml_portal.specs.Blocks.{AreBlocks, IsBlock};
 
 use crate::lanes::Lane;
 use crate::logs::LogEntry;
@@ -43,6 +44,43 @@ fn push_answers(client: u32, lane: &mut Lane, log: &[LogEntry])
             return;
         }
         lane.answered = i + 1;
+    }
+}
+
+/// Pushes to a client all its records of the round that began at `start`, if no earlier one waits and there is room.
+fn push_block(client: u32, lane: &mut Lane, log: &[LogEntry], start: usize, records: &[Record])
+    requires start { start + length records.now ≡ length log.now }
+    requires answers { answers_in (drop start log.now) ≡ records.now }
+    requires block { IsBlock (drop start log.now) client lane.old }
+    requires pushed { IsPushed log.now client lane.old }
+    ensures block { IsBlock (drop start log.now) client lane.new }
+    ensures pushed { IsPushed log.now client lane.new }
+    ensures jobs { lane.new.jobs ≡ lane.old.jobs }
+    ensures same { IsSameLane lane.old lane.new }
+{
+    if lane.answered == start {
+        let block = &records[lane.before..lane.before + lane.fetched];
+        if lane.records.push_entire_slice(block).is_ok() {
+            lane.answered = log.len();
+        }
+    }
+}
+
+/// The same to each client.
+pub(crate) fn push_round(lanes: &mut Vec<Lane>, log: &[LogEntry], start: usize, records: &[Record])
+    requires clients { length lanes.old.items ≤ 8 }
+    requires start { start + length records.now ≡ length log.now }
+    requires answers { answers_in (drop start log.now) ≡ records.now }
+    requires blocks { AreBlocks lanes.old.items (drop start log.now) }
+    requires popped { ArePopped lanes.old.items log.now }
+    requires pushed { ArePushed lanes.old.items log.now }
+    ensures popped { ArePopped lanes.new.items log.now }
+    ensures pushed { ArePushed lanes.new.items log.now }
+    ensures waiting { map waiting lanes.new.items ≡ map waiting lanes.old.items }
+    ensures same { AreSameLanes lanes.old.items lanes.new.items }
+{
+    for client in 0..lanes.len() {
+        push_block(client as u32, &mut lanes[client], log, start, records);
     }
 }
 

@@ -6,6 +6,7 @@ ghost use Rattle.dml_portal.specs.Log.{jobs_in, sent_for};
 ghost use Rattle.dml_portal.specs.Lanes.{ArePopped, ArePushed, AreSameLanes, AreTaken, IsSameLane, IsTaken, waiting};
 ghost use Rattle.dml_portal.specs.Served.{IsFetched};
 ghost use Rattle.dml_portal.specs.Blank.{blank};
+ghost use Rattle.dml_portal.specs.Blocks.{AreBlocks};
 
 use crate::lanes::Lane;
 use crate::logs::LogEntry;
@@ -21,10 +22,14 @@ fn fetch_client(client: u32, lane: &mut Lane, log: &mut Vec<LogEntry>, jobs: &mu
     ensures fetched { (fetched : List Jobs) × (received lane.new.jobs ≡ received lane.old.jobs ++ fetched) × (log.new.items ≡ log.old.items ++ map (blank client) fetched) × (jobs.new.items ≡ jobs.old.items ++ fetched) × (length fetched ≤ 128) × IsTaken (waiting lane.old) fetched (waiting lane.new) }
     ensures answered { lane.new.answered ≡ lane.old.answered }
     ensures records { lane.new.records ≡ lane.old.records }
+    ensures before { lane.new.before ≡ length jobs.old.items }
+    ensures number { lane.new.before + lane.new.fetched ≡ length jobs.new.items }
     ensures same { IsSameLane lane.old lane.new }
     ensures log_room { vec_capacity log.new ≡ vec_capacity log.old }
     ensures jobs_room { vec_capacity jobs.new ≡ vec_capacity jobs.old }
 {
+    lane.before = jobs.len();
+    lane.fetched = 0;
     for _ in 0..MOST_OF_A_CLIENT {
         let Ok(job) = lane.jobs.pop() else {
             return;
@@ -35,6 +40,7 @@ fn fetch_client(client: u32, lane: &mut Lane, log: &mut Vec<LogEntry>, jobs: &mu
             job,
             answer: Record::refused(Status::Success),
         });
+        lane.fetched += 1;
     }
 }
 
@@ -46,7 +52,7 @@ pub(crate) fn fetch_round(lanes: &mut Vec<Lane>, log: &mut Vec<LogEntry>, jobs: 
     requires empty { jobs.old.items ≡ [] }
     requires log_room { length log.old.items + 128 * length lanes.old.items ≤ vec_capacity log.old }
     requires jobs_room { 128 * length lanes.old.items ≤ vec_capacity jobs.old }
-    ensures fetched { (entries : List Entries) × (log.new.items ≡ log.old.items ++ entries) × (jobs.new.items ≡ jobs_in entries) × (length entries ≤ 128 * length lanes.old.items) × IsFetched (length lanes.old.items) (map sent_for entries) × AreTaken lanes.old.items entries lanes.new.items }
+    ensures fetched { (entries : List Entries) × (log.new.items ≡ log.old.items ++ entries) × (jobs.new.items ≡ jobs_in entries) × (length entries ≤ 128 * length lanes.old.items) × IsFetched (length lanes.old.items) (map sent_for entries) × AreTaken lanes.old.items entries lanes.new.items × AreBlocks lanes.new.items entries }
     ensures popped { ArePopped lanes.new.items log.new.items }
     ensures pushed { ArePushed lanes.new.items log.old.items }
     ensures same { AreSameLanes lanes.old.items lanes.new.items }

@@ -1,5 +1,3 @@
-ghost use Rattle.std.specs.Prelude.{◌≡◌};
-
 use dml_types::{Job, Record};
 use std::marker::Model;
 
@@ -12,9 +10,9 @@ pub struct LogEntry {
 }
 
 /// What was carried out, in the order in which it was fetched.
-#[derive(Drop)]
+#[derive(Debug, Drop)]
 pub struct Log {
-    entries: Vec<LogEntry>,
+    pub list: Vec<LogEntry>,
 }
 
 impl Model for Log {
@@ -23,20 +21,5 @@ impl Model for Log {
 
     ghost Value = { List LogEntry };
 
-    ghost view = { λ log. log.entries.items };
-}
-
-impl Log {
-    pub(crate) fn new(entries: Vec<LogEntry>) -> Log
-        ensures { result ≡ entries.items }
-    {
-        Log { entries }
-    }
-
-    /// The entries.
-    pub fn as_slice(&self) -> &[LogEntry]
-        ensures { result.now ≡ self.now }
-    {
-        self.entries.as_slice()
-    }
+    ghost view = { λ log. log.list.items };
 }

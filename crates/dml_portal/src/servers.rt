@@ -3,7 +3,7 @@ ghost use Rattle.std.specs.Prelude.{◌≡◌, ◌+◌, ◌*◌, ◌≤◌, [], 
 ghost use Rattle.dml_types.specs.Limits.{IsValid};
 ghost use Rattle.dml_portal.specs.Lanes.{ArePopped, ArePushed};
 
-use crate::answering::{answer_round, push_all_answers};
+use crate::answering::{answer_round, push_all_answers, push_round};
 use crate::errors::PortalError;
 use crate::fetching::{MOST_OF_A_CLIENT, fetch_round};
 use crate::lanes::Lane;
@@ -22,13 +22,14 @@ pub struct Server<G = Free> {
     pub(crate) engine: Engine<G>,
     pub(crate) lanes: Vec<Lane>,
     pub(crate) log: Vec<LogEntry>,
+    room: Room,
     ghost ready: { IsValid engine.settings },
     ghost few: { length lanes.items ≤ 8 },
     ghost popped: { ArePopped lanes.items log.items },
     ghost pushed: { ArePushed lanes.items log.items },
 }
 
-/// Lists with room for the jobs and the records of a round.
+/// Lists for the jobs and the records of a round, which keep their room from round to round.
 #[derive(Drop)]
 struct Room {
     jobs: Vec<Job>,
@@ -36,17 +37,19 @@ struct Room {
 }
 
 impl Room {
-    /// Room for so many jobs, in the log too.
-    fn new(alloc: Global, log: &mut Vec<LogEntry>, most: usize) -> Result<Room, AllocError>
+    /// Empties the lists, and makes room for so many jobs in them and in the log.
+    fn make(&mut self, log: &mut Vec<LogEntry>, most: usize) -> Result<(), AllocError>
         ensures log { log.new.items ≡ log.old.items }
         ensures log_room { OnOk result (length log.new.items + most ≤ vec_capacity log.new) }
-        ensures empty { IfOk result (λ room. (room.jobs.items ≡ []) × (room.records.items ≡ [])) }
-        ensures room { IfOk result (λ room. (vec_capacity room.jobs ≡ most) × (vec_capacity room.records ≡ most)) }
+        ensures empty { OnOk result ((self.new.jobs.items ≡ []) × (self.new.records.items ≡ [])) }
+        ensures room { OnOk result ((most ≤ vec_capacity self.new.jobs) × (most ≤ vec_capacity self.new.records)) }
     {
+        self.jobs.clear();
+        self.records.clear();
         log.reserve(most)?;
-        let jobs = Vec::with_capacity(alloc, most)?;
-        let records = Vec::with_capacity(alloc, most)?;
-        Ok(Room { jobs, records })
+        self.jobs.reserve(most)?;
+        self.records.reserve(most)?;
+        Ok(())
     }
 }
 
@@ -67,6 +70,10 @@ impl<G> Server<G> {
             engine,
             lanes,
             log: Vec::new(alloc),
+            room: Room {
+                jobs: Vec::new(alloc),
+                records: Vec::new(alloc),
+            },
         }
     }
 
@@ -114,19 +121,46 @@ impl<G: Gate + Sync> Server<G> {
         ensures same { AreSameLanes (lanes_of self.old) (lanes_of self.new) }
     {
         law_of_rounds();
-        law_of_folds();
         self.law_of_image();
         push_all_answers(&mut self.lanes, self.log.as_slice());
         let most = MOST_OF_A_CLIENT * self.lanes.len();
-        let Ok(mut room) = Room::new(alloc, &mut self.log, most) else {
+        let Ok(()) = self.room.make(&mut self.log, most) else {
             return Err(PortalError::NoMemory);
         };
+        let number = self.serve_in_room(rt, alloc);
+        Ok(number)
+    }
+
+    /// Serves a round for which there is room, and answers how many jobs it fetched.
+    fn serve_in_room<R: Threads + Wait + Sync>(&mut self, rt: &R, alloc: Global) -> usize
+        requires log_room { length self.old.log.items + 128 * length self.old.lanes.items ≤ vec_capacity self.old.log }
+        requires empty { (self.old.room.jobs.items ≡ []) × (self.old.room.records.items ≡ []) }
+        requires jobs_room { 128 * length self.old.lanes.items ≤ vec_capacity self.old.room.jobs }
+        requires records_room { 128 * length self.old.lanes.items ≤ vec_capacity self.old.room.records }
+        ensures earlier { take (length self.old.log.items) self.new.log.items ≡ self.old.log.items }
+        ensures number { result ≡ length (added self.old.log.items self.new.log.items) }
+        ensures most { length (added self.old.log.items self.new.log.items) ≤ 128 * length self.old.lanes.items }
+        ensures fetched { IsFetched (length self.old.lanes.items) (map sent_for (added self.old.log.items self.new.log.items)) }
+        ensures taken { AreTaken self.old.lanes.items (added self.old.log.items self.new.log.items) self.new.lanes.items }
+        ensures image { self.new.engine.image
+            ≡ memory_after self.old.engine.image (jobs_in (added self.old.log.items self.new.log.items)) self.old.engine.settings.staging }
+        ensures answers { answers_in (added self.old.log.items self.new.log.items)
+            ≡ records_of self.old.engine.image (jobs_in (added self.old.log.items self.new.log.items)) self.old.engine.settings.staging }
+        ensures steps { RoundHasServed self.old.engine.settings (length self.old.lanes.items) self.old.engine.image self.new.engine.image (added self.old.log.items self.new.log.items) }
+        ensures answered { AreAnswered self.new.lanes.items self.new.log.items }
+        ensures settings { self.new.engine.settings ≡ self.old.engine.settings }
+        ensures same { AreSameLanes self.old.lanes.items self.new.lanes.items }
+    {
+        law_of_rounds();
+        law_of_folds();
+        self.law_of_image();
         let start = self.log.len();
-        fetch_round(&mut self.lanes, &mut self.log, &mut room.jobs);
-        self.engine
-            .submit_into(rt, alloc, room.jobs.as_slice(), &mut room.records);
-        answer_round(&mut self.log, start, room.records.as_slice());
+        fetch_round(&mut self.lanes, &mut self.log, &mut self.room.jobs);
+        self.engine.submit_into(rt, alloc, self.room.jobs.as_slice(), &mut self.room.records);
+        let records = self.room.records.as_slice();
+        answer_round(&mut self.log, start, records);
+        push_round(&mut self.lanes, self.log.as_slice(), start, records);
         push_all_answers(&mut self.lanes, self.log.as_slice());
-        Ok(room.jobs.len())
+        self.room.jobs.len()
     }
 }

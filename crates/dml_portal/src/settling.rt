@@ -41,6 +41,22 @@ impl<G> Server<G> {
     }
 }
 
+impl<G: Drop> Server<G> {
+    ghost use Rattle.dml_portal.specs.Servers.{image_of, log_of};
+
+    /// What it leaves.
+    fn into_settled(self) -> Settled
+        ensures image { result.image ≡ image_of self.entry }
+        ensures log { result.log ≡ log_of self.entry }
+    {
+        let Server { engine, log, .. } = self;
+        Settled {
+            image: engine.into_image(),
+            log: Log { list: log },
+        }
+    }
+}
+
 impl<G: Gate + Sync> Server<G> {
     ghost use Rattle.std.specs.Prelude.{OnErr, OnOk, length, take};
     ghost use Rattle.dml_types.specs.Step.{memory_after, records_of};
@@ -132,10 +148,6 @@ impl<G: Gate + Sync + Drop> Server<G> {
         let Ok(()) = server.serve_rest(rt, alloc, &mut dones) else {
             return Err((server, dones, SettleFault::NoMemory));
         };
-        let Server { engine, log, .. } = server;
-        Ok(Settled {
-            image: engine.into_image(),
-            log: Log::new(log),
-        })
+        Ok(server.into_settled())
     }
 }

@@ -4,6 +4,7 @@ mod clients;
 mod gates;
 mod growths;
 mod portals;
+mod rounds;
 
 use crate::{Full, Portal, PortalError};
 use dml_engine::Engine;
@@ -44,7 +45,7 @@ fn full_ring(rt: HostRuntime) -> Result<(), Fail> {
     assert_eq!(rt; portal.serve(&rt, rt.alloc()), Ok(2));
     assert_eq!(rt; portal.submit(job), Ok(()));
     let settled = portal.settle(&rt, rt.alloc()).ok_or("not settled")?;
-    assert_eq!(rt; settled.log.as_slice().len(), 3);
+    assert_eq!(rt; settled.log.list.len(), 3);
     Ok(())
 }
 
@@ -80,7 +81,7 @@ fn round_of_128(rt: HostRuntime) -> Result<(), Fail> {
     assert_eq!(rt; portal.serve(&rt, rt.alloc()), Ok(128));
     assert_eq!(rt; portal.serve(&rt, rt.alloc()), Ok(2));
     let settled = portal.settle(&rt, rt.alloc()).ok_or("not settled")?;
-    assert_eq!(rt; settled.log.as_slice().len(), 130);
+    assert_eq!(rt; settled.log.list.len(), 130);
     Ok(())
 }
 
@@ -96,7 +97,7 @@ fn polled_in_order(rt: HostRuntime) -> Result<(), Fail> {
     assert_eq!(rt; portal.poll(), Some(done(0)));
     assert_eq!(rt; portal.poll(), None);
     let settled = portal.settle(&rt, rt.alloc()).ok_or("not settled")?;
-    assert_eq!(rt; settled.log.as_slice().len(), 2);
+    assert_eq!(rt; settled.log.list.len(), 2);
     Ok(())
 }
 

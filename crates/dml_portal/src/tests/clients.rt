@@ -63,7 +63,7 @@ fn expect_part(rt: &impl Abort, log: &[LogEntry], client: u32, list: &[(Job, Rec
 
 /// Each client's part of the log is its list, and the image has what they wrote.
 fn expect_settled(rt: &impl Abort, settled: &Settled) {
-    let log = settled.log.as_slice();
+    let log = settled.log.list.as_slice();
     assert_eq!(rt; log.len(), 3);
     expect_part(rt, log, 0, &first_list());
     expect_part(rt, log, 1, &second_list());
@@ -215,8 +215,8 @@ fn polls_while_serving(rt: HostRuntime) -> Result<(), Fail> {
         let (portal, of_first, of_second) = polled_while_served(&rt, rt.alloc(), portal);
         let settled = portal.settle(&rt, rt.alloc()).ok_or("not settled")?;
         expect_settled(&rt, &settled);
-        expect_front(&rt, of_first.as_slice(), settled.log.as_slice(), 0);
-        expect_front(&rt, of_second.as_slice(), settled.log.as_slice(), 1);
+        expect_front(&rt, of_first.as_slice(), settled.log.list.as_slice(), 0);
+        expect_front(&rt, of_second.as_slice(), settled.log.list.as_slice(), 1);
     }
     Ok(())
 }

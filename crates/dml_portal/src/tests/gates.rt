@@ -1,15 +1,16 @@
-//! A round whose tasks are held until all have entered.
+//! Rounds whose tasks are held.
 
 use super::done;
-use crate::Portal;
+use crate::{Portal, PortalError, Seat, Server};
 use dml_engine::Engine;
 use dml_image::Image;
 use dml_pool::Gate;
-use dml_types::{Job, Settings};
+use dml_types::{Job, Record, Settings};
 use std::alloc::Global;
+use std::sync::Wait;
 use std::sync::atomic::{AtomicU64, Ordering};
 use std::test::Fail;
-use std::thread;
+use std::thread::{self, Threads};
 use std::time::{Clock, Duration};
 
 /// The turns after which a gate gives up.
@@ -102,6 +103,98 @@ fn every_submit_runs_at_once(rt: HostRuntime) -> Result<(), Fail> {
         assert_eq!(rt; seat.poll(), Some(done(16)));
         assert_eq!(rt; seat.poll(), Some(done(8)));
         assert_eq!(rt; counts.both(), (ALL_ONCE, 0), "turn {turn}");
+    }
+    Ok(())
+}
+
+/// A gate that holds each task until something has entered.
+#[derive(Drop)]
+struct Held<'c, C> {
+    clock: &'c C,
+    counts: &'c Counts,
+}
+
+impl<'c, C: Clock> Gate for Held<'c, C> {
+    fn enter(&self, _task: usize) {
+        for _ in 0..TURNS {
+            if self.counts.entered.load(Ordering::SeqCst) > 0 {
+                return;
+            }
+            thread::sleep(self.clock, Duration::from_millis(1));
+        }
+        self.counts.given_up.fetch_add(1, Ordering::SeqCst);
+    }
+}
+
+/// Polls until a record is there, which is then counted as one that has entered.
+fn polled_once<C: Clock>(clock: &C, seat: Seat, counts: &Counts) -> Option<Record> {
+    let mut seat = seat;
+    for _ in 0..TURNS {
+        if let Some(record) = seat.poll() {
+            counts.entered.fetch_add(1, Ordering::SeqCst);
+            return Some(record);
+        }
+        thread::sleep(clock, Duration::from_millis(1));
+    }
+    None
+}
+
+/// Serves a round.
+fn served_once<R: Threads + Wait + Sync, G: Gate + Sync + Drop>(
+    rt: &R,
+    alloc: Global,
+    server: Server<G>,
+) -> Result<usize, PortalError> {
+    let mut server = server;
+    server.serve_round(rt, alloc)
+}
+
+/// A client polls on a thread of its own, while the server serves a round on this one.
+fn polled_while_served<R: Threads + Wait + Sync + Clock, G: Gate + Sync + Drop>(
+    rt: &R,
+    alloc: Global,
+    server: Server<G>,
+    seat: Seat,
+    counts: &Counts,
+) -> (Option<Record>, Result<usize, PortalError>) {
+    thread::join(
+        rt,
+        || -> Option<Record> { polled_once(rt, seat, counts) },
+        || -> Result<usize, PortalError> { served_once(rt, alloc, server) },
+    )
+}
+
+/// A round pushes the records that wait before its own jobs are carried out.
+#[test]
+fn pushed_before_tasks(rt: HostRuntime) -> Result<(), Fail> {
+    for turn in 0..10 {
+        let counts = Counts::new();
+        let gate = Held {
+            clock: &rt,
+            counts: &counts,
+        };
+        let engine = engine_of_eight(rt.alloc())
+            .ok_or("no memory")?
+            .with_gate(gate);
+        let (mut server, mut seats) = Portal::open(rt.alloc(), engine, 1, 2).map_err(|(
+            _,
+            error,
+        )| error)?;
+        let mut seat = seats.pop().ok_or("no seat")?;
+        for _ in 0..2 {
+            assert_eq!(rt; seat.try_submit(Job::no_op()), Ok(()));
+            assert_eq!(rt; seat.try_submit(Job::no_op()), Ok(()));
+            assert_eq!(rt; server.serve_round(&rt, rt.alloc()), Ok(2));
+        }
+        assert_eq!(rt; seat.poll(), Some(done(0)));
+        assert_eq!(rt; seat.poll(), Some(done(0)));
+        assert_eq!(rt; seat.poll(), None);
+        assert_eq!(rt; seat.try_submit(Job::fill(1, 0, 16)), Ok(()));
+        assert_eq!(rt; seat.try_submit(Job::fill(2, 64, 8)), Ok(()));
+        let (polled, served) = polled_while_served(&rt, rt.alloc(), server, seat, &counts);
+        assert_eq!(rt; polled, Some(done(0)), "turn {turn}");
+        assert_eq!(rt; served, Ok(2), "turn {turn}");
+        assert_eq!(rt; counts.both(), (1, 0), "turn {turn}");
     }
     Ok(())
 }

@@ -56,12 +56,9 @@ fn refused_open(rt: HostRuntime) -> Result<(), Fail> {
     Ok(())
 }
 
-/// A portal of two clients whose lists all go to workers, in whose log an entry stands: the first has submitted two more
-/// jobs, the second one.
-fn submitted(rt: &(impl Threads + Wait + Sync), alloc: Global) -> Option<Two> {
-    let mut portal = Two::open(alloc, engine(alloc)?.with_gate(Free), 4)?;
-    portal.submit_second(Job::no_op()).ok()?;
-    portal.serve(rt, alloc).ok()?;
+/// Two clients of a portal submit: the first two jobs, the second one.
+fn three_submitted(portal: Two) -> Option<Two> {
+    let mut portal = portal;
     portal
         .submit_first(Job::fill(0x0101_0101_0101_0101, 0, 16))
         .ok()?;
@@ -70,6 +67,19 @@ fn submitted(rt: &(impl Threads + Wait + Sync), alloc: Global) -> Option<Two> {
         .submit_second(Job::fill(0x0202_0202_0202_0202, 64, 8))
         .ok()?;
     Some(portal)
+}
+
+/// A portal of two clients whose lists all go to workers, which have submitted three jobs.
+fn submitted_first(alloc: Global) -> Option<Two> {
+    three_submitted(Two::open(alloc, engine(alloc)?.with_gate(Free), 4)?)
+}
+
+/// The same behind a round, from which an entry stands in the log.
+fn submitted(rt: &(impl Threads + Wait + Sync), alloc: Global) -> Option<Two> {
+    let mut portal = Two::open(alloc, engine(alloc)?.with_gate(Free), 4)?;
+    portal.submit_second(Job::no_op()).ok()?;
+    portal.serve(rt, alloc).ok()?;
+    three_submitted(portal)
 }
 
 /// The seat polls these records, and no more.
@@ -94,32 +104,59 @@ fn set_up_of_serve_round(rt: HostRuntime) -> Result<(), Fail> {
     Ok(())
 }
 
-/// Each client's jobs are carried out, or nothing was fetched, and the next round does it.
-#[test]
-fn refused_serve_round(rt: HostRuntime) -> Result<(), Fail> {
+/// A round behind these records of the second client: each client's jobs are carried out, or nothing was fetched, and
+/// the next round does it.
+fn expect_round<R: Abort + Threads + Wait + Sync>(
+    rt: &R,
+    alloc: Global,
+    portal: Two,
+    earlier: &[Record],
+) {
     let Two {
         mut server,
         mut first,
         mut second,
-    } = submitted(&rt, rt.alloc()).ok_or("no memory")?;
-    expect_polled(&rt, &mut second, &[done(0)]);
-    if let Err(error) = server.serve_round(&rt, rt.alloc()) {
+    } = portal;
+    expect_polled(rt, &mut second, earlier);
+    if let Err(error) = server.serve_round(rt, alloc) {
         assert_eq!(rt; error, PortalError::NoMemory);
-        assert_eq!(rt; server.log.len(), 1);
+        assert_eq!(rt; server.log.len(), earlier.len());
         assert_eq!(rt; server.engine.image().byte(0), Some(0));
-        expect_polled(&rt, &mut first, &[]);
-        expect_polled(&rt, &mut second, &[]);
-        assert_eq!(rt; server.serve_round(&rt, rt.alloc()), Ok(3));
+        expect_polled(rt, &mut first, &[]);
+        expect_polled(rt, &mut second, &[]);
+        assert_eq!(rt; server.serve_round(rt, alloc), Ok(3));
     }
-    assert_eq!(rt; server.log.len(), 4);
-    for (entry, client) in server.log.iter().zip([1, 0, 0, 1]) {
+    assert_eq!(rt; server.log.len().checked_sub(earlier.len()), Some(3));
+    for (entry, client) in server.log.iter().skip(earlier.len()).zip([0, 0, 1]) {
         assert_eq!(rt; entry.client, client);
     }
-    expect_polled(&rt, &mut first, &[done(16), done(0)]);
-    expect_polled(&rt, &mut second, &[done(8)]);
+    expect_polled(rt, &mut first, &[done(16), done(0)]);
+    expect_polled(rt, &mut second, &[done(8)]);
     for (addr, byte) in [(0, 1), (15, 1), (16, 0), (64, 2), (71, 2), (72, 0)] {
         assert_eq!(rt; server.engine.image().byte(addr), Some(byte), "{addr}");
     }
+}
+
+#[test]
+fn refused_serve_round(rt: HostRuntime) -> Result<(), Fail> {
+    let portal = submitted(&rt, rt.alloc()).ok_or("no memory")?;
+    expect_round(&rt, rt.alloc(), portal, &[done(0)]);
+    Ok(())
+}
+
+/// What `refused_first_round` does before its call.
+#[test]
+fn set_up_of_first_round(rt: HostRuntime) -> Result<(), Fail> {
+    let portal = submitted_first(rt.alloc()).ok_or("no memory")?;
+    assert_eq!(rt; portal.server.log.len(), 0);
+    Ok(())
+}
+
+/// A portal's first round takes the memory of its lists too.
+#[test]
+fn refused_first_round(rt: HostRuntime) -> Result<(), Fail> {
+    let portal = submitted_first(rt.alloc()).ok_or("no memory")?;
+    expect_round(&rt, rt.alloc(), portal, &[]);
     Ok(())
 }
 
@@ -157,7 +194,7 @@ fn refused_settle(rt: HostRuntime) -> Result<(), Fail> {
             settled.map_err(|(_, _, fault)| fault)?
         }
     };
-    let log = settled.log.as_slice();
+    let log = settled.log.list.as_slice();
     assert_eq!(rt; log.len(), 4);
     for (entry, (client, completed)) in log.iter().zip([(1, 0), (0, 16), (0, 0), (1, 8)]) {
         assert_eq!(rt; (entry.client, entry.answer), (client, done(completed)));

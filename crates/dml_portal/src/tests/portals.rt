@@ -28,6 +28,18 @@ pub(super) struct Two {
     ghost own_second: { IsSeatOf server.lanes.items second },
 }
 
+/// A portal of three clients.
+#[derive(Drop)]
+pub(super) struct Three {
+    pub(super) server: Server<Free>,
+    pub(super) first: Seat,
+    pub(super) second: Seat,
+    pub(super) third: Seat,
+    ghost own_first: { IsSeatOf server.lanes.items first },
+    ghost own_second: { IsSeatOf server.lanes.items second },
+    ghost own_third: { IsSeatOf server.lanes.items third },
+}
+
 impl One {
     /// A portal over a page of zeros.
     pub(super) fn open(alloc: Global, capacity: u32) -> Option<One> {
@@ -125,6 +137,62 @@ impl Two {
         let Ok(()) = dones.push(second.finish()) else {
             return None;
         };
+        server.settle(rt, alloc, dones).ok()
+    }
+}
+
+impl Three {
+    /// A portal over a page of zeros.
+    pub(super) fn open(alloc: Global, capacity: u32) -> Option<Three> {
+        let Ok((server, mut seats)) = Portal::open(alloc, engine(alloc)?, 3, capacity) else {
+            return None;
+        };
+        let third = seats.pop()?;
+        let second = seats.pop()?;
+        let first = seats.pop()?;
+        Some(Three {
+            server,
+            first,
+            second,
+            third,
+        })
+    }
+
+    /// A client submits a job; the third where the number is no other's.
+    pub(super) fn submit(&mut self, client: u32, job: Job) -> Result<(), Full> {
+        match client {
+            0 => self.first.try_submit(job),
+            1 => self.second.try_submit(job),
+            _ => self.third.try_submit(job),
+        }
+    }
+
+    /// A client polls; the third where the number is no other's.
+    pub(super) fn poll(&mut self, client: u32) -> Option<Record> {
+        match client {
+            0 => self.first.poll(),
+            1 => self.second.poll(),
+            _ => self.third.poll(),
+        }
+    }
+
+    pub(super) fn serve<R: Threads + Wait + Sync>(
+        &mut self,
+        rt: &R,
+        alloc: Global,
+    ) -> Result<usize, PortalError> {
+        self.server.serve_round(rt, alloc)
+    }
+
+    /// The clients finish, and the portal is settled.
+    pub(super) fn settle<R: Threads + Wait + Sync>(self, rt: &R, alloc: Global) -> Option<Settled> {
+        let Three {
+            server,
+            first,
+            second,
+            third,
+        } = self;
+        let dones = vec![in alloc; first.finish(), second.finish(), third.finish()].ok()?;
         server.settle(rt, alloc, dones).ok()
     }
 }

@@ -1,4 +1,4 @@
-use Rattle.std.proofs.Common.{refl, ◌∙◌}
+use Rattle.std.proofs.Common.{refl, ◌+◌, ◌∙◌, ap}
 use Rattle.rtrb.specs.Ring.{known_items, received}
 use Rattle.dml_portal.specs.Lanes.{waiting}
 use Rattle.dml_portal.proofs.LaneLemmas.{same_lane}
@@ -17,7 +17,9 @@ loop-preserved c =
           before.0 popped.ok.0 c.push_reserved-in-loop.ensures.items c.refused.ensures c.push_reserved.ensures.items popped.ok.1,
       before.1,
       before.2,
-      same_lane start lane (record { jobs = jobs; records = lane.records; answered = lane.answered }) before.3 (popped.ring, ((refl, refl, refl, refl), refl)),
+      same_lane start lane (record { jobs = jobs; records = lane.records; answered = lane.answered; before = lane.before; fetched = lane.fetched + 1 }) before.3 (popped.ring, ((refl, refl, refl, refl), refl)),
       c.push_reserved-in-loop.ensures.capacity ∙ before.4,
       c.push_reserved.ensures.capacity ∙ before.5,
+      before.6,
+      ap (λ n. n + 1) before.7,
     )

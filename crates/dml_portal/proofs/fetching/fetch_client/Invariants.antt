@@ -20,3 +20,5 @@ invariant-loop l =
     × IsSameLane l.initial.lane l.lane
     × (vec_capacity l.log ≡ vec_capacity l.initial.log)
     × (vec_capacity l.jobs ≡ vec_capacity l.initial.jobs)
+    × (l.lane.before ≡ l.initial.lane.before)
+    × (l.lane.fetched ≡ l.counter)

@@ -1,9 +1,13 @@
-use Rattle.std.proofs.Common.{◌≡◌, ◌*◌, ◌<◌, ◌≤◌, ◌++◌, ◌∙◌, length, map, set, sym, ap, subst, arith, append_assoc}
+use Rattle.std.proofs.Common.{◌≡◌, ◌*◌, ◌<◌, ◌≤◌, ◌++◌, ◌∙◌, length, get_or, map, set, sym, ap, subst, arith, append_assoc}
 use Rattle.std.proofs.lemmas.List.{length-append, length-map}
+use Rattle.dml_portal.specs.Types.{LogEntry}
 use Rattle.dml_portal.specs.Log.{jobs_in, sent_for}
 use Rattle.dml_portal.specs.Lanes.{ArePopped}
 use Rattle.dml_portal.specs.Served.{IsFetched}
 use Rattle.dml_portal.specs.Blank.{blank}
+use Rattle.dml_portal.specs.Blocks.{IsBlock}
+use Rattle.dml_portal.proofs.BlockLemmas.{block_mine, block_other}
+use Rattle.dml_portal.proofs.Lists.{below_set}
 use Rattle.dml_portal.proofs.FetchLemmas.{fetched_more}
 use Rattle.dml_portal.proofs.TakenLemmas.{taken_all, taken_more}
 use Rattle.dml_portal.proofs.LaneLemmas.{popped_more, pushed_still, same_more}
@@ -31,6 +35,11 @@ loop-client-preserved c =
         omega (arith, length-append entries more, length-map jobs (blank i), done.fetched.4, before.0.3),
         fetched_more i entries jobs done.fetched.4 before.0.4,
         taken_more i c.args.lanes.now.items lanes entries jobs lane now within before.3.0 c.index_mut.ensures.value before.0.4 done.fetched.5 before.0.5,
+        below_set (IsBlock (entries ++ more)) lanes i now within
+            (block_mine i entries jobs now before.0.4.order
+            (omega (arith, done.before, ap length before.0.2, length-map entries (λ (entry : LogEntry). entry.job)))
+            (omega (arith, done.before, done.number, ap length done.fetched.3, length-append c.loop-client.jobs.items jobs)))
+            (λ k d less. block_other entries i jobs k (get_or lanes k d) (λ e. omega (arith, e, less)) (before.0.6 k d less)),
       ),
       subst (ArePopped (set lanes i now)) (sym done.fetched.2)
           (popped_more lanes i lane now c.loop-client.log.items jobs within c.index_mut.ensures.value done.fetched.1 before.1),
@@ -50,4 +59,5 @@ returns-clause-fetched c =
       subst (λ n. length left.0 ≤ 128 * n) (sym all) left.3,
       subst (λ n. IsFetched n (map sent_for left.0)) (sym all) left.4,
       taken_all c.args.lanes.now.items left.0 c.loop-client.lanes.items c.loop-client.client (omega (arith, all, c.loop-client.invariant.3.0)) left.5,
+      λ client lane below. left.6 client lane (omega (arith, below, all, c.loop-client.invariant.3.0)),
     )

@@ -9,7 +9,7 @@ pub loop-client-preserved : goal.loop-client-preserved
 loop-client-preserved c =
     let before = c.loop-client.invariant in
     let n = c.loop-client.client + 1 in
-    let lane : Lane = record { jobs = c.in_ok-submitted.jobs; records = c.in_ok-records.records; answered = 0 } in
+    let lane : Lane = record { jobs = c.in_ok-submitted.jobs; records = c.in_ok-records.records; answered = 0; before = 0; fetched = 0 } in
     let seat = c.new-in-loop-client-2.result in
     let is = c.new-in-loop-client-2.ensures in (
       subst (λ lanes. AreNew c.args.capacity n lanes c.push_reserved-in-loop-client.new.self.items) (sym c.push_reserved.ensures.items)

@@ -15,5 +15,5 @@ returns-then-not-have_finished-clause-kept_steps g c =
 
 pub returns-clause-settled : goal.returns-clause-settled
 returns-clause-settled g c =
-    subst (λ log. EachDone (IsSettled log) c.args.dones.items) (sym c.new.ensures)
+    subst (λ log. EachDone (IsSettled log) c.args.dones.items) (sym c.into_settled.ensures.log)
     (all_settled c.serve_rest.new.self.log.items c.args.dones.items c.serve_rest.new.dones.items c.serve_rest.ensures.unused c.in-Ok.ensures.settled)

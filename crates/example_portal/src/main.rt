@@ -49,7 +49,7 @@ fn main(rt: HostRuntime) -> anyhow::Result<()> {
     let (dones, server) = thread::join(&rt, || thread::map_vec(&rt, seats, &client), serve);
     let settled = server.settle(&rt, alloc, dones?).map_err(|kept| kept.2)?;
     for client in 0..2 {
-        for entry in settled.log.as_slice() {
+        for entry in &settled.log.list {
             if entry.client == client {
                 println!(rt; "client {client}: {:?}", entry.answer)?;
             }

@@ -209,7 +209,8 @@ fn shares_polled(seats: &mut Vec<Seat>) -> bool {
     all
 }
 
-/// Times rounds of eight clients with 16 moves of a page each, alone and with their submits and polls.
+/// Times rounds of eight clients with 16 moves of a page each, alone and with their submits and polls, once each ring was
+/// filled to its end.
 fn time_rounds<T: Threads + Wait + Sync + Clock + Eprint>(
     rt: &T,
     alloc: Global,
@@ -220,6 +221,11 @@ fn time_rounds<T: Threads + Wait + Sync + Clock + Eprint>(
 {
     let (mut server, mut seats) = portal_of(alloc, image, 4, CLIENTS)?;
     let (mut rounds, mut whole, mut all) = (0u128, 0u128, true);
+    for _ in 0..ROOM / SHARE {
+        all = shares_submitted(&mut seats) && all;
+        all = served(rt, alloc, &mut server) == ROUND && all;
+        all = shares_polled(&mut seats) && all;
+    }
     for _ in 0..turns {
         let start = Instant::now(rt)?;
         all = shares_submitted(&mut seats) && all;

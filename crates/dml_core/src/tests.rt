@@ -103,18 +103,26 @@ fn nothing_to_fetch(rt: HostRuntime) -> Result<(), Fail> {
     }
 }
 
+/// Two clients' fills, and other steps behind them.
+fn two_fills_then(alloc: Global, steps: &[Step]) -> Option<Vec<Step>> {
+    let mut all = Vec::from_array(alloc, two_fills()).ok()?;
+    all.extend_from_slice(steps).ok()?;
+    Some(all)
+}
+
 #[test]
 fn commit_with_task_in_hand(rt: HostRuntime) -> Result<(), Fail> {
     let world = world(rt.alloc(), 2).ok_or("no memory")?;
-    let Ok(world) = world.replay(rt.alloc(), &two_fills()) else {
-        return Err("a step was refused".into());
-    };
-    match world.replay(rt.alloc(), &[Step::Commit]) {
+    let steps = two_fills_then(rt.alloc(), &[Step::Commit]).ok_or("no memory")?;
+    match world.replay(rt.alloc(), steps.as_slice()) {
         Ok(_) => Err("the wave was committed".into()),
         Err((world, fault)) => {
-            assert_eq!(rt; fault, StepFault::NotAllowed(0));
-            assert_eq!(rt; world.image().byte(0), Some(0));
-            assert_eq!(rt; world.fetched().len(), 2);
+            assert_eq!(rt; fault, StepFault::NotAllowed(5));
+            expect_before(&rt, &world, 5);
+            let Ok(world) = world.replay(rt.alloc(), &two_commits()) else {
+                return Err("a step was refused".into());
+            };
+            expect_before(&rt, &world, 10);
             Ok(())
         }
     }
@@ -123,10 +131,8 @@ fn commit_with_task_in_hand(rt: HostRuntime) -> Result<(), Fail> {
 #[test]
 fn two_clients_fetched_in_turn(rt: HostRuntime) -> Result<(), Fail> {
     let world = world(rt.alloc(), 2).ok_or("no memory")?;
-    let Ok(world) = world.replay(rt.alloc(), &two_fills()) else {
-        return Err("a step was refused".into());
-    };
-    let Ok(world) = world.replay(rt.alloc(), &two_commits()) else {
+    let steps = two_fills_then(rt.alloc(), &two_commits()).ok_or("no memory")?;
+    let Ok(world) = world.replay(rt.alloc(), steps.as_slice()) else {
         return Err("a step was refused".into());
     };
     assert_eq!(rt; world.image().byte(0), Some(1));
@@ -146,16 +152,56 @@ fn two_clients_fetched_in_turn(rt: HostRuntime) -> Result<(), Fail> {
     Ok(())
 }
 
+/// Three clients' fills of the same 8 bytes, sent before any is fetched, are fetched in turn, twice each.
+#[test]
+fn three_clients_fetched_in_turn(rt: HostRuntime) -> Result<(), Fail> {
+    let mut steps = Vec::new(rt.alloc());
+    for (client, pattern) in [(0, 0), (1, 1), (2, 2), (0, 3), (1, 4), (2, 5)] {
+        let job = Job::fill(pattern, 0, 8);
+        steps
+            .push(Step::Submit { client, job })
+            .expect(&rt, "memory");
+    }
+    for client in [2, 0, 1, 2, 0, 1] {
+        steps.push(Step::Fetch { client }).expect(&rt, "memory");
+    }
+    for _ in 0..6 {
+        for step in [
+            Step::Take { worker: 1 },
+            Step::Finish { worker: 1 },
+            Step::Commit,
+        ] {
+            steps.push(step).expect(&rt, "memory");
+        }
+    }
+    let world = world(rt.alloc(), 3).ok_or("no memory")?;
+    let Ok(world) = world.replay(rt.alloc(), steps.as_slice()) else {
+        return Err("a step was refused".into());
+    };
+    assert_eq!(rt; world.image().byte(0), Some(4));
+    let wanted = [(2, 2), (0, 0), (1, 1), (2, 5), (0, 3), (1, 4)];
+    assert_eq!(rt; world.fetched().len(), wanted.len());
+    for (entry, (client, pattern)) in world.fetched().iter().zip(wanted) {
+        let want = Fetched {
+            client,
+            job: Job::fill(pattern, 0, 8),
+            answer: Some(FILLED),
+        };
+        assert_eq!(rt; *entry, want);
+    }
+    Ok(())
+}
+
 #[test]
 fn unknown_worker(rt: HostRuntime) -> Result<(), Fail> {
     let world = world(rt.alloc(), 2).ok_or("no memory")?;
-    let Ok(world) = world.replay(rt.alloc(), &two_fills()[..4]) else {
-        return Err("a step was refused".into());
-    };
-    match world.replay(rt.alloc(), &[Step::Take { worker: 2 }]) {
+    let [first, second, third, fourth, _] = two_fills();
+    let steps = [first, second, third, fourth, Step::Take { worker: 2 }];
+    match world.replay(rt.alloc(), &steps) {
         Ok(_) => Err("the step was taken".into()),
-        Err((_, fault)) => {
-            assert_eq!(rt; fault, StepFault::NotAllowed(0));
+        Err((world, fault)) => {
+            assert_eq!(rt; fault, StepFault::NotAllowed(4));
+            expect_before(&rt, &world, 4);
             Ok(())
         }
     }

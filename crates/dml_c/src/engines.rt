@@ -10,6 +10,7 @@ ghost use Rattle.dml_c.specs.State.{opened, with_image};
 use dml_arena::Arena;
 use dml_effect::submit_to;
 use dml_image::{Image, ImageError};
+use dml_types::Record;
 use std::alloc::{AllocError, Global};
 use std::marker::Model;
 
@@ -98,15 +99,14 @@ impl Engine {
         is_present
     }
 
-    /// Carries out the job of a descriptor, and answers the bytes of its record.
-    pub fn submit(&mut self, descriptor: &[u8; 64]) -> [u8; 32]
+    /// Carries out the job of a descriptor, and answers its record.
+    pub fn submit(&mut self, descriptor: &[u8; 64]) -> Record
         ensures image { self.new
             ≡ with_image self.old (step self.old.image (decoded descriptor.now) self.old.staging).0 }
-        ensures record { result ≡ bytes_of_record (step self.old.image (decoded descriptor.now) self.old.staging).1 }
+        ensures record { result ≡ (step self.old.image (decoded descriptor.now) self.old.staging).1 }
     {
         let job = dml_desc::decode(descriptor);
-        let record = submit_to(&mut self.image, &mut self.arena, &job, self.staging);
-        dml_desc::record_bytes(&record)
+        submit_to(&mut self.image, &mut self.arena, &job, self.staging)
     }
 
     /// Carries out the jobs of some descriptors one after another, and writes the bytes of their records.
@@ -118,7 +118,7 @@ impl Engine {
             ≡ map bytes_of_record (records_of self.old.image (map decoded descriptors.now) self.old.staging) }
     {
         for i in 0..descriptors.len() {
-            answers[i] = self.submit(&descriptors[i]);
+            answers[i] = dml_desc::record_bytes(&self.submit(&descriptors[i]));
         }
     }
 }

@@ -159,7 +159,7 @@ pub extern "C" fn kazovuni_submit(
     let Some(mut inner) = engine.take(alloc) else {
         return NO_ENGINE;
     };
-    *answer = inner.submit(descriptor);
+    *answer = dml_desc::record_bytes(&inner.submit(descriptor));
     engine.put(inner);
     DONE
 }

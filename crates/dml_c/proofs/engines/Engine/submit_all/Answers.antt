@@ -20,14 +20,14 @@ loop-i-preserved c =
     let next : map decoded (drop i ds) ≡ job ∷ rest = ap (map decoded) (drop_more ds i [] low) in
     let told : State → List (List ℕ) = λ s. map bytes_of_record (records_of s.image rest s.staging) in
     record {
-      as_many = length-set c.loop-i.answers i c.submit.result ∙ known.as_many;
+      as_many = length-set c.loop-i.answers i c.record_bytes.result ∙ known.as_many;
       image =
           ap (λ (s : State). with_image s (memory_after s.image rest s.staging)) is
           ∙ (ap (λ (jobs : List Job). with_image old (memory_after old.image jobs old.staging)) (sym next) ∙ known.image);
       records =
-          ap (λ (front : List (List ℕ)). front ++ told new) (take_more_set c.loop-i.answers i c.submit.result (omega (arith, known.as_many, low)))
-          ∙ (append_assoc (take i c.loop-i.answers) (c.submit.result ∷ []) (told new)
-          ∙ (ap (λ (x : List ℕ). take i c.loop-i.answers ++ x ∷ told new) c.submit.ensures.record
+          ap (λ (front : List (List ℕ)). front ++ told new) (take_more_set c.loop-i.answers i c.record_bytes.result (omega (arith, known.as_many, low)))
+          ∙ (append_assoc (take i c.loop-i.answers) (c.record_bytes.result ∷ []) (told new)
+          ∙ (ap (λ (x : List ℕ). take i c.loop-i.answers ++ x ∷ told new) (c.record_bytes.ensures ∙ ap bytes_of_record c.submit.ensures.record)
           ∙ (ap (λ (s : State). take i c.loop-i.answers ++ bytes_of_record (step old.image job old.staging).1 ∷ told s) is
           ∙ (ap (λ (jobs : List Job). take i c.loop-i.answers ++ map bytes_of_record (records_of old.image jobs old.staging)) (sym next) ∙ known.records))));
     }

@@ -7,8 +7,8 @@ ghost use Rattle.dml_effect.specs.Joined as joined;
 use bitflags::Flags;
 use dml_types::{Direction, Found, Job, JobFlags, Op, Record, Status};
 
-/// The same record. It is made of its fields again, since a record that is one of several is else copied in parts that
-/// overlap, and the read of the last part waits for the writes.
+/// The same record. It is made of its fields again, since a record that is one of several, or that a call answers, is
+/// else copied in parts that overlap, and the read of the last part waits for the writes.
 #[inline(always)]
 pub fn by_fields(outcome: Record) -> Record
     ensures { result ≡ outcome }

@@ -1,5 +1,5 @@
 //! Batches: lists in which a fenced job waits for all jobs before it, and is carried out only where each succeeded.
-ghost use Rattle.std.specs.Prelude.{◌≡◌, ◌↔◌, ◌+◌, ◌-◌, ◌<◌, ◌≤◌, ◌++◌, ℕ, false, true, IfOk, IsErrOf, OnErr, OnOk, drop, length, nat_le, replicate, slice_index_or, take, vec_capacity};
+ghost use Rattle.std.specs.Prelude.{◌≡◌, ◌↔◌, ◌+◌, ◌-◌, ◌<◌, ◌≤◌, ◌++◌, ℕ, false, true, IfOk, IsErrOf, OnErr, OnOk, length, nat_le, replicate, slice_index_or, take};
 ghost use Rattle.std.specs.List.{list_any};
 ghost use Rattle.dml_types.specs.Job.{is_fenced, no_op_job};
 ghost use Rattle.dml_types.specs.Effect.{ended};
@@ -14,7 +14,7 @@ use crate::opening::{Fences, open_all};
 use crate::submitting::MOST_JOBS;
 use dml_levels::law_of_fences;
 use dml_pool::Gate;
-use dml_types::{BatchRecord, Job, Record, Status, law_of_batches, law_of_folds};
+use dml_types::{BatchRecord, Job, Record, Status};
 use std::alloc::{AllocError, Global};
 use std::sync::Wait;
 use std::thread::Threads;

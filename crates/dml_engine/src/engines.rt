@@ -12,7 +12,7 @@ ghost use Rattle.dml_engine.specs.Lists.{IsReady};
 use crate::errors::EngineError;
 use dml_arena::Arena;
 use dml_desc::Checked;
-use dml_effect::{submit_in_batch_to, submit_to};
+use dml_effect::{by_fields, submit_in_batch_to, submit_to};
 use dml_image::{Image, ImageError};
 use dml_pool::{Free, Gate};
 use dml_types::{Job, Record, Settings};
@@ -181,7 +181,7 @@ impl<G> Engine<G> {
         ensures settings { self.new.settings ≡ self.old.settings }
         ensures watched { self.new.watched ≡ self.old.watched }
     {
-        submit_to(&mut self.image, &mut self.arena, job, self.settings.staging)
+        by_fields(submit_to(&mut self.image, &mut self.arena, job, self.settings.staging))
     }
 
     /// Carries out a job of a batch, without its fence, with this one worker.
@@ -191,7 +191,7 @@ impl<G> Engine<G> {
         ensures settings { self.new.settings ≡ self.old.settings }
         ensures watched { self.new.watched ≡ self.old.watched }
     {
-        submit_in_batch_to(&mut self.image, &mut self.arena, job, self.settings.staging)
+        by_fields(submit_in_batch_to(&mut self.image, &mut self.arena, job, self.settings.staging))
     }
 }
 

@@ -1,13 +1,12 @@
 //! The calls that submit jobs.
-ghost use Rattle.std.specs.Prelude.{◌≡◌, ◌↔◌, ◌<◌, ◌≤◌, [], IfOk, IsErrOf, OnErr, OnOk, length, nat_eq, vec_capacity};
-ghost use Rattle.std.specs.List.{list_all};
-ghost use Rattle.dml_types.specs.Effect.{code_of};
-ghost use Rattle.dml_types.specs.Step.{batch, batch_answer, memory_after, records_of, step};
+ghost use Rattle.std.specs.Prelude.{◌≡◌, ◌↔◌, ◌<◌, ◌≤◌, [], IfOk, IsErrOf, OnErr, OnOk, length, vec_capacity};
+ghost use Rattle.dml_types.specs.Step.{memory_after, records_of, step};
 
 use crate::engines::Engine;
 use crate::errors::SubmitError;
+use dml_effect::by_fields;
 use dml_pool::Gate;
-use dml_types::{BatchRecord, Job, Record, Status, law_of_folds};
+use dml_types::{Job, Record, Status};
 use std::alloc::Global;
 use std::sync::Wait;
 use std::thread::Threads;
@@ -25,11 +24,11 @@ impl<G: Gate + Sync> Engine<G> {
         ensures watched { self.new.watched ≡ self.old.watched }
     {
         if !self.is_watched() {
-            return self.carry_out_alone(&job);
+            return by_fields(self.carry_out_alone(&job));
         }
         let mut records = [Record::refused(Status::Success)];
         self.carry_out_list(rt, alloc, &[job], &mut records);
-        records[0]
+        by_fields(records[0])
     }
 
     /// Carries out a list of at most 1,024 jobs, and returns their completion records: as one after another, in list

@@ -150,8 +150,8 @@ impl<G> Engine<G> {
         }
     }
 
-    /// Carries out the jobs at these places that do anything, without their fences and one after another, and writes the
-    /// record of each at its place.
+    /// Carries out the jobs at these places that do anything, without their fences and one after another, and writes
+    /// the record of each at its place.
     fn carry_out_places(&mut self, jobs: &[Checked], places: &[u32], records: &mut [Record])
         requires places { All (λ i. i < length jobs.now) places.now }
         requires size { length records.old ≡ length jobs.now }

@@ -33,10 +33,10 @@ pub fn law_of_waves()
 /// later ones, and the waves before the first with one of these hold every job before the fence. They give the image
 /// and the records of those jobs, carried out by themselves, and leave all other records. In one statement: each fence
 /// parts the waves into those of the jobs before it, which give their fold, and those of the jobs from it on, each
-/// found by themselves. So the waves of a batch, with a no-op that keeps its fence in the place of each refused job, are
-/// those of its pieces, each from one fence up to the next, one piece after another: up to each fence, and in whole. These
-/// waves give the image and the records of the batch's jobs without their fences, and those before the first with a job at
-/// a fence or behind it give them of the jobs before the fence.
+/// found by themselves. So the waves of a batch, with a no-op that keeps its fence in the place of each refused job,
+/// are those of its pieces, each from one fence up to the next, one piece after another: up to each fence, and in
+/// whole. These waves give the image and the records of the batch's jobs without their fences, and those before the
+/// first with a job at a fence or behind it give them of the jobs before the fence.
 pub fn law_of_fences()
     ensures only_add { FencesOnlyAdd }
     ensures part { FencesPart }

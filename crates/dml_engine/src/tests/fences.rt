@@ -220,7 +220,7 @@ fn fault_in_an_earlier_wave(rt: HostRuntime) -> Result<(), Fail> {
     expect(&rt, rt.alloc(), &row)
 }
 
-/// A fault two fences ago would have ended the batch there; one behind the last fence ends nothing.
+/// Each fence waits for the jobs before it, and a fault behind the last fence ends nothing.
 #[test]
 fn fences_one_after_another(rt: HostRuntime) -> Result<(), Fail> {
     let row = Row {

@@ -129,8 +129,8 @@ fn compares_on_workers(rt: HostRuntime) -> Result<(), Fail> {
     Ok(())
 }
 
-/// Four compares of a mebibyte before a fence and four behind it: each piece of the batch is worth workers. The fence
-/// is the fill's, which the compares behind it see.
+/// Four compares of a mebibyte before a fence and four behind it: each of the two large waves is worth workers. The
+/// fence is the fill's, which the compares behind it see.
 #[test]
 fn compares_about_a_fence(rt: HostRuntime) -> Result<(), Fail> {
     let mut script = String::new(rt.alloc());

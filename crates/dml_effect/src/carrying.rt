@@ -157,6 +157,7 @@ fn carry_out_effect(image: &mut Image, job: &Checked) -> Record
 }
 
 /// Carries out a move within the image, with no stage.
+#[inline(always)]
 #[tactic(auto, using(crate::proofs::StraightLemmas::straight_places))]
 fn move_straight(image: &mut Image, job: &Checked) -> Record
     requires operation { op_of job.now ≡ Some Move }

@@ -5,6 +5,7 @@ ghost use Rattle.dml_types.specs.Memory.{has};
 ghost use Rattle.dml_effect.specs.Pages.{all_present};
 ghost use Rattle.dml_c.specs.Bases as base;
 
+use dml_effect::by_fields;
 use dml_types::{Job, Op, Record, Status};
 
 /// How far an address lies behind a base; it wraps where the address is below.
@@ -55,7 +56,7 @@ pub fn answered_at(start: u64, answer: &Record) -> Record
             fault: address_at(start, answer.fault),
             ..*answer
         },
-        _ => *answer,
+        _ => by_fields(*answer),
     }
 }
 

@@ -8,7 +8,7 @@ ghost use Rattle.dml_image.specs.Brought.{brought, has_page};
 ghost use Rattle.dml_c.specs.State.{opened, with_image};
 
 use dml_arena::Arena;
-use dml_effect::submit_to;
+use dml_effect::{by_fields, submit_to};
 use dml_image::{Image, ImageError};
 use dml_types::Record;
 use std::alloc::{AllocError, Global};
@@ -106,7 +106,7 @@ impl Engine {
         ensures record { result ≡ (step self.old.image (decoded descriptor.now) self.old.staging).1 }
     {
         let job = dml_desc::decode(descriptor);
-        submit_to(&mut self.image, &mut self.arena, &job, self.staging)
+        by_fields(submit_to(&mut self.image, &mut self.arena, &job, self.staging))
     }
 
     /// Carries out the jobs of some descriptors one after another, and writes the bytes of their records.

@@ -1,5 +1,5 @@
 //! Jobs over the caller's own pages.
-ghost use Rattle.std.specs.Prelude.{◌≡◌, ◌≢◌, ◌↔◌, ◌≤◌, IfOk, IfSome, IsErr, IsSome, None, length, map};
+ghost use Rattle.std.specs.Prelude.{◌≡◌, ◌≢◌, ◌↔◌, ◌<◌, ◌≤◌, IfOk, IfSome, IsErr, IsSome, IsTrue, None, length, map};
 ghost use Rattle.dml_types.specs.Refusal.{need};
 ghost use Rattle.dml_types.specs.Step.{memory_after, records_of, step};
 ghost use Rattle.dml_desc.specs.Descriptor.{bytes_of_record, decoded};
@@ -11,8 +11,8 @@ ghost use Rattle.dml_effect.specs.Straight.{TakesStaging};
 use crate::bases::{answered_at, counted};
 use crate::codes::{DONE, NO_MEMORY, NOT_AS_MANY, NOT_PAGES};
 use dml_arena::{Arena, ArenaError};
-use dml_effect::{are_pages, submit_over, submit_straight_over, takes_staging};
-use dml_types::{Job, Record};
+use dml_effect::{are_pages, by_fields, submit_over, submit_straight_over, takes_staging};
+use dml_types::{Job, Record, Status};
 use std::alloc::Global;
 
 /// Carries out the job of a descriptor over the caller's bytes, whose addresses begin at 0 and whose pages are all
@@ -130,8 +130,34 @@ fn greatest_need(descriptors: &[[u8; 64]], staging: u32) -> u32
     most
 }
 
-/// Carries out a job, in an arena or, where it takes no staging, without one.
+/// Carries out a job of a list, whose arena has room for it. The room is asked for again: a descriptor is read twice, and
+/// another thread of C's may have written it in between, against the rule. Such a job is refused.
 fn submit_one(bytes: &mut [u8], arena: &mut Option<Arena>, job: &Job, staging: u32) -> Record
+    requires pages { IsPages bytes.old }
+    requires staging { TakesStaging job.now staging → need job.now ≤ room_of arena.old }
+    ensures content { bytes.new ≡ (step (all_present bytes.old) job.now staging).0.bytes }
+    ensures answer { result ≡ (step (all_present bytes.old) job.now staging).1 }
+    ensures arena { arena.new ≡ arena.old }
+{
+    if lacks_room(arena, job, staging) {
+        return Record::refused(Status::StagingRefused);
+    }
+    submit_in(bytes, arena, job, staging)
+}
+
+/// Whether a job takes more staging than an arena has.
+fn lacks_room(arena: &Option<Arena>, job: &Job, staging: u32) -> bool
+    ensures { IsTrue result ↔ TakesStaging job.now staging × (room_of arena.now < need job.now) }
+{
+    let room = match arena {
+        Some(arena) => arena.size(),
+        None => 0,
+    };
+    takes_staging(job, staging) && u64::from(room) < dml_desc::need(job)
+}
+
+/// Carries out a job, in an arena or, where it takes no staging, without one.
+fn submit_in(bytes: &mut [u8], arena: &mut Option<Arena>, job: &Job, staging: u32) -> Record
     requires pages { IsPages bytes.old }
     requires staging { TakesStaging job.now staging → need job.now ≤ room_of arena.old }
     ensures content { bytes.new ≡ (step (all_present bytes.old) job.now staging).0.bytes }
@@ -154,7 +180,7 @@ fn submit_alone(alloc: Global, bytes: &mut [u8], job: &Job, staging: u32) -> Opt
     let Ok(mut arena) = job_arena(alloc, job, staging) else {
         return None;
     };
-    Some(submit_one(bytes, &mut arena, job, staging))
+    Some(by_fields(submit_in(bytes, &mut arena, job, staging)))
 }
 
 /// The arena of a single job, of as many bytes as it needs; none where it takes no staging.

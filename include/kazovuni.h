@@ -4,9 +4,19 @@
  *
  * A job is a descriptor of 64 bytes and answers a completion record of 32, both laid out as linux/idxd.h has them; all
  * numbers are little-endian. No function has a precondition but that its pointers are valid for the bytes named, and
- * that memory which is written is passed once only; a pointer with a length or a number of 0 may be NULL. Each answers
- * a code where something may be wrong with the call itself; what is wrong with a job stands in its completion record.
- * docs/C.md says all of it.
+ * that memory which is written is passed once only. A pointer with a length or a number of 0 may be NULL; one to a
+ * handle, a descriptor, a record or a struct may not, in kazovuni_free neither. Each answers a code where something
+ * may be wrong with the call itself; what is wrong with a job stands in its completion record. docs/C.md says all of
+ * it.
+ *
+ * Threads: all of the bytes of a call, its records and its handle count as written for its whole length, whatever the
+ * job touches, and no other thread, process or device may touch any of them meanwhile. Descriptors, and whatever else
+ * is const, may be shared as long as nobody writes them. A descriptor in memory that others can write is to be copied
+ * first: a list reads its descriptors twice. A handle may not be used by two threads at a time; it may be handed to
+ * another thread whole.
+ *
+ * Descriptors, records and the bytes that jobs work on need no alignment; those bytes have to be writable, for a
+ * compare too. The completion address of a descriptor is read past: its record goes where the call is told.
  */
 #ifndef KAZOVUNI_H
 #define KAZOVUNI_H
@@ -19,7 +29,10 @@
 extern "C" {
 #endif
 
-/* This header's version: the major number in the upper 16 bits, the minor one in the lower. */
+/*
+ * This header's version: the major number in the upper 16 bits, the minor one in the lower. A library fits where its
+ * kazovuni_version() has the same major number, and is no less.
+ */
 #define KAZOVUNI_VERSION UINT32_C(0x00010000)
 
 #define KAZOVUNI_DESCRIPTOR_BYTES 64
@@ -41,6 +54,12 @@ enum {
     KAZOVUNI_BAD_SETTINGS = 7, /* an engine has at most 16,777,216 bytes of staging */
     KAZOVUNI_NO_SUCH_PAGE = 8, /* the engine has no page of this number */
     KAZOVUNI_ABSENT = 9        /* a byte of the range is absent */
+};
+
+/* The statuses of a completion record that are this library's own; the others are those of linux/idxd.h. */
+enum {
+    KAZOVUNI_STATUS_RANGE_PAST = 0x7d,     /* a range ends above 2^64 */
+    KAZOVUNI_STATUS_STAGING_REFUSED = 0x7e /* the job needs more staging than there is */
 };
 
 /*
@@ -108,7 +127,8 @@ bool kazovuni_rest(const uint8_t descriptor[64], const uint8_t record[32], uint8
 /*
  * Carries out a job over the caller's bytes and writes its completion record. The descriptor's addresses are offsets:
  * the bytes begin at address 0, all of their pages are present, and no other page is. A refused job changes no byte.
- * `staging` is the most that a job may need (kazovuni_need): above it the job is refused with 0x7e. Neither the
+ * `staging` is the most that a job may need (kazovuni_need): above it the job is refused with
+ * KAZOVUNI_STATUS_STAGING_REFUSED. At most 16 MiB are passed, a window of what is larger. Neither the
  * descriptor nor the record may lie in the bytes. KAZOVUNI_NOT_PAGES, or KAZOVUNI_NO_MEMORY.
  */
 uint8_t kazovuni_submit_over(

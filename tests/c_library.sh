@@ -88,6 +88,7 @@ if command -v python3 >/dev/null; then
     python3 - "$work/llvm/lib/libkazovuni.so" <<'END' || complain "Python"
 import ctypes, sys
 library = ctypes.CDLL(sys.argv[1])
+library.kazovuni_submit_over.restype = ctypes.c_uint8
 pages = (ctypes.c_uint8 * 4096)(*range(1, 6))
 descriptor = (ctypes.c_uint8 * 64)()
 descriptor[7], descriptor[24], descriptor[32] = 3, 100, 5

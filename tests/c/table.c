@@ -15,7 +15,7 @@
 #include <string.h>
 #include <sys/mman.h>
 
-enum { PAGE = KAZOVUNI_PAGE_BYTES, MOST_LINES = 2000, MOST_JOBS = 16 };
+enum { PAGE = KAZOVUNI_PAGE_BYTES, MOST_LINES = 2000, MOST_JOBS = 16, ROWS = 32, LENT_ROWS = 23 };
 enum { NO_OP = 0x00, FILL = 0x04, COMPARE_PATTERN = 0x06, CREATE = 0x07, DUALCAST = 0x09 };
 
 static int failed;
@@ -377,5 +377,9 @@ int main(int count, char **arguments)
     if (failed)
         return 1;
     printf("table: %zu rows of %zu jobs on own pages, %zu of the rows over lent memory\n", rows, jobs, lent);
+    if (rows != ROWS || lent != LENT_ROWS) {
+        fprintf(stderr, "table: %d rows are wanted, %d of them over lent memory\n", ROWS, LENT_ROWS);
+        return 1;
+    }
     return 0;
 }

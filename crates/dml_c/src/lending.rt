@@ -130,8 +130,8 @@ fn greatest_need(descriptors: &[[u8; 64]], staging: u32) -> u32
     most
 }
 
-/// Carries out a job of a list, whose arena has room for it. The room is asked for again: a descriptor is read twice, and
-/// another thread of C's may have written it in between, against the rule. Such a job is refused.
+/// Carries out a job of a list, whose arena has room for it. The room is asked for again: a descriptor is read twice,
+/// and another thread of C's may have written it in between, against the rule. Such a job is refused.
 fn submit_one(bytes: &mut [u8], arena: &mut Option<Arena>, job: &Job, staging: u32) -> Record
     requires pages { IsPages bytes.old }
     requires staging { TakesStaging job.now staging → need job.now ≤ room_of arena.old }
@@ -198,8 +198,8 @@ fn job_arena(alloc: Global, job: &Job, staging: u32) -> Result<Option<Arena>, Ar
 }
 
 /// As `kazovuni_submit_over`, where the descriptor's addresses are the caller's own, and the pages begin at `base`.
-/// A fault is answered with the caller's address. Where `base` and the bytes together are at most 2^64, an address below
-/// the base is past the end of the pages (`law_of_bases`).
+/// A fault is answered with the caller's address. Where `base` and the bytes together are at most 2^64, an address
+/// below the base is past the end of the pages (`law_of_bases`).
 #[unsafe(no_mangle)]
 pub extern "C" fn kazovuni_submit_pointers(
     alloc: Global,

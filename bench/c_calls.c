@@ -9,69 +9,85 @@
 enum { STAGING = MEBIBYTE, LIST = 250, PAGES = 2 * MEBIBYTE / KAZOVUNI_PAGE_BYTES, FEWER_JOBS = MOST_JOBS / 10 };
 
 static uint8_t *bytes;
-static uint8_t descriptor[64], record[32], descriptors[LIST][64], records[LIST][32];
+static uint8_t descriptor[64], descriptors[LIST][64], records[LIST][32];
 static kazovuni_engine engine;
 static size_t size;
-static volatile uint8_t seen;
-
-static void plain_memmove(void)
+/* What is timed: each answers 0 where the call did what it is for. */
+static uint8_t plain_memmove(void)
 {
     memmove(bytes + MEBIBYTE, bytes, size);
-    seen = bytes[MEBIBYTE];
+    return bytes[MEBIBYTE] != 0x5a;
 }
 
-static void decode(void)
+static uint8_t decode(void)
 {
-    seen = (uint8_t)kazovuni_decode(descriptor).size;
+    return kazovuni_decode(descriptor).size != size;
 }
 
-static void check(void)
+static uint8_t check(void)
 {
-    seen = kazovuni_check(descriptor, STAGING);
+    return kazovuni_check(descriptor, STAGING);
 }
 
-static void submit_over(void)
+static uint8_t submit_over(void)
 {
-    seen = kazovuni_submit_over(bytes, 2 * MEBIBYTE, descriptor, STAGING, record);
+    return kazovuni_submit_over(bytes, 2 * MEBIBYTE, descriptor, STAGING, records[0]);
 }
 
-static void submit_pointers(void)
+static uint8_t submit_pointers(void)
 {
-    seen = kazovuni_submit_pointers(0, bytes, 2 * MEBIBYTE, descriptor, STAGING, record);
+    return kazovuni_submit_pointers(0, bytes, 2 * MEBIBYTE, descriptor, STAGING, records[0]);
 }
 
-static void submit_list_over(void)
+static uint8_t submit_list_over(void)
 {
-    seen = kazovuni_submit_list_over(bytes, 2 * MEBIBYTE, descriptors[0], LIST, STAGING, records[0], LIST);
+    return kazovuni_submit_list_over(bytes, 2 * MEBIBYTE, descriptors[0], LIST, STAGING, records[0], LIST);
 }
 
-static void submit(void)
+static uint8_t submit(void)
 {
-    seen = kazovuni_submit(&engine, descriptor, record);
+    return kazovuni_submit(&engine, descriptor, records[0]);
 }
 
-static void submit_list(void)
+static uint8_t submit_list(void)
 {
-    seen = kazovuni_submit_list(&engine, descriptors[0], LIST, records[0], LIST);
+    return kazovuni_submit_list(&engine, descriptors[0], LIST, records[0], LIST);
 }
 
-static void bring(void)
+static uint8_t bring(void)
 {
-    seen = kazovuni_bring(&engine, 1, bytes);
+    return kazovuni_bring(&engine, 1, bytes);
 }
 
-/* Times a call that does so many jobs, or none for what is no job. */
-static void print_row(const char *name, void (*call)(void), int jobs)
+static void give_up(const char *name)
+{
+    fprintf(stderr, "c_calls: %s of %zu bytes does not do its work\n", name, size);
+    exit(2);
+}
+
+/* Whether a record is that of a move of all the bytes. */
+static bool is_moved(const uint8_t record[32])
+{
+    kazovuni_record fields;
+    return kazovuni_record_decode(record, &fields) && fields.status == 0x01 && fields.completed == size;
+}
+
+/* Times a call that does so many jobs and writes as many of the records, or none where it is no job. */
+static void print_row(const char *name, uint8_t (*call)(void), int jobs, int answers)
 {
     int calls = (size > KAZOVUNI_PAGE_BYTES ? FEWER_JOBS : MOST_JOBS) / jobs;
-    record[0] = 0x01;
-    call();
-    if (record[0] != 0x01)
-        exit(2); /* the job did not succeed */
+    uint8_t codes = call();
+    memset(records, 0xcc, sizeof records); /* the code of no status */
     double start = now();
     for (int i = 0; i < calls; i++)
-        call();
-    printf("%s %zu %.2f\n", name, size, (now() - start) / calls / jobs);
+        codes |= call();
+    double time = now() - start;
+    for (int i = 0; i < answers; i++)
+        if (!is_moved(records[i]))
+            give_up(name);
+    if (codes != KAZOVUNI_OK)
+        give_up(name);
+    printf("%s %zu %.2f\n", name, size, time / calls / jobs);
 }
 
 /* A move of so many bytes, from address 0 to the second mebibyte. */
@@ -97,18 +113,22 @@ int main(void)
             return 2;
     for (size_t i = 0; i < sizeof sizes / sizeof *sizes; i++) {
         move(sizes[i]);
-        print_row("memmove", plain_memmove, 1);
-        print_row("kazovuni_submit_over", submit_over, 1);
-        print_row("kazovuni_submit_pointers", submit_pointers, 1);
-        print_row("kazovuni_submit_list_over", submit_list_over, LIST);
-        print_row("kazovuni_submit", submit, 1);
-        print_row("kazovuni_submit_list", submit_list, LIST);
+        print_row("memmove", plain_memmove, 1, 0);
+        print_row("kazovuni_submit_over", submit_over, 1, 1);
+        print_row("kazovuni_submit_pointers", submit_pointers, 1, 1);
+        print_row("kazovuni_submit_list_over", submit_list_over, LIST, LIST);
+        print_row("kazovuni_submit", submit, 1, 1);
+        print_row("kazovuni_submit_list", submit_list, LIST, LIST);
     }
     move(64);
-    print_row("kazovuni_decode", decode, 1);
-    print_row("kazovuni_check", check, 1);
+    print_row("kazovuni_decode", decode, 1, 0);
+    print_row("kazovuni_check", check, 1, 0);
     move(KAZOVUNI_PAGE_BYTES);
-    print_row("kazovuni_bring", bring, 1);
+    bytes[0] = 0x7b;
+    print_row("kazovuni_bring", bring, 1, 0);
+    uint8_t first;
+    if (kazovuni_read(&engine, KAZOVUNI_PAGE_BYTES, &first, 1) != KAZOVUNI_OK || first != 0x7b)
+        give_up("kazovuni_bring");
     kazovuni_free(&engine);
     free(bytes);
     return 0;

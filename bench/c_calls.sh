@@ -6,7 +6,8 @@
 # Usage: bench/c_calls.sh [ROUNDS]   15 rounds, where nothing else is said.
 # Wants rt, ar, a C compiler as $CC or cc, with $CFLAGS or -O2, and the program dml_bench built (rt run in
 # crates/dml_bench). Each round runs both programs, every second round in the opposite order, and a difference is taken
-# within its round. Exit status: 0 where all bars are met, 1 where one is missed, 2 where nothing was measured.
+# within its round. Exit status: 0 where all bars are met, 1 where one is missed, 2 where nothing was measured, or where
+# the load before was higher than there are processors, by which no bar can be judged.
 here=$(cd "$(dirname "$0")" && pwd)
 rounds=${1:-15}
 proved=$here/../crates/dml_bench/out/dml_bench
@@ -32,6 +33,7 @@ in_rattle() {
 
 echo "machine: $(sed -n 's/^model name[^:]*: //p' /proc/cpuinfo | head -n 1), $(nproc) processors"
 echo "load before: $(cut -d ' ' -f 1-3 /proc/loadavg)"
+busy=$(awk -v most="$(nproc)" '{ print ($1 > most) }' /proc/loadavg)
 round=1
 while [ "$round" -le "$rounds" ]; do
     if [ $((round % 2)) -eq 1 ]; then
@@ -44,7 +46,7 @@ while [ "$round" -le "$rounds" ]; do
     round=$((round + 1))
 done
 
-awk '
+awk -v busy="$busy" '
     function sort(list, count,    i, j, t) {
         for (i = 2; i <= count; i++)
             for (j = i; j > 1 && list[j - 1] > list[j]; j--) {
@@ -81,6 +83,10 @@ awk '
             printf "%-28s %8d %9.1f %9.1f\n", part[1], part[2], list[1], middle
         }
         printf "\n"
+        if (busy) {
+            printf "the load was higher than there are processors: no bar can be judged\n"
+            exit 2
+        }
         bar("kazovuni_submit_over of 4096 bytes, over memmove", over("kazovuni_submit_over", "memmove", 4096), 60)
         for (bytes = 64; bytes <= 4096; bytes *= 64) {
             bar("kazovuni_submit_over of " bytes " bytes, over submit_over in Rattle", \

@@ -15,7 +15,7 @@
 #
 # A row of the table names the calls that it is about (the first cell), a test or a run of the program by a key, and
 # behind it how many growths there are: a number, or `A to B` where they depend on how workers share their tasks. Each
-# test and each run has a row, and each exported call that takes an allocator one with a test: none is left out.
+# test and each run has a row, and each exported call that takes an allocator or answers an error one with a test.
 cd "$(dirname "$0")/.." || exit 2
 page=docs/RELIABILITY.md
 work=$(mktemp -d) || exit 2
@@ -52,8 +52,8 @@ take_none='dml_image:refused_second_bring dml_engine:refused_submit dml_engine:r
 
 # The tests that make nothing before their call.
 make_nothing='dml_arena:refused_new dml_image:refused_new dml_grammar:refused_read_script dml_script:refused_job_text
-dml_script:refused_out_text_of_a_job dml_script:refused_out_text_of_a_batch dml_script:refused_run_script
-dml_command:refused_command_of dml_command:refused_parse_words dmljob:refused_description'
+dml_script:refused_out_text_of_a_job dml_script:refused_out_text_of_a_batch dml_script:refused_push_byte
+dml_script:refused_run_script dml_command:refused_command_of dml_command:refused_parse_words dmljob:refused_description'
 
 # The tests of lists and batches that take no want of memory for an answer. The last growth of their set-up is the list
 # of records, which in their run is the first growth of the call: where it is refused too, they have to fail by want of
@@ -242,8 +242,8 @@ rows() {
     }' "$page"
 }
 
-# Of a library's files, lib.rt first: the exported calls that take an allocator, a method behind the name of its type; of
-# the library for C only what is exported to C.
+# Of a library's files, lib.rt first: the exported calls that take an allocator or answer an error, which may be want of
+# memory, a method behind the name of its type; of the library for C only what is exported to C.
 calls() {
     awk -v for_c="$([ "$1" = dml_c ] && echo 1)" '
         FNR == 1 { type = "" }
@@ -265,7 +265,7 @@ calls() {
             is_method = /^    /; is_exported = is_method ? type in exported && !for_c : /extern/ || name in exported
             is_inside = 1
         }
-        is_inside && /alloc: Global/ {
+        is_inside && /alloc: Global|Result<.*[A-Za-z]Error>/ {
             if (is_exported) print is_method ? type "::" name : name
             is_inside = 0
         }

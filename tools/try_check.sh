@@ -7,7 +7,7 @@ trap 'rm -rf "$room"' EXIT
 mkdir "$room/bin" "$room/top" "$room/top/tools" "$room/top/tests"
 cp "$top/check" "$room/top/"
 cp "$top/tools/timed_gate.py" "$room/top/tools/"
-scripts=$(sed -n "s/^scripts='\(.*\)'$/\1/p" "$top/check")
+scripts=$(sed -n "/^scripts='/,/'$/p" "$top/check" | tr -d "'" | sed 's/^scripts=//')
 number=$(set -- $scripts && echo $#)
 tried=0
 wrong=0

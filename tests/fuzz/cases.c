@@ -153,7 +153,7 @@ static uint32_t flags(struct maker *maker) {
     uint32_t chosen = 0;
     for (int i = 0; i < 5; i++)
         chosen |= one_in(maker, 3) ? accepted[i] : 0;
-    if (one_in(maker, 8))
+    if (one_in(maker, maker->is_fenced ? 2 : 8))
         chosen |= FLAG_FENCE;
     if (one_in(maker, 20))
         chosen |= (uint32_t)1 << below(maker, 24);
@@ -244,7 +244,7 @@ static void suffixes(struct maker *maker, bool has_check) {
         word(maker, "check");
         number(maker, one_in(maker, 8) ? below(maker, 256) : below(maker, 4));
     }
-    if (one_in(maker, 4)) {
+    if (one_in(maker, maker->is_fenced ? 2 : 4)) {
         word(maker, "flags");
         number(maker, flags(maker));
     }

@@ -8,8 +8,10 @@
 #include <stdlib.h>
 #include <string.h>
 
-enum { LONGEST_SCRIPT = 4194304, LONGEST_LINE = 16384, MOST_WORDS = 12, LONGEST_SHOW = 65536,
-       WIDE = 1572864 };
+enum { LONGEST_SCRIPT = 4194304, LONGEST_LINE = 16384, MOST_WORDS = 12, LONGEST_SHOW = 65536 };
+
+// The bytes of compares from which on a list may go to two workers. No answer depends on it; it is for the report alone.
+enum { WIDE = 1572864 };
 
 enum fault {
     LONG_LINE, NOT_ASCII, UNKNOWN_WORD, MISSING_IMAGE, SECOND_IMAGE, IN_BATCH, STRAY_END, TOO_MANY_JOBS, WRONG_WORDS,
@@ -282,6 +284,7 @@ struct run {
     bool is_in_batch;
     uint32_t in_list;  // successive jobs so far
     uint64_t compared; // the bytes that their compares and creates name
+    bool has_fence;    // one of them behind the first is fenced
     struct batch batch;
     struct text *out;
     struct tally *tally;
@@ -324,6 +327,7 @@ static void count_in_list(struct run *run, const struct job *job) {
     run->in_list++;
     run->tally->long_lists += run->in_list == MOST_JOBS + 1;
     run->tally->wide_lists += before < WIDE && run->compared >= WIDE;
+    run->has_fence |= run->in_list > 1 && (job->flags & FLAG_FENCE) != 0;
 }
 
 static void run_job(struct run *run, const struct job *job) {
@@ -346,11 +350,20 @@ static void run_show(struct run *run, uint64_t address, uint64_t length) {
     text_bytes(run->out, "\n", 1);
 }
 
+// Counts a batch that pays for two workers and has a fence behind its first job, and one that ends at such a fence.
+static void count_batch(const struct run *run) {
+    bool is_fenced = run->compared >= WIDE && run->has_fence;
+    run->tally->fenced_batches += is_fenced;
+    run->tally->ended_batches += is_fenced && run->batch.is_abandoned;
+}
+
 static void run_line(struct run *run, const struct line *line) {
     uint64_t number = line->numbers[0];
     struct job job;
+    if (line->sort == END)
+        count_batch(run);
     if (!is_job(line->sort))
-        run->in_list = 0, run->compared = 0;
+        run->in_list = 0, run->compared = 0, run->has_fence = false;
     switch (line->sort) {
     case IMAGE:
         run->image.pages = (uint32_t)number;

@@ -31,6 +31,7 @@ enum { FAULT_KINDS = 14 }; // the kinds of a script's faults, and last a script 
 struct tally {
     uint64_t job[256], batch[256], fault[FAULT_KINDS];
     uint64_t long_lists, wide_lists; // of more jobs than one list has; worth two workers and more
+    uint64_t fenced_batches, ended_batches; // worth two workers, with a fence behind the first job; that end at one
 };
 extern const char *const fault_texts[FAULT_KINDS];
 

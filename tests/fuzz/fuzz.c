@@ -254,6 +254,8 @@ static void report(const struct shared *all, double seconds, uint64_t seed, uint
     printf("fuzz: %llu scripts came in pieces; %llu lists of more than 1,024 jobs, %llu that are worth workers\n",
            (unsigned long long)all->in_pieces, (unsigned long long)all->tally.long_lists,
            (unsigned long long)all->tally.wide_lists);
+    printf("fuzz: %llu batches that are worth workers have a fence behind their first job, %llu of them end at one\n",
+           (unsigned long long)all->tally.fenced_batches, (unsigned long long)all->tally.ended_batches);
     printf("fuzz: statuses of jobs:");
     for (int status = 0; status < 256; status++)
         if (all->tally.job[status] > 0)
@@ -264,13 +266,15 @@ static void report(const struct shared *all, double seconds, uint64_t seed, uint
         printf("fuzz: %8llu times: %s\n", (unsigned long long)all->tally.fault[kind], fault_texts[kind]);
 }
 
-// Whether each status, each kind of fault and each kind of list came up; asked of runs that are long enough. A script that is too long,
-// the last kind, is left out: it is rare, since it costs much.
+// Whether each status, each kind of fault and each kind of list came up; asked of runs that are long enough. A script
+// that is too long, the last kind, is left out: it is rare, since it costs much. Batches worth workers that end at a
+// fence are rare too, and are asked of long runs.
 static bool is_broad(const struct shared *all) {
     static const uint8_t statuses[] = {0x00, 0x01, 0x02, 0x03, 0x07, 0x08, 0x10, 0x11, 0x13, 0x15, 0x16, 0x17, 0x1c, 0x7d,
                                        0x7e, 0x83};
     bool is_missing = all->tally.batch[1] == 0 || all->tally.batch[5] == 0 || all->in_pieces == 0;
-    is_missing |= all->tally.long_lists == 0 || all->tally.wide_lists == 0;
+    is_missing |= all->tally.long_lists == 0 || all->tally.wide_lists == 0 || all->tally.fenced_batches == 0;
+    is_missing |= all->cases >= 30000 && all->tally.ended_batches == 0;
     for (size_t i = 0; i < sizeof statuses; i++)
         is_missing |= all->tally.job[statuses[i]] == 0;
     for (int kind = 0; kind + 1 < FAULT_KINDS; kind++)

@@ -96,11 +96,13 @@ void wide_script(struct maker *maker) {
             if (maker->present[at / PAGE])
                 poke_bytes(maker, at, &byte, 1);
         }
-        bool is_batch = one_in(maker, 3);
+        bool is_batch = one_in(maker, 2);
         if (is_batch)
             text_format(maker->script, "batch\n");
+        maker->is_fenced = is_batch;
         for (uint64_t jobs = LEAST_WIDE_LINES + below(maker, 6); jobs > 0; jobs--)
             wide_job(maker);
+        maker->is_fenced = false;
         if (is_batch)
             text_format(maker->script, "end\n");
         show_line(maker, slot(maker), 64);

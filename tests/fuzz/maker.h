@@ -15,6 +15,7 @@ struct maker {
     bool is_in_batch;
     bool is_in_list; // in a long list: no line but those of jobs
     bool is_free;    // no job is fenced
+    bool is_fenced;  // a job in four is, for batches that are worth workers
     bool is_plain;   // single spaces between words, and no line that is skipped
     bool is_of_jobs; // hardly any line but those of jobs, for long lists
     bool present[MOST_PAGES];

@@ -27,8 +27,7 @@ enum Kind {
     Dualcasts,
     /// Moves from one page to pages of their own; none conflict.
     OneSource,
-    /// Moves of a page from addresses 8 bytes apart to pages of their own: they cover more than 262,144 cells; none
-    /// conflict.
+    /// Moves of a page from addresses 8 bytes apart to pages of their own, over some 400,000 cells; none conflict.
     ManyCells,
     /// Fills of one page: each conflicts with all before it.
     Chain,

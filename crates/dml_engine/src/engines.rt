@@ -136,7 +136,8 @@ impl<G> Engine<G> {
     /// Makes a page present with these bytes; a page that is present is overwritten.
     ///
     /// # Errors
-    /// `NoSuchPage` where the image has no page of this number; nothing is changed then.
+    /// `NoSuchPage` where the image has no page of this number, and `NoMemory` where there is no room for a page that
+    /// was absent. Nothing is changed then.
     pub fn bring(&mut self, page: u32, bytes: &[u8; 4096]) -> Result<(), ImageError>
         ensures ok { OnOk result (self.new.image ≡ brought self.old.image page bytes.now) }
         ensures err { OnErr result (self.new.image ≡ self.old.image) }

@@ -1,7 +1,7 @@
 -- The cells of addresses: a new one begins where a range starts. Two ranges share a byte where they have a cell in
 -- common.
-use Rattle.std.specs.Prelude.{◌≡◌, ◌⊎◌, ℕ, ◌+◌, ◌-◌, ◌^◌, ◌<◌, ◌≤◌, max, List, [], ◌∷◌, ◌++◌, length, map, filter, slice_index, nat_le}
-use Rattle.std.specs.List.{flat_map, sum_by}
+use Rattle.std.specs.Prelude.{◌≡◌, ◌⊎◌, ℕ, ◌+◌, ◌-◌, ◌<◌, ◌≤◌, max, List, [], ◌∷◌, ◌++◌, length, map, filter, slice_index, nat_le}
+use Rattle.std.specs.List.{flat_map}
 use Rattle.dml_types.specs.declared.jobs.Job.{Job}
 use Rattle.dml_types.specs.declared.spans.Span.{Span}
 use Rattle.dml_levels.specs.declared.cells.Cells.{Cells}
@@ -31,16 +31,6 @@ cover_of starts spans = map (cells_of starts) spans
 abbrev pub footprint_of : List ℕ → Job → Footprint
 footprint_of starts job =
     record { reads = cover_of starts (read_spans job); writes = cover_of starts (written_spans job) }
-
-abbrev pub most_counted : ℕ
-most_counted = 2 ^ 64 - 1
-
--- how many cells there are, each counted as often as it is covered
-abbrev pub cover_size : List Cells → ℕ
-cover_size cover = sum_by (λ cells. cells.end - cells.first) cover
-
-abbrev pub footprint_size : Footprint → ℕ
-footprint_size footprint = cover_size footprint.reads + cover_size footprint.writes
 
 pub record IsCell (cells : Cells) (cell : ℕ) : Type 0 where
   pub from : cells.first ≤ cell

@@ -1,8 +1,8 @@
-ghost use Rattle.std.specs.Prelude.{◌≡◌, ◌≤◌, All, IfOk, false, length, map, min};
-ghost use Rattle.std.specs.List.{list_any, sum_by};
+ghost use Rattle.std.specs.Prelude.{◌≡◌, ◌≤◌, All, IfOk, false, length, map};
+ghost use Rattle.std.specs.List.{list_any};
 ghost use Rattle.std.specs.List.Sorted.{IsNonDecreasing};
 ghost use Rattle.dml_types.specs.Job.{is_past};
-ghost use Rattle.dml_levels.specs.Cells.{IsCovered, IsGreatest, IsRaised, cover_of, cover_size, footprint_of, footprint_size, most_counted};
+ghost use Rattle.dml_levels.specs.Cells.{IsCovered, IsGreatest, IsRaised, cover_of, footprint_of};
 
 use crate::cells::Cells;
 use crate::ranges::Spans;
@@ -40,17 +40,6 @@ impl Cover {
             list.push(Cells::of(starts, span));
         }
         Cover { list }
-    }
-
-    /// How many there are, as far as that can be counted.
-    fn size(&self) -> u64
-        ensures { result ≡ min (cover_size self.now) most_counted }
-    {
-        let mut size: u64 = 0;
-        for cells in self.list.as_slice() {
-            size = size.saturating_add(cells.end.saturating_sub(cells.first) as u64);
-        }
-        size
     }
 
     /// The greatest height of these cells.
@@ -111,19 +100,4 @@ pub fn find_footprints(
         footprints.push(Footprint::of(starts, job))?;
     }
     Ok(footprints)
-}
-
-/// How many cells these jobs cover, each counted as often as it is covered, as far as that can be counted.
-pub fn covered(footprints: &[Footprint]) -> u64
-    ensures { result ≡ min (sum_by footprint_size footprints.now) most_counted }
-{
-    let mut covered: u64 = 0;
-    for footprint in footprints {
-        let size = footprint
-            .reads
-            .size()
-            .saturating_add(footprint.writes.size());
-        covered = covered.saturating_add(size);
-    }
-    covered
 }

@@ -7,7 +7,7 @@ ghost use Rattle.dml_levels.specs.Hulls.{reach_of};
 ghost use Rattle.dml_levels.specs.Touched.{touched_by};
 
 use crate::cells::find_starts;
-use crate::covers::{Footprint, covered, find_footprints};
+use crate::covers::{Footprint, find_footprints};
 use crate::heights::Heights;
 use crate::hulls::{Reach, are_apart};
 use crate::touched::Touches;
@@ -20,9 +20,6 @@ const FEW_JOBS: usize = 16;
 /// Above so many jobs too.
 const MANY_JOBS: usize = 65_536;
 
-/// And where the jobs' ranges cover more cells, each counted as often as it is covered.
-const MOST_COVERED: u64 = 262_144;
-
 /// The level of each job by ranges alone: 0 where it conflicts with no earlier one, and else one more than the greatest
 /// level of an earlier job that it conflicts with. By pairs of jobs, or by the cells of their ranges where that is
 /// quicker.
@@ -34,9 +31,7 @@ pub(crate) fn find_levels(alloc: Global, jobs: &[Checked]) -> Result<Vec<u32>, A
     if jobs.len() > FEW_JOBS && jobs.len() <= MANY_JOBS && !are_apart(reaches.as_slice()) {
         let starts = find_starts(alloc, jobs)?;
         let footprints = find_footprints(alloc, starts.as_slice(), jobs)?;
-        if covered(footprints.as_slice()) <= MOST_COVERED {
-            return levels_by_cells(alloc, jobs, starts.as_slice(), footprints.as_slice());
-        }
+        return levels_by_cells(alloc, jobs, starts.as_slice(), footprints.as_slice());
     }
     levels_by_pairs(alloc, jobs, reaches.as_slice())
 }

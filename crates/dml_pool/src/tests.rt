@@ -4,7 +4,7 @@ ghost use Rattle.std.specs.List.{All};
 ghost use Rattle.dml_desc.specs.Checked.{operation_of};
 ghost use Rattle.dml_pool.specs.Tasks.{IsRunnable, units, room_for};
 
-use crate::{Free, Gate, Outcome, Piece, PoolError, Task, run_wave};
+use crate::{Free, Gate, Outcome, Piece, PoolError, Task, run_wave, run_wave_into_slots};
 use dml_arena::{Arena, Region};
 use dml_desc::{Checked, check};
 use dml_image::{Image, ImageError};
@@ -394,6 +394,31 @@ fn set_up_of_run_wave_of_three(rt: HostRuntime) -> Result<(), Fail> {
 #[test]
 fn refused_run_wave_of_three(rt: HostRuntime) {
     wave_or_refused(&rt, rt.alloc(), 3);
+}
+
+#[test]
+fn set_up_of_run_wave_into_slots(rt: HostRuntime) -> Result<(), Fail> {
+    made_and_dropped(&rt, rt.alloc())
+}
+
+/// Each outcome in the slot of its task, or want of memory with no task begun.
+#[test]
+fn refused_run_wave_into_slots(rt: HostRuntime) -> Result<(), Fail> {
+    let image = image(rt.alloc())?;
+    let mut arena = Arena::new(rt.alloc(), 0)?;
+    let tasks = tasks_of(&rt, rt.alloc(), &fills(), arena.open())?;
+    let gate = Meeting::new(&rt, [0; 4]);
+    match run_wave_into_slots(&rt, rt.alloc(), &image, tasks, 3, &gate) {
+        Ok(slots) => {
+            assert_eq!(rt; slots.len(), 40);
+            for (task, slot) in (0..40).zip(slots.as_slice()) {
+                assert!(rt; slot.as_ref().is_some_and(|outcome| outcome.task == task));
+            }
+            assert_eq!(rt; gate.counts(), (0x101_0101, 0));
+        }
+        Err(PoolError::Refused) => assert_eq!(rt; gate.counts(), (0, 0)),
+    }
+    Ok(())
 }
 
 /// What a list of outcomes takes is known: 131,072 tasks with 16 workers ask for 160 MiB.

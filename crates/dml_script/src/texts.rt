@@ -115,9 +115,14 @@ fn push_shown_byte(text: &mut String, byte: Option<u8>) -> Result<(), AllocError
 }
 
 /// Adds a byte as two lower-case hexadecimal digits.
+///
+/// # Errors
+/// Where there is no memory for them; the text is as it was.
 pub fn push_byte(text: &mut String, byte: u8) -> Result<(), AllocError>
-    ensures { OnOk result (string_bytes text.new ≡ string_bytes text.old ++ byte_text byte) }
+    ensures digits { OnOk result (string_bytes text.new ≡ string_bytes text.old ++ byte_text byte) }
+    ensures unchanged { OnErr result (string_bytes text.new ≡ string_bytes text.old) }
 {
+    text.reserve(2)?;
     text.push(glyph(byte / 16))?;
     text.push(glyph(byte % 16))
 }

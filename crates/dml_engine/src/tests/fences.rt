@@ -160,6 +160,7 @@ fn fence_after_false_predicate(rt: HostRuntime) -> Result<(), Fail> {
     expect(&rt, rt.alloc(), &row)
 }
 
+/// The row refused_fenced_job; tests whose names begin so are those of growths that are refused.
 #[test]
 fn fence_of_a_bad_job(rt: HostRuntime) -> Result<(), Fail> {
     let row = Row {
@@ -177,6 +178,7 @@ fn fence_of_a_bad_job(rt: HostRuntime) -> Result<(), Fail> {
     expect(&rt, rt.alloc(), &row)
 }
 
+/// The row refused_fenced_job_after_fault.
 #[test]
 fn fence_of_a_bad_job_after_a_fault(rt: HostRuntime) -> Result<(), Fail> {
     let row = Row {

@@ -293,28 +293,40 @@ fn small_jobs_start_no_worker(rt: HostRuntime) -> Result<(), Fail> {
     Ok(())
 }
 
-#[test]
-fn set_up_of_waves(rt: HostRuntime) -> Result<(), Fail> {
-    let engine = engine_of_eight(rt.alloc(), 2).ok_or("no memory")?;
+/// Makes the engine and drops it.
+fn made_and_dropped(rt: &impl Abort, alloc: Global) -> Result<(), Fail> {
+    let engine = engine_of_eight(alloc, 2).ok_or("no memory")?;
     assert_eq!(rt; engine.image().byte(0), Some(0));
     Ok(())
 }
 
-/// Once memory is refused to a wave, neither it nor a later one goes to the workers: tasks enter of both waves, one and
-/// then three, of the first alone, or of none.
-#[test]
-fn refused_waves(rt: HostRuntime) -> Result<(), Fail> {
+/// Submits two waves, of one task and of three, as a list or as a batch whose second job is fenced. Once memory is
+/// refused to a wave, neither it nor a later one goes to the workers: tasks enter of both waves, of the first alone, or
+/// of none.
+fn expect_waves<R: Abort + Clock + Threads + Wait + Sync>(
+    rt: &R,
+    alloc: Global,
+    fenced: bool,
+) -> Result<(), Fail> {
     let counts = Counts::new();
     let gate = Meeting {
-        clock: &rt,
+        clock: rt,
         counts: &counts,
         wanted: 0,
     };
-    let mut engine = engine_of_eight(rt.alloc(), 2)
+    let mut engine = engine_of_eight(alloc, 2)
         .ok_or("no memory")?
         .with_gate(gate);
-    let jobs = [Job::fill(1, 0, 8), Job::fill(2, 0, 24)];
-    match engine.submit_list(&rt, rt.alloc(), &jobs) {
+    let jobs = [
+        Job::fill(1, 0, 8),
+        Job::fill(2, 0, 24).with_flags(u32::from(fenced)),
+    ];
+    let answered = if fenced {
+        engine.submit_batch(rt, alloc, &jobs).map(|done| done.1)
+    } else {
+        engine.submit_list(rt, alloc, &jobs)
+    };
+    match answered {
         Ok(records) => {
             let last = answer(Status::Success, 0, 24, 0);
             assert_eq!(rt; records.last().copied(), Some(last));
@@ -325,4 +337,24 @@ fn refused_waves(rt: HostRuntime) -> Result<(), Fail> {
     let (entered, _) = counts.both();
     assert!(rt; [0, 0x1, 0x1_0102].contains(&entered), "{entered:x}");
     Ok(())
+}
+
+#[test]
+fn set_up_of_waves(rt: HostRuntime) -> Result<(), Fail> {
+    made_and_dropped(&rt, rt.alloc())
+}
+
+#[test]
+fn refused_waves(rt: HostRuntime) -> Result<(), Fail> {
+    expect_waves(&rt, rt.alloc(), false)
+}
+
+#[test]
+fn set_up_of_waves_of_a_batch(rt: HostRuntime) -> Result<(), Fail> {
+    made_and_dropped(&rt, rt.alloc())
+}
+
+#[test]
+fn refused_waves_of_a_batch(rt: HostRuntime) -> Result<(), Fail> {
+    expect_waves(&rt, rt.alloc(), true)
 }

@@ -297,7 +297,42 @@ fn on_demand<R: Abort + Threads + Wait + Sync, G: Gate + Sync>(
     Ok(done)
 }
 
-/// A driver's loop: the page of each fault is brought, until the job is done.
+/// An engine with four pages full of `Z`.
+fn engine_of_pages(alloc: Global, settings: Settings) -> Option<Engine> {
+    let mut image = Image::new(alloc, 4).ok()?;
+    for page in 0..4 {
+        image.bring(page, &[0x5a; 4096]).ok()?;
+    }
+    Engine::new(alloc, image, settings).ok()
+}
+
+/// A driver's loop: the page of each fault is brought, until the job is done. Beside it the other engine, which has all
+/// pages, carries out the whole job; both leave the same image.
+fn expect_parts<R: Abort + Threads + Wait + Sync, G: Gate + Sync>(
+    rt: &R,
+    alloc: Global,
+    parts: &mut Engine<G>,
+    whole: &mut Engine<G>,
+    job: Job,
+    records: &[Record],
+) -> Result<(), Fail> {
+    let done = on_demand(rt, alloc, parts, job, records)?;
+    let last = records.last().ok_or("no record")?;
+    let answer = whole.submit(rt, alloc, job);
+    assert_eq!(rt; done, u64::from(answer.completed), "{job:?}");
+    let want = Record {
+        completed: job.size,
+        ..*last
+    };
+    assert_eq!(rt; answer, want, "{job:?}");
+    for addr in 0..16_384 {
+        let (left, want) = (parts.image().byte(addr), whole.image().byte(addr));
+        assert_eq!(rt; left, want, "{job:?} at {addr}");
+    }
+    Ok(())
+}
+
+/// The same at all settings, with the engine's own gate and with one given.
 fn expect_on_demand<R: Abort + Threads + Wait + Sync>(
     rt: &R,
     alloc: Global,
@@ -306,17 +341,16 @@ fn expect_on_demand<R: Abort + Threads + Wait + Sync>(
     shown: &[(u64, u8)],
 ) -> Result<(), Fail> {
     for settings in settings(USUAL.staging) {
-        let engine = engine_of(alloc, 4, &[], settings).ok_or("no memory")?;
-        let mut engine = engine.with_gate(Free);
-        let done = on_demand(rt, alloc, &mut engine, job, records)?;
-        assert_eq!(rt; done, u64::from(job.size), "{job:?}");
+        let make = || engine_of(alloc, 4, &[], settings).ok_or("no memory");
+        let make_whole = || engine_of_pages(alloc, settings).ok_or("no memory");
+        let (mut parts, mut whole) = (make()?, make_whole()?);
+        expect_parts(rt, alloc, &mut parts, &mut whole, job, records)?;
         for (addr, byte) in shown {
-            assert_eq!(rt;
-                engine.image().byte(*addr),
-                Some(*byte),
-                "{job:?} at {addr}"
-            );
+            let left = parts.image().byte(*addr);
+            assert_eq!(rt; left, Some(*byte), "{job:?} at {addr}");
         }
+        let (mut parts, mut whole) = (make()?.with_gate(Free), make_whole()?.with_gate(Free));
+        expect_parts(rt, alloc, &mut parts, &mut whole, job, records)?;
     }
     Ok(())
 }

@@ -19,6 +19,8 @@ enum Cut {
 use Cut::{Adds, Fault};
 use Kind::{BadHex, BadNumber, OpenBatch, UnknownWord, WrongWords};
 
+// The empty front is the row empty_script; each table begins behind the first byte.
+
 /// A fill into an absent page, and what it leaves.
 const FILL: [(&str, Cut); 14] = [
     ("imag", Fault(1, UnknownWord)),

@@ -1,6 +1,6 @@
 //! More calls whose growths of memory are refused: the lines of a job and of a batch.
 
-use crate::{Item, TextError, out_text};
+use crate::{Item, TextError, out_text, push_byte};
 use dml_types::{BatchRecord, Record, Status};
 use std::alloc::Global;
 use std::process::Abort;
@@ -37,4 +37,15 @@ fn refused_out_text_of_a_batch(rt: HostRuntime) {
     };
     let want = "batch status 05 completed 3\n";
     text_or_refused(&rt, rt.alloc(), &Item::Batch { answer }, want);
+}
+
+/// Both digits, or the text as it was.
+#[test]
+fn refused_push_byte(rt: HostRuntime) {
+    let mut text = String::new(rt.alloc());
+    let want = match push_byte(&mut text, 0x7d) {
+        Ok(()) => "7d",
+        Err(_) => "",
+    };
+    assert_eq!(rt; text.as_str(), want);
 }

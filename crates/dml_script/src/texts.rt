@@ -1,6 +1,6 @@
 //! The text of an answer, and of a job.
 
-ghost use Rattle.std.specs.Prelude.{◌≡◌, ◌<◌, ◌++◌, codes, false, OnOk, IfOk, string_bytes};
+ghost use Rattle.std.specs.Prelude.{◌≡◌, ◌<◌, ◌++◌, codes, false, OnErr, OnOk, IfOk, string_bytes};
 ghost use Rattle.std.specs.Fmt.{digit_glyph};
 ghost use Rattle.std.specs.List.{flat_map};
 ghost use Rattle.dml_script.specs.Output.{byte_text, shown_text, hexadecimal, job_line, batch_line, show_line, text_of, fields_of};

@@ -10,5 +10,5 @@ written old a b c byte feed first second third is_first is_b is_second is_c is_t
     ∙ append_assoc old (a ++ b) c
 
 pub returns : goal.returns
-returns c = written _ _ _ _ _ _ _ _ _ c.in_ok-push_str.ensures.bytes (ap byte_text c.code.ensures) c.in_ok-push_byte.ensures (c.in_ok-push.ensures.ascii (omega arith))
+returns c = written _ _ _ _ _ _ _ _ _ c.in_ok-push_str.ensures.bytes (ap byte_text c.code.ensures) c.in_ok-push_byte.ensures.digits (c.in_ok-push.ensures.ascii (omega arith))
     c.in_ok-push.ensures.bytes

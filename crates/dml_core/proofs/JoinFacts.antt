@@ -27,13 +27,13 @@ use Rattle.dml_delta.specs.Bad.{bad_of}
 use Rattle.dml_effect.specs.Chunks.{AreChunksFrom, AreScans, GoesByOffsets, IsApplyFrom, IsCreateFrom, IsScanFrom, scan_size}
 use Rattle.dml_levels.specs.Tasks.{task_count, task_count_by}
 use Rattle.dml_levels.specs.Waves.{job_at}
-use Rattle.dml_core.specs.Types.{Job, Op, NoOp, CreateDelta, ApplyDelta, Fetched, Task}
+use Rattle.dml_core.specs.Types.{Job, Settings, Op, NoOp, CreateDelta, ApplyDelta, Fetched, Task}
 use Rattle.dml_core.specs.Plan.{entry_at, jobs_of, is_refused, task_for, chunks_of}
 use Rattle.dml_core.specs.World.{Value, Nothing, Scanned, Created, Applied, value_by, value_of, World}
-use Rattle.dml_core.specs.Laws.{kept_with, job_tasks}
-use Rattle.dml_core.specs.Joins.{CarriesScan, CarriesCreate, CarriesApply, AreNeighbours, KeptMeetJoins}
+use Rattle.dml_core.specs.Laws.{Keeps, kept_with, job_tasks}
+use Rattle.dml_core.specs.Joins.{CarriesScan, CarriesCreate, CarriesApply, AreNeighbours, KeptMeetJoins, CommitsAreSteps}
 use Rattle.dml_core.proofs.FoldLemmas.{job_entry}
-use Rattle.dml_core.proofs.KeepsLemmas.{each_has_its_values}
+use Rattle.dml_core.proofs.KeepsLemmas.{core_keeps, each_has_its_values, kept_join_to_step}
 
 -- how many chunks reach a job's end
 below_by : (n piece number : ℕ) → 0 < piece → number < div_ceil n piece → number * piece < n
@@ -291,9 +291,22 @@ kept_applies w i pieces valid accepted operation same all near =
     w i pieces valid accepted operation same all near
 
 pub kept_meet_joins : KeptMeetJoins
-kept_meet_joins start w keeps valid allowed i here accepted =
-    let same = each_has_its_values start w keeps allowed i here in record {
-      scans = λ op operation goes pieces all near. kept_scans w i op pieces valid accepted operation goes same all near;
-      creates = λ operation pieces all near. kept_creates w i pieces valid accepted operation same all near;
-      applies = λ operation pieces all near. kept_applies w i pieces valid accepted operation same all near;
+kept_meet_joins start given clients w keeps valid allowed i here accepted =
+    let same = each_has_its_values start given clients w keeps allowed i here in
+    let limits = subst IsValid (sym keeps.settings) valid in
+    let taken : is_refused (jobs_of w.fetched) w.settings.staging i ≡ false =
+    ap (λ (s : Settings). is_refused (jobs_of w.fetched) s.staging i) keeps.settings ∙ accepted in
+    record {
+      scans = λ op operation goes pieces all near. kept_scans w i op pieces limits taken operation goes same all near;
+      creates = λ operation pieces all near. kept_creates w i pieces limits taken operation same all near;
+      applies = λ operation pieces all near. kept_applies w i pieces limits taken operation same all near;
+    }
+
+pub commits_are_steps : CommitsAreSteps
+commits_are_steps start settings clients steps w memory valid reaches allowed i here accepted =
+    let keeps : Keeps start settings clients w =
+    subst (Keeps start settings clients) (ap (λ (pair : World × Option ℕ). pair.0) reaches) (core_keeps start settings clients steps memory.whole) in
+    record {
+      meet_joins = kept_meet_joins start settings clients w keeps valid allowed i here accepted;
+      joined = kept_join_to_step start settings clients w keeps memory valid allowed i here accepted;
     }

@@ -1,18 +1,21 @@
 -- What every allowed step keeps.
 use Rattle.std.proofs.Common.{◌≡◌, ℕ, ◌+◌, ◌<◌, ◌≤◌, zero, suc, Bool, true, false, not, cond, List, [], ◌∷◌, ◌++◌, length, get_or, set, map, filter, drop, replicate, refl, sym, ◌∙◌, ap, subst, arith, ⊎_elim, Option, None, Some}
 use Rattle.std.proofs.lemmas.Bool.{cases_lt, cases_eq, and_parts, and_from, eqb-true, eq-eqb, ne_eqb, ltb-true, false≢true, both_ways, or_cases}
-use Rattle.std.proofs.lemmas.List.{append_assoc, append-nil, length-map, length-append, map-append, get_or-set_same, get_or-set_other, get_or_past, nil_from_length}
+use Rattle.std.proofs.lemmas.List.{append_assoc, append-nil, length-map, length-append, length-replicate, length-set, map-append, get_or-set_same, get_or-set_other, get_or_past, nil_from_length}
 use Rattle.std.proofs.lemmas.List.Elements.{filter-append}
 use Rattle.std.specs.Prelude.{nat_eq, nat_lt, ◌&&◌, is_some, is_none, slice_get, unwrap_or, option_map, filter_map, find, flat_map}
 use Rattle.std.specs.List.{list_all}
-use Rattle.dml_types.specs.Memory.{Memory}
+use Rattle.dml_types.specs.Limits.{IsValid}
+use Rattle.dml_types.specs.Memory.{Memory, IsMemory}
+use Rattle.dml_types.specs.Step.{memory_after, records_of}
 use Rattle.dml_order.specs.Order.{run_all, is_in}
 use Rattle.dml_order.specs.Waves.{joined}
 use Rattle.dml_core.specs.Types.{Job, Settings, Fetched, Task, Step, Submit, Fetch, Take, Finish, Commit}
-use Rattle.dml_core.specs.Plan.{no_entry, entry_at, jobs_of, tasks_at}
+use Rattle.dml_core.specs.Plan.{no_entry, entry_at, is_refused, jobs_of, tasks_at}
 use Rattle.dml_core.specs.World.{Kept, Value, value_of, World, new_world, sent_by, part_of, next_job, in_hand, no_hand, is_empty, is_allowed, carry_out, world_progress, wave_at, wave_tasks, entry_for, kept_by, kept_now, after, run, Reaches}
-use Rattle.dml_core.specs.Laws.{held, how_many, CoreKeeps, submitted, SentIsSubmitted, OnlyCommitWrites, is_task, kept_with, job_tasks, EachHasItsValues, KeptJoinToStep}
+use Rattle.dml_core.specs.Laws.{committed, held, how_many, CoreKeeps, submitted, SentIsSubmitted, OnlyCommitWrites, is_task, kept_with, job_tasks, EachHasItsValues, KeptJoinToStep}
 use Rattle.dml_core.proofs.FoldLemmas.{blank, blanks_stay}
+use Rattle.dml_core.proofs.ImageLemmas.{carried_kept}
 use Rattle.dml_core.proofs.OrderedLemmas.{IsOrdered, ordered_at_first, ordered_after_wave, ordered_after_fetch, ordered_image, ordered_answers}
 
 -- the order
@@ -265,22 +268,82 @@ stands_at_first start settings clients = record {
   values = refl;
 }
 
-pub stands_run : (start : Memory) (w : World) (steps : List Step) → Stands start w → Stands start (run w steps).0
-stands_run start w [] stands = stands
-stands_run start w (s ∷ steps) stands =
+-- what no step changes
+pub record Lasts (start : Memory) (given : Settings) (clients : ℕ) (w : World) : Type 0 where
+  pub settings : w.settings ≡ given
+  pub as_many_clients : length w.sent ≡ clients
+  pub as_many_hands : length w.hands ≡ given.workers
+  pub memory : IsMemory start → IsMemory w.image
+
+lasts_after : (start : Memory) (given : Settings) (clients : ℕ) (w : World) (s : Step) → Lasts start given clients w → Lasts start given clients (after w s)
+lasts_after start given clients w (Submit client job) old = record {
+  settings = old.settings;
+  as_many_clients = length-set w.sent client (sent_by w client ++ job ∷ []) ∙ old.as_many_clients;
+  as_many_hands = old.as_many_hands;
+  memory = old.memory;
+}
+lasts_after start given clients w (Fetch client) old = record { settings = old.settings; as_many_clients = old.as_many_clients; as_many_hands = old.as_many_hands; memory = old.memory }
+lasts_after start given clients w (Take worker) old = record {
+  settings = old.settings;
+  as_many_clients = old.as_many_clients;
+  as_many_hands = length-set w.hands worker (slice_get w.to_do 0) ∙ old.as_many_hands;
+  memory = old.memory;
+}
+lasts_after start given clients w (Finish worker) old = record {
+  settings = old.settings;
+  as_many_clients = old.as_many_clients;
+  as_many_hands = length-set w.hands worker None ∙ old.as_many_hands;
+  memory = old.memory;
+}
+lasts_after start given clients w Commit old = record {
+  settings = old.settings;
+  as_many_clients = old.as_many_clients;
+  as_many_hands = old.as_many_hands;
+  memory = λ good. carried_kept w.settings.staging (wave_at w 0) (world_progress w) (old.memory good);
+}
+
+lasts_at_first : (start : Memory) (given : Settings) (clients : ℕ) → Lasts start given clients (new_world start given clients)
+lasts_at_first start given clients = record {
+  settings = refl;
+  as_many_clients = length-replicate {A = List Job} clients [];
+  as_many_hands = length-replicate {A = Option Task} given.workers None;
+  memory = λ good. good;
+}
+
+-- what each allowed step keeps, a run keeps
+run_keeps : (Holds : World → Type 0) → ((w : World) (s : Step) → Holds w → is_allowed w s ≡ true → Holds (after w s)) → (w : World) (steps : List Step) → Holds w → Holds (run w steps).0
+run_keeps Holds each w [] holds = holds
+run_keeps Holds each w (s ∷ steps) holds =
     let rest = run (after w s) steps in
-    elim (is_allowed w s) as (λ b. is_allowed w s ≡ b → Stands start (cond {A = World × Option ℕ} b (rest.0, option_map (λ i. i + 1) rest.1) (w, Some 0)).0) [
-      | true ↦ λ allowed. stands_run start (after w s) steps (stands_after start w s stands allowed)
-      | false ↦ λ refused. stands
+    elim (is_allowed w s) as (λ b. is_allowed w s ≡ b → Holds (cond {A = World × Option ℕ} b (rest.0, option_map (λ i. i + 1) rest.1) (w, Some 0)).0) [
+      | true ↦ λ allowed. run_keeps Holds each (after w s) steps (each w s holds allowed)
+      | false ↦ λ refused. holds
     ] refl
+
+pub stands_run : (start : Memory) (w : World) (steps : List Step) → Stands start w → Stands start (run w steps).0
+stands_run start w steps stands = run_keeps (Stands start) (stands_after start) w steps stands
+
+lasts_run : (start : Memory) (given : Settings) (clients : ℕ) (w : World) (steps : List Step) → Lasts start given clients w → Lasts start given clients (run w steps).0
+lasts_run start given clients w steps lasts =
+    run_keeps (Lasts start given clients) (λ v s old allowed. lasts_after start given clients v s old) w steps lasts
 
 pub core_keeps : CoreKeeps
 core_keeps start settings clients steps whole =
-    let end = (run (new_world start settings clients) steps).0 in
-    let stands = stands_run start (new_world start settings clients) steps (stands_at_first start settings clients) in
+    let first = new_world start settings clients in
+    let end = (run first steps).0 in
+    let stands = stands_run start first steps (stands_at_first start settings clients) in
+    let lasts = lasts_run start settings clients first steps (lasts_at_first start settings clients) in
     record {
-      image = ordered_image end.settings.staging start end.image end.fetched end.waves whole stands.order;
-      answers = λ i answer is. ordered_answers end.settings.staging start end.image end.fetched end.waves whole stands.order i answer is;
+      settings = lasts.settings;
+      as_many_clients = lasts.as_many_clients;
+      as_many_hands = lasts.as_many_hands;
+      memory = lasts.memory;
+      image =
+          ordered_image end.settings.staging start end.image end.fetched end.waves whole stands.order
+          ∙ ap (λ (s : Settings). memory_after start (jobs_of (committed end.fetched)) s.staging) lasts.settings;
+      answers = λ i answer is.
+          ap (λ (s : Settings). slice_get (records_of start (jobs_of end.fetched) s.staging) i) (sym lasts.settings)
+          ∙ ordered_answers end.settings.staging start end.image end.fetched end.waves whole stands.order i answer is;
       parts = stands.parts;
       tasks = stands.tasks;
       values = stands.values;
@@ -389,7 +452,7 @@ all_found w (task ∷ tasks) found =
     (all_found w tasks (λ other some. found other (let cut = how_many_append (is_task other) (task ∷ []) tasks in omega (arith, cut, some))))
 
 pub each_has_its_values : EachHasItsValues
-each_has_its_values start w keeps allowed i here =
+each_has_its_values start given clients w keeps allowed i here =
     all_found w (job_tasks w i) (λ task some.
     let all = keeps.tasks (is_task task) in
     let part = counted_part (is_task task) (tasks_at (jobs_of w.fetched) w.settings.staging w.settings.chunk) (wave_at w 0) i here in
@@ -399,10 +462,12 @@ each_has_its_values start w keeps allowed i here =
     found_kept w task w.finished keeps.values done)
 
 pub kept_join_to_step : KeptJoinToStep
-kept_join_to_step join law start w keeps memory valid allowed i here accepted some =
-    ap (λ (list : List (Option Value)). join w.image (entry_at w.fetched i).job (filter_map (λ kept. kept) list)) (each_has_its_values start w keeps allowed i here)
+kept_join_to_step start given clients w keeps memory valid allowed i here accepted join law some =
+    let same = keeps.settings in
+    ap (λ (list : List (Option Value)). join w.image (entry_at w.fetched i).job (filter_map (λ kept. kept) list)) (each_has_its_values start given clients w keeps allowed i here)
     ∙ (ap (join w.image (entry_at w.fetched i).job) (all_there (value_of w.fetched w.image) (job_tasks w i))
-    ∙ law w.image w.settings w.fetched i memory valid accepted some)
+    ∙ law w.image w.settings w.fetched i (keeps.memory memory) (subst IsValid (sym same) valid)
+    (ap (λ (s : Settings). is_refused (jobs_of w.fetched) s.staging i) same ∙ accepted) some)
   where
     all_there : (f : Task → Value) (tasks : List Task) → filter_map (λ kept. kept) (map (λ task. Some (f task)) tasks) ≡ map f tasks
     all_there f [] = refl

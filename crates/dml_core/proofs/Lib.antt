@@ -1,6 +1,7 @@
 pub mod PlaceLemmas
 pub mod PlanLemmas
 pub mod FoldLemmas
+pub mod ImageLemmas
 pub mod OrderedLemmas
 pub mod KeepsLemmas
 pub mod LoopLemmas

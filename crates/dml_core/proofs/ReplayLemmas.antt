@@ -1,9 +1,10 @@
 -- Lists of steps, one after another.
-use Rattle.std.proofs.Common.{◌≡◌, ℕ, ◌+◌, ◌<◌, ◌≤◌, suc, true, false, cond, List, [], ◌∷◌, ◌++◌, length, get_or, take, drop, sym, ◌∙◌, ap, subst, arith, Option, None, Some}
+use Rattle.std.proofs.Common.{◌≡◌, ℕ, ◌+◌, ◌<◌, ◌≤◌, suc, true, false, cond, List, [], ◌∷◌, ◌++◌, length, get_or, take, drop, refl, sym, ◌∙◌, ap, subst, arith, Option, None, Some}
 use Rattle.std.proofs.lemmas.List.{drop_more, length-take-le, take-append-drop, take_more, take_all}
 use Rattle.std.specs.Prelude.{option_map}
 use Rattle.dml_core.specs.Types.{Step}
 use Rattle.dml_core.specs.World.{World, is_allowed, after, run, Reaches}
+use Rattle.dml_core.specs.Laws.{RunsGoOn}
 use Rattle.dml_core.proofs.KeepsLemmas.{reaches_next}
 
 abbrev Run : Type 0
@@ -28,13 +29,31 @@ reaches_append (s ∷ xs) ys w v end first second =
     let next = reaches_next w s xs v first in
     reaches_first w s (xs ++ ys) end next.0 (reaches_append xs ys (after w s) v end next.1 second)
 
-stops_behind : (xs ys : List Step) (w v stopped : World) → Reaches w xs v → run v ys ≡ ended_at stopped (Some 0) → run w (xs ++ ys) ≡ ended_at stopped (Some (length xs))
-stops_behind [] ys w v stopped first stop = ap (λ (x : World). run x ys) (same_world w v first) ∙ stop
-stops_behind (s ∷ xs) ys w v stopped first stop =
+-- a run whose place is counted on
+abbrev further : ℕ → Run → Run
+further n pair = (pair.0, option_map (λ i. n + i) pair.1)
+
+none_further : (w : World) (place : Option ℕ) → ended_at w place ≡ further 0 (ended_at w place)
+none_further w None = refl
+none_further w (Some i) = ap (λ (k : ℕ). ended_at w (Some k)) (let e : i ≡ 0 + i = omega arith in e)
+
+one_further : (n : ℕ) (w : World) (place : Option ℕ) → one_on (further n (ended_at w place)) ≡ further (suc n) (ended_at w place)
+one_further n w None = refl
+one_further n w (Some i) = ap (λ (k : ℕ). ended_at w (Some k)) (let e : n + i + 1 ≡ suc n + i = omega arith in e)
+
+pub runs_go_on : RunsGoOn
+runs_go_on w v [] ys first =
+    ap (λ (x : World). run x ys) (same_world w v first) ∙ none_further (run v ys).0 (run v ys).1
+runs_go_on w v (s ∷ xs) ys first =
     let next = reaches_next w s xs v first in
     ap (λ b. cond {A = Run} b (one_on (run (after w s) (xs ++ ys))) (w, Some 0)) next.0
-    ∙ (ap one_on (stops_behind xs ys (after w s) v stopped next.1 stop)
-    ∙ ap (λ (i : ℕ). ended_at stopped (Some i)) (let e : length xs + 1 ≡ suc (length xs) = omega arith in e))
+    ∙ (ap one_on (runs_go_on (after w s) v xs ys next.1) ∙ one_further (length xs) (run v ys).0 (run v ys).1)
+
+stops_behind : (xs ys : List Step) (w v stopped : World) → Reaches w xs v → run v ys ≡ ended_at stopped (Some 0) → run w (xs ++ ys) ≡ ended_at stopped (Some (length xs))
+stops_behind xs ys w v stopped first stop =
+    runs_go_on w v xs ys first
+    ∙ (ap (further (length xs)) stop
+    ∙ ap (λ (i : ℕ). ended_at stopped (Some i)) (let e : length xs + 0 ≡ length xs = omega arith in e))
 
 pub replay_more : (w world next : World) (steps : List Step) (i : ℕ) (d : Step) → i < length steps → Reaches w (take i steps) world → is_allowed world (get_or steps i d) ≡ true → next ≡ after world (get_or steps i d) → Reaches w (take (i + 1) steps) next
 replay_more w world next steps i d below before allowed is =

@@ -4,7 +4,7 @@ use Rattle.std.specs.Prelude.{◌≡◌, ℕ, ◌/◌, false, true, List, [], �
 use Rattle.std.specs.List.{AllZip}
 use Rattle.dml_types.specs.Job.{op_of}
 use Rattle.dml_types.specs.Limits.{IsValid}
-use Rattle.dml_types.specs.Memory.{Memory}
+use Rattle.dml_types.specs.Memory.{Memory, IsMemory}
 use Rattle.dml_arena.specs.Piece.{Piece}
 use Rattle.dml_scan.specs.declared.scans.ScanPiece.{ScanPiece}
 use Rattle.dml_delta.specs.declared.applies.ApplyPiece.{ApplyPiece}
@@ -12,10 +12,10 @@ use Rattle.dml_delta.specs.declared.creates.CreatePiece.{CreatePiece}
 use Rattle.dml_delta.specs.Bad.{bad_of}
 use Rattle.dml_effect.specs.Chunks.{AreChunksFrom, AreScans, FirstIsBehind, GoesByOffsets, IsApplyFrom, IsCreateFrom}
 use Rattle.dml_order.specs.Order.{is_in}
-use Rattle.dml_core.specs.Types.{Op, CreateDelta, ApplyDelta, Task, Commit}
+use Rattle.dml_core.specs.Types.{Settings, Op, CreateDelta, ApplyDelta, Task, Step, Commit}
 use Rattle.dml_core.specs.Plan.{entry_at, is_refused, jobs_of}
-use Rattle.dml_core.specs.World.{Value, Scanned, Created, Applied, World, wave_at, is_allowed}
-use Rattle.dml_core.specs.Laws.{job_tasks, Keeps, kept_with}
+use Rattle.dml_core.specs.World.{Value, Scanned, Created, Applied, World, new_world, wave_at, is_allowed, Reaches}
+use Rattle.dml_core.specs.Laws.{job_tasks, JoinToStep, Keeps, kept_with}
 
 -- a piece of these bounds and this value carries what was kept with a task
 abbrev pub Carries : World → Task → ℕ → ℕ → Value → Type 0
@@ -62,6 +62,20 @@ pub record MeetsJoins (w : World) (i : ℕ) : Type 0 where
 -- so it is of each job of the first wave that is not refused
 abbrev pub KeptMeetJoins : Type 0
 KeptMeetJoins =
-    (start : Memory) (w : World) → Keeps start w → IsValid w.settings → is_allowed w Commit ≡ true
-    → (i : ℕ) → is_in i (wave_at w 0) ≡ true → is_refused (jobs_of w.fetched) w.settings.staging i ≡ false
-    → MeetsJoins w i
+    (start : Memory) (given : Settings) (clients : ℕ) (w : World) → Keeps start given clients w → IsValid given
+    → is_allowed w Commit ≡ true → (i : ℕ) → is_in i (wave_at w 0) ≡ true
+    → is_refused (jobs_of w.fetched) given.staging i ≡ false → MeetsJoins w i
+
+-- both of what is kept with the tasks of the job at a place
+pub record GiveTheStep (w : World) (i : ℕ) : Type 0 where
+  pub meet_joins : MeetsJoins w i
+  pub joined : JoinToStep w i
+
+-- And so after every list of allowed steps from a new world: nothing is asked of the world that they reach, but
+-- that a commit is allowed there
+abbrev pub CommitsAreSteps : Type 0
+CommitsAreSteps =
+    (start : Memory) (settings : Settings) (clients : ℕ) (steps : List Step) (w : World) → IsMemory start
+    → IsValid settings → Reaches (new_world start settings clients) steps w → is_allowed w Commit ≡ true
+    → (i : ℕ) → is_in i (wave_at w 0) ≡ true → is_refused (jobs_of w.fetched) settings.staging i ≡ false
+    → GiveTheStep w i

@@ -18,15 +18,20 @@ held hands = filter_map (λ hand. hand) hands
 abbrev pub how_many : (Task → Bool) → List Task → ℕ
 how_many test tasks = length (filter test tasks)
 
--- The image is the fold of the committed jobs; each answer is the one that the fold of the whole fetched list
--- gives at its place; what was fetched of a client is the front of what it sent; each task of the first wave
--- stands once among those that are to do, in hand and finished, whatever it is looked for by; and the value
--- kept with a finished task is its value on the image as it stands.
-pub record Keeps (start : Memory) (w : World) : Type 0 where
-  pub image : w.image ≡ memory_after start (jobs_of (committed w.fetched)) w.settings.staging
+-- The settings stay, there are as many clients as at first and a hand for each worker, and an image that keeps
+-- what every image keeps goes on keeping it. The image is the fold of the committed jobs; each answer is the one
+-- that the fold of the whole fetched list gives at its place; what was fetched of a client is the front of what
+-- it sent; each task of the first wave stands once among those that are to do, in hand and finished, whatever it
+-- is looked for by; and the value kept with a finished task is its value on the image as it stands.
+pub record Keeps (start : Memory) (given : Settings) (clients : ℕ) (w : World) : Type 0 where
+  pub settings : w.settings ≡ given
+  pub as_many_clients : length w.sent ≡ clients
+  pub as_many_hands : length w.hands ≡ given.workers
+  pub memory : IsMemory start → IsMemory w.image
+  pub image : w.image ≡ memory_after start (jobs_of (committed w.fetched)) given.staging
   pub answers :
       (i : ℕ) (answer : Record) → (entry_at w.fetched i).answer ≡ Some answer
-      → slice_get (records_of start (jobs_of w.fetched) w.settings.staging) i ≡ Some answer
+      → slice_get (records_of start (jobs_of w.fetched) given.staging) i ≡ Some answer
   pub parts :
       (client : ℕ) → (rest : List Job) × (sent_by w client ≡ jobs_of (part_of client w.fetched) ++ rest)
   pub tasks :
@@ -40,7 +45,14 @@ pub record Keeps (start : Memory) (w : World) : Type 0 where
 abbrev pub CoreKeeps : Type 0
 CoreKeeps =
     (start : Memory) (settings : Settings) (clients : ℕ) (steps : List Step) → IsWhole start
-    → Keeps start (run (new_world start settings clients) steps).0
+    → Keeps start settings clients (run (new_world start settings clients) steps).0
+
+-- a run from where another ended is the run of both lists, and stops at the place that is counted on
+abbrev pub RunsGoOn : Type 0
+RunsGoOn =
+    (w middle : World) (first second : List Step) → Reaches w first middle
+    → run w (first ++ second)
+    ≡ ((run middle second).0, option_map (λ i. length first + i) (run middle second).1)
 
 -- what a client submits in a list of steps
 abbrev pub submitted : ℕ → List Step → List Job
@@ -79,8 +91,8 @@ kept_values w i = map (kept_with w) (job_tasks w i)
 -- at a commit there is one for each chunk of each job of the wave: its value on the image
 abbrev pub EachHasItsValues : Type 0
 EachHasItsValues =
-    (start : Memory) (w : World) → Keeps start w → is_allowed w Commit ≡ true
-    → (i : ℕ) → is_in i (wave_at w 0) ≡ true
+    (start : Memory) (given : Settings) (clients : ℕ) (w : World) → Keeps start given clients w
+    → is_allowed w Commit ≡ true → (i : ℕ) → is_in i (wave_at w 0) ≡ true
     → kept_values w i ≡ map (λ task. Some (value_of w.fetched w.image task)) (job_tasks w i)
 
 -- a way to join a job's values that gives its step, where they are those of all its chunks on an image
@@ -93,12 +105,16 @@ JoinsToStep join =
     (map (value_of fetched memory) (tasks_at (jobs_of fetched) settings.staging settings.chunk i))
     ≡ step memory (entry_at fetched i).job settings.staging
 
--- so at a commit the kept values of each job of the wave that has tasks, joined in such a way, are its step
-abbrev pub KeptJoinToStep : Type 0
-KeptJoinToStep =
-    (join : Memory → Job → List Value → Memory × Record) → JoinsToStep join
-    → (start : Memory) (w : World) → Keeps start w → IsMemory w.image → IsValid w.settings
-    → is_allowed w Commit ≡ true → (i : ℕ) → is_in i (wave_at w 0) ≡ true
-    → is_refused (jobs_of w.fetched) w.settings.staging i ≡ false → 0 < length (job_tasks w i)
+-- so the kept values of the job at a place that has tasks, joined in any such way, are its step
+abbrev pub JoinToStep : World → ℕ → Type 0
+JoinToStep w i =
+    (join : Memory → Job → List Value → Memory × Record) → JoinsToStep join → 0 < length (job_tasks w i)
     → join w.image (entry_at w.fetched i).job (filter_map (λ kept. kept) (kept_values w i))
     ≡ step w.image (entry_at w.fetched i).job w.settings.staging
+
+-- at a commit, for each job of the wave that is not refused
+abbrev pub KeptJoinToStep : Type 0
+KeptJoinToStep =
+    (start : Memory) (given : Settings) (clients : ℕ) (w : World) → Keeps start given clients w → IsMemory start
+    → IsValid given → is_allowed w Commit ≡ true → (i : ℕ) → is_in i (wave_at w 0) ≡ true
+    → is_refused (jobs_of w.fetched) given.staging i ≡ false → JoinToStep w i

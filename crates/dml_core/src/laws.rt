@@ -1,5 +1,5 @@
-ghost use Rattle.dml_core.specs.Joins.{KeptMeetJoins};
-ghost use Rattle.dml_core.specs.Laws.{CoreKeeps, EachHasItsValues, KeptJoinToStep, OnlyCommitWrites, SentIsSubmitted};
+ghost use Rattle.dml_core.specs.Joins.{CommitsAreSteps, KeptMeetJoins};
+ghost use Rattle.dml_core.specs.Laws.{CoreKeeps, EachHasItsValues, KeptJoinToStep, OnlyCommitWrites, RunsGoOn, SentIsSubmitted};
 ghost use Rattle.dml_core.specs.Rounds.{RoundHasRun, RoundsHaveRuns};
 
 /// The law of the core, for every list of steps by any number of clients and workers.
@@ -8,7 +8,9 @@ ghost use Rattle.dml_core.specs.Rounds.{RoundHasRun, RoundsHaveRuns};
 /// what was fetched of a client is the front of all that it sent. Only a commit changes the image. Each task of the
 /// first wave stands once among those to do, in hand and finished, with its value on the image as it stands; so at a
 /// commit each chunk of each job of the wave has its value, and these, joined as the chunks of a job are, are its step:
-/// pieces that carry them are what the joins of `dml_effect` ask for, and any other such join gives the same.
+/// pieces that carry them are what the joins of `dml_effect` ask for, and any other such join gives the same. Clause
+/// `commits` says so after every list of allowed steps, and asks nothing of the world that they reach. Two lists of
+/// steps, one run after the other, are one.
 pub fn law_of_core()
     ensures keeps { CoreKeeps }
     ensures sent { SentIsSubmitted }
@@ -16,6 +18,8 @@ pub fn law_of_core()
     ensures values { EachHasItsValues }
     ensures meet_joins { KeptMeetJoins }
     ensures joined { KeptJoinToStep }
+    ensures commits { CommitsAreSteps }
+    ensures go_on { RunsGoOn }
 {}
 
 /// The law of rounds: the steps of any rounds, one after another, are allowed. Each job of a round is sent and fetched,

@@ -1,5 +1,6 @@
-use Rattle.dml_core.proofs.JoinFacts.{kept_meet_joins}
+use Rattle.dml_core.proofs.JoinFacts.{commits_are_steps, kept_meet_joins}
 use Rattle.dml_core.proofs.KeepsLemmas.{core_keeps, each_has_its_values, kept_join_to_step, only_commit_writes, sent_is_submitted}
+use Rattle.dml_core.proofs.ReplayLemmas.{runs_go_on}
 use Rattle.dml_core.proofs.laws.law_of_core.Goals as goal
 
 pub returns-clause-keeps : goal.returns-clause-keeps
@@ -19,3 +20,9 @@ returns-clause-joined c = kept_join_to_step
 
 pub returns-clause-meet_joins : goal.returns-clause-meet_joins
 returns-clause-meet_joins c = kept_meet_joins
+
+pub returns-clause-commits : goal.returns-clause-commits
+returns-clause-commits c = commits_are_steps
+
+pub returns-clause-go_on : goal.returns-clause-go_on
+returns-clause-go_on c = runs_go_on

@@ -33,6 +33,7 @@ impl World {
         ensures ok { OnOk result (self.new ≡ after self.old step.now) }
         ensures err { OnErr result (self.new ≡ self.old) }
         ensures not_allowed { result ≡ Err Refusal.NotAllowed → is_allowed self.old step.now ≡ false }
+        ensures no_memory { result ≡ Err Refusal.NoMemory → is_allowed self.old step.now ≡ true }
     {
         match *step {
             Step::Submit { client, job } => self.submit(client, job),
@@ -49,6 +50,7 @@ impl World {
         ensures ok { OnOk result (self.new ≡ after self.old (Submit client job)) }
         ensures err { OnErr result (self.new ≡ self.old) }
         ensures not_allowed { result ≡ Err Refusal.NotAllowed → is_allowed self.old (Submit client job) ≡ false }
+        ensures no_memory { result ≡ Err Refusal.NoMemory → is_allowed self.old (Submit client job) ≡ true }
     {
         let client = client as usize;
         if client >= self.sent.len() {
@@ -67,6 +69,7 @@ impl World {
         ensures ok { OnOk result (self.new ≡ after self.old (Fetch client)) }
         ensures err { OnErr result (self.new ≡ self.old) }
         ensures not_allowed { result ≡ Err Refusal.NotAllowed → is_allowed self.old (Fetch client) ≡ false }
+        ensures no_memory { result ≡ Err Refusal.NoMemory → is_allowed self.old (Fetch client) ≡ true }
     {
         let next = next_job(self.sent.as_slice(), self.fetched.as_slice(), client);
         let Some(job) = next else {
@@ -107,6 +110,7 @@ impl World {
         ensures ok { OnOk result (self.new ≡ after self.old (Take worker)) }
         ensures err { OnErr result (self.new ≡ self.old) }
         ensures not_allowed { result ≡ Err Refusal.NotAllowed → is_allowed self.old (Take worker) ≡ false }
+        ensures no_memory { result ≡ Err Refusal.NoMemory → is_allowed self.old (Take worker) ≡ true }
     {
         let worker = worker as usize;
         if worker >= self.hands.len()
@@ -126,6 +130,7 @@ impl World {
         ensures ok { OnOk result (self.new ≡ after self.old (Finish worker)) }
         ensures err { OnErr result (self.new ≡ self.old) }
         ensures not_allowed { result ≡ Err Refusal.NotAllowed → is_allowed self.old (Finish worker) ≡ false }
+        ensures no_memory { result ≡ Err Refusal.NoMemory → is_allowed self.old (Finish worker) ≡ true }
     {
         let worker = worker as usize;
         if worker >= self.hands.len() {
@@ -148,6 +153,7 @@ impl World {
         ensures ok { OnOk result (self.new ≡ after self.old Commit) }
         ensures err { OnErr result (self.new ≡ self.old) }
         ensures not_allowed { result ≡ Err Refusal.NotAllowed → is_allowed self.old Commit ≡ false }
+        ensures no_memory { result ≡ Err Refusal.NoMemory → is_allowed self.old Commit ≡ true }
     {
         let free = all_free(self.hands.as_slice());
         if self.committed == self.waves.len() || self.taken < self.tasks.len() || !free {

@@ -207,6 +207,157 @@ fn unknown_worker(rt: HostRuntime) -> Result<(), Fail> {
     }
 }
 
+/// A client sends a fill of 8 bytes.
+fn sent(client: u32, address: u64) -> Step {
+    Step::Submit {
+        client,
+        job: Job::fill(1, address, 8),
+    }
+}
+
+/// Checks that the last of the steps is not allowed, and that all before it are.
+fn expect_last_refused(rt: &impl Abort, alloc: Global, steps: &[Step]) -> Option<()> {
+    match world(alloc, 2)?.replay(alloc, steps) {
+        Ok(_) => None,
+        Err((world, fault)) => {
+            let last = steps.len().saturating_sub(1);
+            assert_eq!(rt; fault, StepFault::NotAllowed(last));
+            assert_eq!(rt; world.sent(2).len(), 0);
+            Some(())
+        }
+    }
+}
+
+/// Each cause for which a submit or a fetch is not allowed, but for 1,024 open jobs.
+#[test]
+fn submits_and_fetches_not_allowed(rt: HostRuntime) -> Result<(), Fail> {
+    let (first, second) = (sent(0, 0), sent(1, 8));
+    let (fetch, other) = (Step::Fetch { client: 0 }, Step::Fetch { client: 1 });
+    let (take, finish) = (Step::Take { worker: 0 }, Step::Finish { worker: 0 });
+    let (unknown_sent, unknown) = (sent(2, 0), Step::Fetch { client: 2 });
+    let full_hand = [first, second, fetch, take, other];
+    let finished = [first, second, fetch, take, finish, other];
+    expect_last_refused(&rt, rt.alloc(), &[unknown_sent]).ok_or("unknown client's job")?;
+    expect_last_refused(&rt, rt.alloc(), &[first, unknown]).ok_or("unknown client")?;
+    expect_last_refused(&rt, rt.alloc(), &[first, fetch, fetch]).ok_or("nothing sent")?;
+    expect_last_refused(&rt, rt.alloc(), &full_hand).ok_or("full hand")?;
+    expect_last_refused(&rt, rt.alloc(), &finished).ok_or("finished task")?;
+    Ok(())
+}
+
+/// Each cause for which a take, a finish or a commit is not allowed.
+#[test]
+fn work_not_allowed(rt: HostRuntime) -> Result<(), Fail> {
+    let (first, second) = (sent(0, 0), sent(1, 8));
+    let (fetch, other) = (Step::Fetch { client: 0 }, Step::Fetch { client: 1 });
+    let (take, finish) = (Step::Take { worker: 0 }, Step::Finish { worker: 0 });
+    let (second_take, unknown_take) = (Step::Take { worker: 1 }, Step::Take { worker: 2 });
+    let unknown_finish = Step::Finish { worker: 2 };
+    let commit = Step::Commit;
+    let full_hand = [first, second, fetch, other, take, take];
+    let all_committed = [first, fetch, take, finish, commit, commit];
+    expect_last_refused(&rt, rt.alloc(), &full_hand).ok_or("full hand")?;
+    expect_last_refused(&rt, rt.alloc(), &[take]).ok_or("nothing to do")?;
+    expect_last_refused(&rt, rt.alloc(), &[first, fetch, take, second_take]).ok_or("all taken")?;
+    expect_last_refused(&rt, rt.alloc(), &[first, fetch, unknown_take]).ok_or("unknown worker")?;
+    expect_last_refused(&rt, rt.alloc(), &[first, fetch, finish]).ok_or("empty hand")?;
+    expect_last_refused(&rt, rt.alloc(), &[first, fetch, take, unknown_finish]).ok_or("unknown")?;
+    expect_last_refused(&rt, rt.alloc(), &[first, fetch, commit]).ok_or("tasks to do")?;
+    expect_last_refused(&rt, rt.alloc(), &[first, fetch, take, commit]).ok_or("task in hand")?;
+    expect_last_refused(&rt, rt.alloc(), &[commit]).ok_or("no wave")?;
+    expect_last_refused(&rt, rt.alloc(), &all_committed).ok_or("no wave left")?;
+    Ok(())
+}
+
+/// 1,024 fetched jobs may be open, and no more until a wave is committed. They are refused, so they are one wave.
+#[test]
+fn fetch_with_1024_open(rt: HostRuntime) -> Result<(), Fail> {
+    let mut steps = Vec::new(rt.alloc());
+    let job = Job::fill(1, 0, 8).with_flags(0x01);
+    for _ in 0..1025 {
+        steps
+            .push(Step::Submit { client: 0, job })
+            .expect(&rt, "memory");
+    }
+    for _ in 0..1025 {
+        steps.push(Step::Fetch { client: 0 }).expect(&rt, "memory");
+    }
+    let world = world(rt.alloc(), 1).ok_or("no memory")?;
+    let Err((world, fault)) = world.replay(rt.alloc(), steps.as_slice()) else {
+        return Err("the step was taken".into());
+    };
+    assert_eq!(rt; fault, StepFault::NotAllowed(2049));
+    assert_eq!(rt; world.fetched().len(), 1024);
+    let more = [Step::Commit, Step::Fetch { client: 0 }];
+    let Ok(world) = world.replay(rt.alloc(), &more) else {
+        return Err("a step was refused".into());
+    };
+    assert_eq!(rt; world.fetched().len(), 1025);
+    Ok(())
+}
+
+/// A record of this status whose other fields are 0.
+fn bare(status: Status) -> Record {
+    Record {
+        status,
+        result: 0,
+        completed: 0,
+        fault: 0,
+        delta_size: 0,
+    }
+}
+
+/// Checks that the steps are allowed, and which of the fetched jobs are then answered, and how.
+fn expect_answers(
+    rt: &impl Abort,
+    alloc: Global,
+    steps: &[Step],
+    want: &[Option<Record>],
+) -> Option<()> {
+    let Ok(world) = world(alloc, 2)?.replay(alloc, steps) else {
+        return None;
+    };
+    assert_eq!(rt; world.fetched().len(), want.len());
+    for (entry, answer) in world.fetched().iter().zip(want) {
+        assert_eq!(rt; entry.answer, *answer);
+    }
+    Some(())
+}
+
+/// Refused jobs, and waves without tasks. Fence and transfer size break rules; a wave without tasks is committed at
+/// once; a refused job stands in the first wave.
+#[test]
+fn waves_of_refused_jobs(rt: HostRuntime) -> Result<(), Fail> {
+    let fenced = Step::Submit {
+        client: 1,
+        job: Job::fill(1, 0, 8).with_flags(0x01),
+    };
+    let long = Step::Submit {
+        client: 1,
+        job: Job::fill(1, 0, 1_048_577),
+    };
+    let idle = Step::Submit {
+        client: 0,
+        job: Job::no_op(),
+    };
+    let (fetch, other) = (Step::Fetch { client: 0 }, Step::Fetch { client: 1 });
+    let (take, finish) = (Step::Take { worker: 0 }, Step::Finish { worker: 0 });
+    let commit = Step::Commit;
+    let flags = Some(bare(Status::BadFlags));
+    let size = Some(bare(Status::BadSize));
+    let all = [fenced, long, other, other, commit];
+    expect_answers(&rt, rt.alloc(), &all, &[flags, size]).ok_or("all refused")?;
+    expect_last_refused(&rt, rt.alloc(), &[fenced, other, commit, commit]).ok_or("one wave")?;
+    let fill = sent(0, 0);
+    let beside = [
+        fill, fill, fenced, fetch, fetch, other, take, finish, commit,
+    ];
+    expect_answers(&rt, rt.alloc(), &beside, &[Some(FILLED), None, flags]).ok_or("one refused")?;
+    let nothing = Some(bare(Status::Success));
+    expect_answers(&rt, rt.alloc(), &[idle, fetch, commit], &[nothing]).ok_or("a no-op")?;
+    Ok(())
+}
+
 /// Checks that no world is made, and that the image comes back.
 fn expect_refused(
     rt: &impl Abort,

@@ -302,7 +302,7 @@ lasts_after start given clients w Commit old = record {
   memory = λ good. carried_kept w.settings.staging (wave_at w 0) (world_progress w) (old.memory good);
 }
 
-lasts_at_first : (start : Memory) (given : Settings) (clients : ℕ) → Lasts start given clients (new_world start given clients)
+pub lasts_at_first : (start : Memory) (given : Settings) (clients : ℕ) → Lasts start given clients (new_world start given clients)
 lasts_at_first start given clients = record {
   settings = refl;
   as_many_clients = length-replicate {A = List Job} clients [];
@@ -311,7 +311,7 @@ lasts_at_first start given clients = record {
 }
 
 -- what each allowed step keeps, a run keeps
-run_keeps : (Holds : World → Type 0) → ((w : World) (s : Step) → Holds w → is_allowed w s ≡ true → Holds (after w s)) → (w : World) (steps : List Step) → Holds w → Holds (run w steps).0
+pub run_keeps : (Holds : World → Type 0) → ((w : World) (s : Step) → Holds w → is_allowed w s ≡ true → Holds (after w s)) → (w : World) (steps : List Step) → Holds w → Holds (run w steps).0
 run_keeps Holds each w [] holds = holds
 run_keeps Holds each w (s ∷ steps) holds =
     let rest = run (after w s) steps in
@@ -323,7 +323,7 @@ run_keeps Holds each w (s ∷ steps) holds =
 pub stands_run : (start : Memory) (w : World) (steps : List Step) → Stands start w → Stands start (run w steps).0
 stands_run start w steps stands = run_keeps (Stands start) (stands_after start) w steps stands
 
-lasts_run : (start : Memory) (given : Settings) (clients : ℕ) (w : World) (steps : List Step) → Lasts start given clients w → Lasts start given clients (run w steps).0
+pub lasts_run : (start : Memory) (given : Settings) (clients : ℕ) (w : World) (steps : List Step) → Lasts start given clients w → Lasts start given clients (run w steps).0
 lasts_run start given clients w steps lasts =
     run_keeps (Lasts start given clients) (λ v s old allowed. lasts_after start given clients v s old) w steps lasts
 

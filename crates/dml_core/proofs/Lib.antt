@@ -4,6 +4,7 @@ pub mod FoldLemmas
 pub mod ImageLemmas
 pub mod OrderedLemmas
 pub mod KeepsLemmas
+pub mod WaveLemmas
 pub mod LoopLemmas
 pub mod PlanFacts
 pub mod StepFacts

@@ -99,9 +99,15 @@ done_below : (staging : ℕ) (start image : Memory) (fetched : List Fetched) (wa
 done_below staging start image fetched waves o i here =
     ltb-true i (length fetched) (picked_is_left (waits (jobs_of fetched) staging) o.done (all_below (length fetched)) i (done_picks staging start image fetched waves o) here)
 
-not_some : (answer : Option Record) (b : Bool) → is_some answer ≡ b → not b ≡ is_none answer
+pub not_some : (answer : Option Record) (b : Bool) → is_some answer ≡ b → not b ≡ is_none answer
 not_some None b same = ap not (sym same)
 not_some (Some r) b same = ap not (sym same)
+
+-- what the committed places leave is open
+pub left_is_open : (n : ℕ) (done : List ℕ) (opened : ℕ → Bool) → ((i : ℕ) → i < n → not (is_in i done) ≡ opened i) → (i : ℕ) → left_after (all_below n) done i ≡ (nat_lt i n && opened i)
+left_is_open n done opened same i =
+    left_after_is done (all_below n) i
+    ∙ ⊎_elim (λ below. ap (λ b. nat_lt i n && b) (same i below)) (λ past. ap (λ b. b && not (is_in i done)) (le-ltb i n past) ∙ sym (ap (λ b. b && opened i) (le-ltb i n past))) (cases_lt i n)
 
 -- one job more is fetched, and all that are not committed are planned anew
 pub ordered_after_fetch : (staging chunk : ℕ) (start image : Memory) (fetched : List Fetched) (waves : List (List ℕ)) (entry : Fetched) → entry.answer ≡ None → IsOrdered staging start image fetched waves → IsOrdered staging start image (fetched ++ entry ∷ []) (plan_of (fetched ++ entry ∷ []) staging chunk)
@@ -155,11 +161,6 @@ ordered_after_fetch staging chunk start image fetched waves entry fresh o =
     waits_by staging a b c d first second =
         ap (λ (x : Job). conflict (unless_refused staging x) (unless_refused staging c)) first
         ∙ ap (λ (x : Job). conflict (unless_refused staging b) (unless_refused staging x)) second
-
-    left_is_open : (n : ℕ) (done : List ℕ) (opened : ℕ → Bool) → ((i : ℕ) → i < n → not (is_in i done) ≡ opened i) → (i : ℕ) → left_after (all_below n) done i ≡ (nat_lt i n && opened i)
-    left_is_open n done opened same i =
-        left_after_is done (all_below n) i
-        ∙ ⊎_elim (λ below. ap (λ b. nat_lt i n && b) (same i below)) (λ past. ap (λ b. b && not (is_in i done)) (le-ltb i n past) ∙ sym (ap (λ b. b && opened i) (le-ltb i n past))) (cases_lt i n)
 
 pub jobs_of_blank : (fetched : List Fetched) → jobs_of (map blank fetched) ≡ jobs_of fetched
 jobs_of_blank [] = refl

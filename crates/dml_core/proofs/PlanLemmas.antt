@@ -37,11 +37,11 @@ idle_right job =
     ap (λ b. (b || any_shares (ranges_of writes job) []) || any_shares (ranges_of reads job) []) (none_right (ranges_of writes job))
     ∙ (ap (λ b. b || any_shares (ranges_of reads job) []) (none_right (ranges_of writes job)) ∙ none_right (ranges_of reads job))
 
-refused_left : (jobs : List Job) (staging i k : ℕ) → is_refused jobs staging i ≡ true → waits jobs staging i k ≡ false
+pub refused_left : (jobs : List Job) (staging i k : ℕ) → is_refused jobs staging i ≡ true → waits jobs staging i k ≡ false
 refused_left jobs staging i k refused =
     ap (λ b. conflict (cond b no_op_job (job_at jobs i)) (unless_refused staging (job_at jobs k))) refused
 
-refused_right : (jobs : List Job) (staging i k : ℕ) → is_refused jobs staging k ≡ true → waits jobs staging i k ≡ false
+pub refused_right : (jobs : List Job) (staging i k : ℕ) → is_refused jobs staging k ≡ true → waits jobs staging i k ≡ false
 refused_right jobs staging i k refused =
     ap (λ b. conflict (unless_refused staging (job_at jobs i)) (cond b no_op_job (job_at jobs k))) refused
     ∙ idle_right (unless_refused staging (job_at jobs i))
@@ -53,7 +53,7 @@ opened_below opened n i = nat_lt i n && opened i
 abbrev pub accepted_test : List Job → ℕ → (ℕ → Bool) → ℕ → Bool
 accepted_test jobs staging opened i = opened i && not (is_refused jobs staging i)
 
-accepted_is : (jobs : List Job) (staging : ℕ) (opened : ℕ → Bool) (n : ℕ) → accepted_places jobs staging (filter opened (range_with_len 0 n)) ≡ filter (accepted_test jobs staging opened) (range_with_len 0 n)
+pub accepted_is : (jobs : List Job) (staging : ℕ) (opened : ℕ → Bool) (n : ℕ) → accepted_places jobs staging (filter opened (range_with_len 0 n)) ≡ filter (accepted_test jobs staging opened) (range_with_len 0 n)
 accepted_is jobs staging opened n = filter_twice (λ i. not (is_refused jobs staging i)) opened (range_with_len 0 n)
 
 -- the places that are left after the first wave and its refused ones

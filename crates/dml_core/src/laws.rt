@@ -1,6 +1,7 @@
 ghost use Rattle.dml_core.specs.Joins.{CommitsAreSteps, KeptMeetJoins};
 ghost use Rattle.dml_core.specs.Laws.{CoreKeeps, EachHasItsValues, KeptJoinToStep, OnlyCommitWrites, RunsGoOn, SentIsSubmitted};
 ghost use Rattle.dml_core.specs.Rounds.{RoundHasRun, RoundsHaveRuns};
+ghost use Rattle.dml_core.specs.Waves.{OneWave, WavesStand};
 
 /// The law of the core, for every list of steps by any number of clients and workers.
 ///
@@ -11,6 +12,9 @@ ghost use Rattle.dml_core.specs.Rounds.{RoundHasRun, RoundsHaveRuns};
 /// pieces that carry them are what the joins of `dml_effect` ask for, and any other such join gives the same. Clause
 /// `commits` says so after every list of allowed steps, and asks nothing of the world that they reach. Two lists of
 /// steps, one run after the other, are one.
+///
+/// Each job that is not committed stands in the waves once, and of two that conflict the earlier in an earlier wave.
+/// Where no two conflict and all fit together, they are one wave.
 pub fn law_of_core()
     ensures keeps { CoreKeeps }
     ensures sent { SentIsSubmitted }
@@ -20,6 +24,8 @@ pub fn law_of_core()
     ensures joined { KeptJoinToStep }
     ensures commits { CommitsAreSteps }
     ensures go_on { RunsGoOn }
+    ensures waves { WavesStand }
+    ensures one_wave { OneWave }
 {}
 
 /// The law of rounds: the steps of any rounds, one after another, are allowed. Each job of a round is sent and fetched,

@@ -1,14 +1,16 @@
 -- Looks at both ends of rings, and what they show of the log.
-use Rattle.std.proofs.Common.{◌≡◌, ℕ, ◌+◌, ◌<◌, ◌≤◌, List, [], ◌∷◌, ◌++◌, length, get_or, set, take, drop, refl, sym, ◌∙◌, ap, subst, arith, rules, append_assoc, ⊎_elim}
+use Rattle.std.proofs.Common.{suc, ◌≡◌, ℕ, ◌+◌, ◌<◌, ◌≤◌, List, [], ◌∷◌, ◌++◌, length, get_or, set, take, drop, refl, sym, ◌∙◌, ap, subst, arith, rules, append_assoc, ⊎_elim}
 use Rattle.std.proofs.lemmas.Bool.{cases_eq}
 use Rattle.std.proofs.lemmas.List.{append-nil, get_or-set_same, get_or-set_other, get_or_default, length-append, length-set, map-append, take-append-drop}
+use Rattle.std.specs.Prelude.{◌||◌, ◌&&◌, nat_eq}
+use Rattle.std.specs.List.{list_all, range_with_len}
 use mathlib.Core.List.{IsPrefix}
 use Rattle.rtrb.specs.Ring.{received, sent}
 use Rattle.dml_portal.specs.Types.{LogEntry}
 use Rattle.dml_portal.specs.Log.{answers_in, jobs_in, part_of}
 use Rattle.dml_portal.specs.Seats.{IsSameSeat, polled, submitted}
 use Rattle.dml_portal.specs.Lanes.{ArePopped, ArePushed, AreSameLanes, IsAcross, IsSameLane, IsSeatOf, waiting}
-use Rattle.dml_portal.specs.Settled.{AreSeatsOf, AreUnusedLanes, AreUnusedSeats, EachDone, HasJobsLeft, IsDrained, IsLeft, IsSettled, IsUnusedLane, IsUnusedSeat}
+use Rattle.dml_portal.specs.Settled.{AreSeatsOf, AreUnusedLanes, AreUnusedSeats, EachDone, HasJobsLeft, IsDrained, IsLeft, IsSettled, IsUnusedLane, IsUnusedSeat, has_finished, have_finished}
 use Rattle.dml_portal.specs.declared.lanes.Lane.{Lane}
 use Rattle.dml_portal.specs.declared.seats.Done.{Done}
 use Rattle.dml_portal.specs.declared.seats.Seat.{Seat}
@@ -222,6 +224,27 @@ unused_seats_again dones = (
       subst (λ (d : Done). IsUnusedSeat d.seat mine.seat) (get_or_default dones place done mine below)
       (same_seat_again mine.seat, refl, refl),
 )
+
+-- the same seats are of the same clients
+has_finished_same : (client : ℕ) (dones now : List Done) → AreUnusedSeats dones now → has_finished client now ≡ has_finished client dones
+has_finished_same client [] [] unused = refl
+has_finished_same client [] (next ∷ now) unused = absurd (omega (arith, unused.0))
+has_finished_same client (done ∷ dones) [] unused = absurd (omega (arith, unused.0))
+has_finished_same client (done ∷ dones) (next ∷ now) unused =
+    let first : IsUnusedSeat done.seat next.seat = unused.1 0 next (omega arith) in
+    let rest : AreUnusedSeats dones now = (omega (arith, unused.0), λ place d below. unused.1 (suc place) d (omega (arith, below))) in
+    ap (λ n. nat_eq n client || has_finished client now) first.0.0
+    ∙ ap (λ found. nat_eq done.seat.client client || found) (has_finished_same client dones now rest)
+
+each_finished_same : (clients : List ℕ) (dones now : List Done) → AreUnusedSeats dones now → list_all (λ client. has_finished client now) clients ≡ list_all (λ client. has_finished client dones) clients
+each_finished_same [] dones now unused = refl
+each_finished_same (client ∷ clients) dones now unused =
+    ap (λ found. found && list_all (λ c. has_finished c now) clients) (has_finished_same client dones now unused)
+    ∙ ap (λ all. has_finished client dones && all) (each_finished_same clients dones now unused)
+
+pub finished_same : (clients here : ℕ) (dones now : List Done) → here ≡ clients → AreUnusedSeats dones now → have_finished here now ≡ have_finished clients dones
+finished_same clients here dones now same unused =
+    ap (λ n. have_finished n now) same ∙ each_finished_same (range_with_len 0 clients) dones now unused
 
 -- what is known of the seats as they are is known of them as they were handed in
 pub all_settled : (log : List LogEntry) (dones now : List Done) → AreUnusedSeats dones now → EachDone (IsSettled log) now → EachDone (IsSettled log) dones

@@ -84,6 +84,7 @@ pub record Grown (settings : Settings) (clients : ℕ) (before : Memory) (log : 
   pub answers : answers_in entries ≡ records_of before (jobs_in entries) settings.staging
   pub sent : all_sent rounds ≡ map sent_for entries
   pub each : All (IsRound clients) rounds
+  pub fetched : All (IsFetched clients) rounds
 
 pub grown_none : (settings : Settings) (clients : ℕ) (before : Memory) (log : List LogEntry) → Grown settings clients before log before log
 grown_none settings clients before log =
@@ -95,6 +96,7 @@ grown_none settings clients before log =
       answers = refl;
       sent = refl;
       each = All-nil (IsRound clients);
+      fetched = All-nil (IsFetched clients);
     }
 
 abbrev pub ImageInParts : Type 0
@@ -108,14 +110,15 @@ RecordsInParts =
     → records_of memory (jobs ++ more) staging
     ≡ records_of memory jobs staging ++ records_of (memory_after memory jobs staging) more staging
 
-pub grown_more : ImageInParts → RecordsInParts → (settings : Settings) (clients : ℕ) (before : Memory) (log : List LogEntry) (image : Memory) (now : List LogEntry) (after : Memory) (then_log : List LogEntry) → Grown settings clients before log image now → take (length now) then_log ≡ now → after ≡ memory_after image (jobs_in (added now then_log)) settings.staging → answers_in (added now then_log) ≡ records_of image (jobs_in (added now then_log)) settings.staging → IsRound clients (map sent_for (added now then_log)) → Grown settings clients before log after then_log
-grown_more image_parts record_parts settings clients before log image now after then_log grown front next_image next_answers round =
+-- rounds behind these
+pub grown_more : ImageInParts → RecordsInParts → (settings : Settings) (clients : ℕ) (before : Memory) (log : List LogEntry) (image : Memory) (now : List LogEntry) (after : Memory) (then_log : List LogEntry) (rounds : List (List Sent)) → Grown settings clients before log image now → take (length now) then_log ≡ now → after ≡ memory_after image (jobs_in (added now then_log)) settings.staging → answers_in (added now then_log) ≡ records_of image (jobs_in (added now then_log)) settings.staging → all_sent rounds ≡ map sent_for (added now then_log) → All (IsRound clients) rounds → All (IsFetched clients) rounds → Grown settings clients before log after then_log
+grown_more image_parts record_parts settings clients before log image now after then_log rounds grown front next_image next_answers sent each fetched =
     let more : List LogEntry = added now then_log in
     let staging : ℕ = settings.staging in
     let jobs : List Job = jobs_in grown.entries in
     record {
       entries = grown.entries ++ more;
-      rounds = grown.rounds ++ map sent_for more ∷ [];
+      rounds = grown.rounds ++ rounds;
       whole = whole_is now then_log front ∙ (ap (λ xs. xs ++ more) grown.whole ∙ append_assoc log grown.entries more);
       image =
           next_image
@@ -130,13 +133,11 @@ grown_more image_parts record_parts settings clients before log image now after 
           ∙ (sym (record_parts before jobs (jobs_in more) staging)
           ∙ ap (λ js. records_of before js staging) (sym (jobs_append grown.entries more))))));
       sent =
-          flat_map-append (λ (list : List Sent). list) grown.rounds (map sent_for more ∷ [])
-          ∙ (ap (λ xs. xs ++ (map sent_for more ++ [])) grown.sent
-          ∙ (ap (λ xs. map sent_for grown.entries ++ xs) (append-nil (map sent_for more))
-          ∙ sym (map-append sent_for grown.entries more)));
-      each =
-          All-append (IsRound clients) grown.rounds (map sent_for more ∷ []) grown.each
-          (All-cons (IsRound clients) (map sent_for more) [] round (All-nil (IsRound clients)));
+          flat_map-append (λ (list : List Sent). list) grown.rounds rounds
+          ∙ (ap (λ xs. xs ++ all_sent rounds) grown.sent
+          ∙ (ap (λ xs. map sent_for grown.entries ++ xs) sent ∙ sym (map-append sent_for grown.entries more)));
+      each = All-append (IsRound clients) grown.rounds rounds grown.each each;
+      fetched = All-append (IsFetched clients) grown.rounds rounds grown.fetched fetched;
     }
 
 -- a look at the rings and a round behind it
@@ -145,13 +146,15 @@ grown_round image_parts record_parts settings clients before log image looked af
     let more : List LogEntry = added seen then_log in
     let short : length (map sent_for more) ≤ 1024 = omega (arith, length-map more sent_for, most, few) in
     let staging : these.staging ≡ settings.staging = ap (λ (s : Settings). s.staging) is_settings in
-    grown_more image_parts record_parts settings clients before log looked seen after then_log
+    grown_more image_parts record_parts settings clients before log looked seen after then_log (map sent_for more ∷ [])
     (subst (λ m. Grown settings clients before log m seen) (sym is_image)
     (subst (Grown settings clients before log image) (sym is_log) grown))
     front
     (next_image ∙ ap (λ n. memory_after looked (jobs_in more) n) staging)
     (next_answers ∙ ap (λ n. records_of looked (jobs_in more) n) staging)
-    (subst (λ n. IsRound n (map sent_for more)) is_clients (is_round lanes more fetched short))
+    (append-nil (map sent_for more))
+    (All-cons (IsRound clients) (map sent_for more) [] (subst (λ n. IsRound n (map sent_for more)) is_clients (is_round lanes more fetched short)) (All-nil (IsRound clients)))
+    (All-cons (IsFetched clients) (map sent_for more) [] (subst (λ n. IsFetched n (map sent_for more)) is_clients fetched) (All-nil (IsFetched clients)))
 
 pub grown_still : (settings : Settings) (clients : ℕ) (before : Memory) (log : List LogEntry) (image looked : Memory) (now seen : List LogEntry) → Grown settings clients before log image now → looked ≡ image → seen ≡ now → Grown settings clients before log looked seen
 grown_still settings clients before log image looked now seen grown is_image is_log =
@@ -165,6 +168,8 @@ rounds_served law settings clients before log after now workers whole grown =
     record {
       rounds = grown.rounds;
       each = grown.each;
+      fetched = grown.fetched;
+      sent = grown.sent;
       run =
           subst (λ m. HasRun settings clients before m steps (map fetched_for grown.entries))
           (image_path before after grown.entries settings.staging grown.image)
@@ -190,6 +195,23 @@ exits law settings clients before log after now workers whole grown =
       answers = subst (λ es. answers_in es ≡ records_of before (jobs_in es) settings.staging) is grown.answers;
       steps = subst (RoundsHaveServed settings clients before after) is (rounds_served law settings clients before log after now workers whole grown);
     }
+
+-- a settlement behind a settlement
+pub settled_again : ImageInParts → RecordsInParts → RoundsHaveRuns → (settings : Settings) (clients : ℕ) (before : Memory) (log : List LogEntry) (image : Memory) (now : List LogEntry) (after : Memory) (then_log : List LogEntry) → 1 ≤ settings.workers → IsWhole before → Exits settings clients before log image now → Exits settings clients image now after then_log → Exits settings clients before log after then_log
+settled_again image_parts record_parts law settings clients before log image now after then_log workers whole first next =
+    exits law settings clients before log after then_log workers whole
+    (grown_more image_parts record_parts settings clients before log image now after then_log next.steps.rounds
+    (record {
+      entries = added log now;
+      rounds = first.steps.rounds;
+      whole = whole_is log now first.earlier;
+      image = first.image;
+      answers = first.answers;
+      sent = first.steps.sent;
+      each = first.steps.each;
+      fetched = first.steps.fetched;
+    })
+    next.earlier next.image next.answers next.steps.sent next.steps.each next.steps.fetched)
 
 -- what a round left, of the entries as they are found in the log
 pub record RoundLeft (settings : Settings) (clients : ℕ) (before : Memory) (log : List LogEntry) (after : Memory) (now : List LogEntry) : Type 0 where

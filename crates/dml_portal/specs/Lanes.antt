@@ -73,4 +73,9 @@ IsSeatOf lanes seat =
 
 -- of whose rings nothing was used
 abbrev pub IsNewLane : Lane → Type 0
-IsNewLane lane = (received lane.jobs ≡ []) × (sent lane.records ≡ []) × (lane.answered ≡ 0)
+IsNewLane lane =
+    (received lane.jobs ≡ [])
+    × (sent lane.records ≡ [])
+    × (lane.answered ≡ 0)
+    × (lane.before ≡ 0)
+    × (lane.fetched ≡ 0)

@@ -1,8 +1,8 @@
 -- What rounds fetch and leave.
-use Rattle.std.specs.Prelude.{ℕ, ◌<◌, ◌≤◌, List, [], ◌∷◌, filter, length, map, nat_eq}
+use Rattle.std.specs.Prelude.{◌≡◌, ℕ, ◌<◌, ◌≤◌, List, [], ◌∷◌, filter, length, map, nat_eq}
 use Rattle.std.specs.List.{All}
 use Rattle.dml_types.specs.Memory.{Memory}
-use Rattle.dml_core.specs.Rounds.{HasRun, IsRound, Sent, round_steps, rounds_steps}
+use Rattle.dml_core.specs.Rounds.{HasRun, IsRound, Sent, all_sent, round_steps, rounds_steps}
 use Rattle.dml_portal.specs.Types.{LogEntry, Settings}
 use Rattle.dml_portal.specs.Log.{fetched_for, sent_for}
 
@@ -23,9 +23,11 @@ abbrev pub RoundHasServed : Settings → ℕ → Memory → Memory → List LogE
 RoundHasServed settings clients before after entries =
     HasRun settings clients before after (round_steps settings [] (map sent_for entries)) (map fetched_for entries)
 
--- the steps of some rounds do, one after another
+-- the steps of some rounds do, one after another: each is what a round fetches, and together they are these entries
 pub record RoundsHaveServed (settings : Settings) (clients : ℕ) (before after : Memory) (entries : List LogEntry)
     : Type 0 where
   pub rounds : List (List Sent)
   pub each : All (IsRound clients) rounds
+  pub fetched : All (IsFetched clients) rounds
+  pub sent : all_sent rounds ≡ map sent_for entries
   pub run : HasRun settings clients before after (rounds_steps settings [] rounds) (map fetched_for entries)

@@ -22,6 +22,7 @@ pub struct Done {
 
 impl Seat {
     ghost use Rattle.std.specs.Prelude.{◌≡◌, ◌<◌, [], ◌∷◌, ◌++◌, IfErr, IsOk, IsSome, MatchOption, OnOk, length};
+    ghost use mathlib.Core.List.{IsPrefix};
     ghost use Rattle.rtrb.specs.Ring.{known_free, producer_capacity, received, sent};
     ghost use Rattle.dml_portal.specs.Seats.{IsSameSeat, client_of, known_records, polled, room_of, seat_of, submitted};
 
@@ -54,6 +55,7 @@ impl Seat {
         ensures unchanged { IfErr result (λ _. submitted self.new ≡ submitted self.old) }
         ensures has_room { length (submitted self.old) < room_of self.old → IsOk result }
         ensures polled { polled self.new ≡ polled self.old }
+        ensures known { known_records self.new ≡ known_records self.old }
         ensures same { IsSameSeat self.old self.new }
     {
         match self.jobs.push(job) {
@@ -67,6 +69,7 @@ impl Seat {
     pub fn poll(&mut self) -> Option<Record>
         ensures polled { MatchOption result (polled self.new ≡ polled self.old) (λ answer. polled self.new ≡ polled self.old ++ answer ∷ []) }
         ensures found { 0 < length (known_records self.old) → IsSome result }
+        ensures known { MatchOption result (known_records self.new ≡ []) (λ answer. IsPrefix (known_records self.old) (answer ∷ known_records self.new)) }
         ensures submitted { submitted self.new ≡ submitted self.old }
         ensures same { IsSameSeat self.old self.new }
     {

@@ -98,7 +98,8 @@ impl<G: Gate + Sync> Server<G> {
     /// have room; the others wait in the log.
     ///
     /// # Errors
-    /// `NoMemory` where there is no room for a whole round; then nothing was fetched.
+    /// `NoMemory` where there is no room for a whole round; then nothing was fetched. Records that waited may have been
+    /// pushed to the clients.
     pub fn serve_round<R: Threads + Wait + Sync>(
         &mut self,
         rt: &R,

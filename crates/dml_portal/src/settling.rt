@@ -17,7 +17,9 @@ use std::thread::Threads;
 /// What a portal leaves: the engine's image, and the log of all that was carried out.
 #[derive(Drop)]
 pub struct Settled {
+    /// The image behind all jobs of the log.
     pub image: Image<'static>,
+    /// Every job that was carried out, with its client and its record.
     pub log: Log,
 }
 
@@ -61,7 +63,7 @@ impl<G: Gate + Sync> Server<G> {
     ghost use Rattle.std.specs.Prelude.{OnErr, OnOk, length, take};
     ghost use Rattle.dml_types.specs.Step.{memory_after, records_of};
     ghost use Rattle.dml_portal.specs.Log.{added, answers_in, jobs_in};
-    ghost use Rattle.dml_portal.specs.Lanes.{AreAnswered};
+    ghost use Rattle.dml_portal.specs.Lanes.{AreAnswered, AreSameLanes};
     ghost use Rattle.dml_portal.specs.Served.{RoundsHaveServed};
     ghost use Rattle.dml_portal.specs.Settled.{AreSeatsOf, AreUnusedSeats, EachDone, IsSettled};
 
@@ -82,6 +84,7 @@ impl<G: Gate + Sync> Server<G> {
         ensures steps { RoundsHaveServed self.old.engine.settings (length self.old.lanes.items) self.old.engine.image self.new.engine.image (added self.old.log.items self.new.log.items) }
         ensures answered { OnErr result (AreAnswered self.new.lanes.items self.new.log.items) }
         ensures settings { self.new.engine.settings ≡ self.old.engine.settings }
+        ensures same { AreSameLanes self.old.lanes.items self.new.lanes.items }
         ensures seats { AreSeatsOf self.new.lanes.items dones.new.items }
         ensures unused { AreUnusedSeats dones.old.items dones.new.items }
     {
@@ -99,18 +102,19 @@ impl<G: Gate + Sync + Drop> Server<G> {
     ghost use Rattle.std.specs.Prelude.{◌↔◌, false, true, IfErr, IfOk, OnOk, length, take};
     ghost use Rattle.dml_types.specs.Step.{memory_after, records_of};
     ghost use Rattle.dml_portal.specs.Log.{added, answers_in, jobs_in};
-    ghost use Rattle.dml_portal.specs.Lanes.{AreAnswered};
+    ghost use Rattle.dml_portal.specs.Lanes.{AreAnswered, AreSameLanes};
     ghost use Rattle.dml_portal.specs.Served.{RoundsHaveServed};
     ghost use Rattle.dml_portal.specs.Servers.{clients_of, image_of, lanes_of, log_of, settings_of};
     ghost use Rattle.dml_portal.specs.Settled.{AreSeatsOf, AreUnusedSeats, EachDone, IsSettled, have_finished};
 
     /// Serves rounds until the ring of each client is known to be empty, its seat being handed in, and gives the image and
-    /// the log.
+    /// the log. Each seat that is handed in has to be one of this portal. Of each, the client's part of the log is then what
+    /// the seat submitted, in that order, and what it polled is a front of that part's records.
     ///
     /// # Errors
     /// `Strangers` where there is a client whose seat is not among those handed in; nothing is changed then. `NoMemory`
-    /// where there is no room for a round; the rounds before it are served. Both hand the server and the seats back, and
-    /// it may be settled again.
+    /// where there is no room for a round; the rounds before it are served. Both hand the same server and the same seats
+    /// back, and it may be settled again, with the same promise.
     pub fn settle<R: Threads + Wait + Sync>(
         self,
         rt: &R,
@@ -136,6 +140,8 @@ impl<G: Gate + Sync + Drop> Server<G> {
         ensures kept_steps { IfErr result (λ kept. RoundsHaveServed (settings_of self.entry) (clients_of self.entry) (image_of self.entry) (image_of kept.0) (added (log_of self.entry) (log_of kept.0))) }
         ensures kept_answered { IfErr result (λ kept. kept.2 ≡ SettleFault.NoMemory → AreAnswered (lanes_of kept.0) (log_of kept.0)) }
         ensures kept_settings { IfErr result (λ kept. settings_of kept.0 ≡ settings_of self.entry) }
+        ensures kept_lanes { IfErr result (λ kept. AreSameLanes (lanes_of self.entry) (lanes_of kept.0)) }
+        ensures kept_finished { IfErr result (λ kept. have_finished (clients_of kept.0) kept.1.items ≡ have_finished (clients_of self.entry) dones.items) }
         ensures kept_seats { IfErr result (λ kept. AreSeatsOf (lanes_of kept.0) kept.1.items × AreUnusedSeats dones.items kept.1.items) }
     {
         let mut server = self;

@@ -48,6 +48,13 @@ returns-in_err-serve_round-clause-steps g c =
     c.is_drained.new.self.few round.earlier round.image round.answers round.fetched round.most) in
     left.steps
 
+pub returns-in_err-serve_round-clause-same : goal.returns-in_err-serve_round-clause-same
+returns-in_err-serve_round-clause-same g c =
+    let start = c.args.self.now.lanes.items in
+    let looked = c.is_drained.new.self.lanes.items in
+    same_lanes start looked c.serve_round.new.self.lanes.items
+    (same_lanes start c.loop-alloc.self.lanes.items looked c.loop-alloc.invariant.2 c.is_drained.ensures.same) c.serve_round.ensures.same
+
 pub returns-in_err-serve_round-clause-unused : goal.returns-in_err-serve_round-clause-unused
 returns-in_err-serve_round-clause-unused g c =
     unused_seats c.args.dones.now.items c.loop-alloc.dones.items c.is_drained.new.dones.items c.loop-alloc.invariant.4 c.is_drained.ensures.unused
@@ -62,6 +69,10 @@ returns-clause-steps g c =
     (grown_still start.engine.settings (length start.lanes.items) start.engine.image start.log.items c.loop-alloc.self.engine.image c.is_drained.new.self.engine.image
     c.loop-alloc.self.log.items c.is_drained.new.self.log.items before.0 (ap (λ engine. engine.image) looked.engine) looked.log) in
     left.steps
+
+pub returns-clause-same : goal.returns-clause-same
+returns-clause-same g c =
+    same_lanes c.args.self.now.lanes.items c.loop-alloc.self.lanes.items c.is_drained.new.self.lanes.items c.loop-alloc.invariant.2 c.is_drained.ensures.same
 
 pub returns-clause-unused : goal.returns-clause-unused
 returns-clause-unused g c =

@@ -148,11 +148,43 @@ fn served<R: Abort + Threads + Wait + Sync>(
     server
 }
 
-/// What was polled is a front of the client's records.
-fn expect_front(rt: &impl Abort, polled: &[Record], log: &[LogEntry], client: u32) {
-    let mut part = log.iter().filter(|entry| entry.client == client);
-    for record in polled {
-        assert_eq!(rt; part.next().map(|entry| entry.answer), Some(*record));
+/// The seat polls what is left: behind what was polled, the records of this list and no more.
+fn polled_to_the_end(rt: &impl Abort, seat: Seat, polled: &[Record], list: &[(Job, Record)]) -> Seat
+    ensures { IsSameSeat seat result }
+{
+    let mut seat = seat;
+    let mut earlier = polled.iter();
+    for (_, answer) in list {
+        let next = match earlier.next() {
+            Some(record) => Some(*record),
+            None => seat.poll(),
+        };
+        assert_eq!(rt; next, Some(*answer));
+    }
+    assert!(rt; earlier.next().is_none());
+    assert_eq!(rt; seat.poll(), None);
+    seat
+}
+
+/// One more round, behind which both clients poll what is left.
+fn expect_all_polled<R: Abort + Threads + Wait + Sync>(
+    rt: &R,
+    alloc: Global,
+    portal: Two,
+    of_first: &[Record],
+    of_second: &[Record],
+) -> Two {
+    let mut portal = portal;
+    assert!(rt; portal.serve(rt, alloc).is_ok());
+    let Two {
+        server,
+        first,
+        second,
+    } = portal;
+    Two {
+        server,
+        first: polled_to_the_end(rt, first, of_first, &first_list()),
+        second: polled_to_the_end(rt, second, of_second, &second_list()),
     }
 }
 
@@ -207,16 +239,17 @@ fn polled_while_served<R: Abort + Threads + Wait + Sync>(
     (portal, of_first, of_second)
 }
 
-/// Two clients poll on threads of their own while a third thread serves.
+/// Two clients poll on threads of their own while a third thread serves. The rings hold all their records, so in the end
+/// each client has polled all of its own.
 #[test]
 fn polls_while_serving(rt: HostRuntime) -> Result<(), Fail> {
     for _ in 0..10 {
         let portal = portal_of_two(rt.alloc()).ok_or("no memory")?;
         let (portal, of_first, of_second) = polled_while_served(&rt, rt.alloc(), portal);
+        let (of_first, of_second) = (of_first.as_slice(), of_second.as_slice());
+        let portal = expect_all_polled(&rt, rt.alloc(), portal, of_first, of_second);
         let settled = portal.settle(&rt, rt.alloc()).ok_or("not settled")?;
         expect_settled(&rt, &settled);
-        expect_front(&rt, of_first.as_slice(), settled.log.list.as_slice(), 0);
-        expect_front(&rt, of_second.as_slice(), settled.log.list.as_slice(), 1);
     }
     Ok(())
 }

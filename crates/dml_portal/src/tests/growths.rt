@@ -2,9 +2,9 @@
 ghost use Rattle.std.specs.Prelude.{IfSome};
 ghost use Rattle.dml_portal.specs.Settled.{AreSeatsOf};
 
-use super::portals::Two;
+use super::portals::{One, Two};
 use super::{done, engine};
-use crate::{Done, Portal, PortalError, Seat, Server, SettleFault};
+use crate::{Done, LogEntry, Portal, PortalError, Seat, Server, SettleFault};
 use dml_engine::Engine;
 use dml_pool::Free;
 use dml_types::{Job, Record};
@@ -201,6 +201,54 @@ fn refused_settle(rt: HostRuntime) -> Result<(), Fail> {
     }
     for (addr, byte) in [(0, 1), (15, 1), (16, 0), (64, 2), (71, 2), (72, 0)] {
         assert_eq!(rt; settled.image.byte(addr), Some(byte), "{addr}");
+    }
+    Ok(())
+}
+
+/// A portal whose one client has submitted 130 jobs, more than a round fetches, and has finished.
+fn finished_with_more(alloc: Global) -> Option<(Server<Free>, Vec<Done>)>
+    ensures { IfSome result (λ portal. AreSeatsOf portal.0.lanes.items portal.1.items) }
+{
+    let mut portal = One::open(alloc, 200)?;
+    for _ in 0..130 {
+        portal.submit(Job::no_op()).ok()?;
+    }
+    let One { server, seat } = portal;
+    let dones = vec![in alloc; seat.finish()].ok()?;
+    Some((server, dones))
+}
+
+/// What `refused_second_round_of_settle` does before its call.
+#[test]
+fn set_up_of_second_round_of_settle(rt: HostRuntime) -> Result<(), Fail> {
+    let (server, dones) = finished_with_more(rt.alloc()).ok_or("no memory")?;
+    assert_eq!(rt; (server.log.len(), dones.len()), (0, 1));
+    Ok(())
+}
+
+/// The whole log, or the portal behind the rounds that were served, which gives the whole log when it is settled again.
+#[test]
+fn refused_second_round_of_settle(rt: HostRuntime) -> Result<(), Fail> {
+    let (server, dones) = finished_with_more(rt.alloc()).ok_or("no memory")?;
+    let settled = match server.settle(&rt, rt.alloc(), dones) {
+        Ok(settled) => settled,
+        Err((server, dones, fault)) => {
+            assert_eq!(rt; fault, SettleFault::NoMemory);
+            let served = server.log.len();
+            assert!(rt; served == 0 || served == 128, "{served} jobs");
+            assert_eq!(rt; dones.len(), 1);
+            let settled = server.settle(&rt, rt.alloc(), dones);
+            settled.map_err(|(_, _, fault)| fault)?
+        }
+    };
+    assert_eq!(rt; settled.log.list.len(), 130);
+    for entry in &settled.log.list {
+        let wanted = LogEntry {
+            client: 0,
+            job: Job::no_op(),
+            answer: done(0),
+        };
+        assert_eq!(rt; *entry, wanted);
     }
     Ok(())
 }

@@ -327,7 +327,7 @@ fn expect_answers(
 /// Refused jobs, and waves without tasks. Fence and transfer size break rules; a wave without tasks is committed at
 /// once; a refused job stands in the first wave.
 #[test]
-fn waves_of_refused_jobs(rt: HostRuntime) -> Result<(), Fail> {
+fn waves_of_idle_jobs(rt: HostRuntime) -> Result<(), Fail> {
     let fenced = Step::Submit {
         client: 1,
         job: Job::fill(1, 0, 8).with_flags(0x01),

@@ -3,11 +3,11 @@ use Rattle.std.proofs.Common.{◌≡◌, ℕ, ◌+◌, ◌<◌, ◌≤◌, suc, 
 use Rattle.std.proofs.lemmas.List.{drop_more, length-take-le, take-append-drop, take_more, take_all}
 use Rattle.std.proofs.lemmas.Option.{slice_get-get_or}
 use Rattle.std.specs.Prelude.{IfSome, option_map}
-use Rattle.dml_core.specs.declared.errors.StepFault.TheVariants.{NoMemory}
+use Rattle.dml_core.specs.declared.errors.StepFault.TheVariants.{NotAllowed, NoMemory}
 use Rattle.dml_core.specs.Types.{Step}
 use Rattle.dml_core.specs.World.{World, is_allowed, after, run, Reaches}
 use Rattle.dml_core.specs.Laws.{RunsGoOn}
-use Rattle.dml_core.specs.Replay.{StopsAt}
+use Rattle.dml_core.specs.Replay.{StopsAt, may_grow}
 use Rattle.dml_core.proofs.KeepsLemmas.{reaches_next}
 
 abbrev Run : Type 0
@@ -80,10 +80,16 @@ replay_stop w world same steps i d below before is refused =
 pub replay_done : (w world : World) (steps : List Step) (i : ℕ) → length steps ≤ i → Reaches w (take i steps) world → Reaches w steps world
 replay_done w world steps i past before = subst (λ (list : List Step). Reaches w list world) (take_all i steps past) before
 
-pub replay_memory : (w world same : World) (steps : List Step) (i : ℕ) (d : Step) → i < length steps → Reaches w (take i steps) world → same ≡ world → is_allowed world (get_or steps i d) ≡ true → StopsAt w steps same (NoMemory i)
-replay_memory w world same steps i d below before is allowed =
+pub replay_refused : (w world same : World) (steps : List Step) (i : ℕ) (d : Step) → i < length steps → Reaches w (take i steps) world → same ≡ world → is_allowed world (get_or steps i d) ≡ false → StopsAt w steps same (NotAllowed i)
+replay_refused w world same steps i d below before is refused =
+    let stops : StopsAt w steps world (NotAllowed i) =
+    (below, before, subst (λ (s : Option Step). IfSome s (λ x. is_allowed world x ≡ false)) (sym (slice_get-get_or steps i d below)) refused, replay_stop w world world steps i d below before refl refused) in
+    subst (λ (x : World). StopsAt w steps x (NotAllowed i)) (sym is) stops
+
+pub replay_memory : (w world same : World) (steps : List Step) (i : ℕ) (d : Step) → i < length steps → Reaches w (take i steps) world → same ≡ world → is_allowed world (get_or steps i d) ≡ true → may_grow (get_or steps i d) ≡ true → StopsAt w steps same (NoMemory i)
+replay_memory w world same steps i d below before is allowed grows =
     let stops : StopsAt w steps world (NoMemory i) =
-    (below, before, subst (λ (s : Option Step). IfSome s (λ x. is_allowed world x ≡ true)) (sym (slice_get-get_or steps i d below)) allowed) in
+    (below, before, subst (λ (s : Option Step). IfSome s (λ x. (is_allowed world x ≡ true) × (may_grow x ≡ true))) (sym (slice_get-get_or steps i d below)) (allowed, grows)) in
     subst (λ (x : World). StopsAt w steps x (NoMemory i)) (sym is) stops
 
 -- what decides a replay's turns and its end

@@ -14,7 +14,7 @@ ghost use Rattle.dml_core.specs.Waves.{OneWave, WavesStand};
 /// steps, one run after the other, are one.
 ///
 /// Each job that is not committed stands in the waves once, and of two that conflict the earlier in an earlier wave.
-/// Where no two conflict and all fit together, they are one wave.
+/// A plan of jobs of which no two conflict, and which all fit together, is one wave.
 pub fn law_of_core()
     ensures keeps { CoreKeeps }
     ensures sent { SentIsSubmitted }

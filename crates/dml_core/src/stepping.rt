@@ -4,6 +4,7 @@ ghost use Rattle.std.specs.List.{list_all};
 ghost use Rattle.dml_types.specs.Limits.{IsValid};
 ghost use Rattle.dml_core.specs.Plan as word;
 ghost use Rattle.dml_core.specs.Plan.{jobs_of, open_places, plan_of};
+ghost use Rattle.dml_core.specs.Replay.{may_grow};
 ghost use Rattle.dml_core.specs.Types.{Commit, Fetch, Finish, Submit, Take};
 ghost use Rattle.dml_core.specs.World.{after, is_allowed, part_of};
 
@@ -34,6 +35,7 @@ impl World {
         ensures err { OnErr result (self.new ≡ self.old) }
         ensures not_allowed { result ≡ Err Refusal.NotAllowed → is_allowed self.old step.now ≡ false }
         ensures no_memory { result ≡ Err Refusal.NoMemory → is_allowed self.old step.now ≡ true }
+        ensures may_grow { result ≡ Err Refusal.NoMemory → may_grow step.now ≡ true }
     {
         match *step {
             Step::Submit { client, job } => self.submit(client, job),
@@ -110,7 +112,7 @@ impl World {
         ensures ok { OnOk result (self.new ≡ after self.old (Take worker)) }
         ensures err { OnErr result (self.new ≡ self.old) }
         ensures not_allowed { result ≡ Err Refusal.NotAllowed → is_allowed self.old (Take worker) ≡ false }
-        ensures no_memory { result ≡ Err Refusal.NoMemory → is_allowed self.old (Take worker) ≡ true }
+        ensures no_memory { result ≡ Err Refusal.NoMemory → ⊥ }
     {
         let worker = worker as usize;
         if worker >= self.hands.len()

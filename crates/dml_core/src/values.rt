@@ -19,17 +19,19 @@ pub struct Task {
     pub to: u64,
 }
 
-/// One step of the world.
+/// One step of the world, and when it is allowed. All but a take may meet want of memory.
 #[derive(Clone, Copy, PartialEq, Eq, Debug)]
 pub enum Step {
-    /// A client sends a job.
+    /// A client sends a job. Allowed for each client of the world.
     Submit { client: u32, job: Job },
-    /// The client's next job that was sent is fetched. The jobs that are not committed are planned anew.
+    /// The client's next job that was sent is fetched, and the jobs that are not committed are planned anew. Allowed
+    /// where there is such a job, each hand is empty, no task is finished, and fewer than 1,024 jobs are not committed.
     Fetch { client: u32 },
-    /// A worker takes the first task to do.
+    /// A worker takes the first task to do. Allowed where there is one and the worker's hand is empty.
     Take { worker: u32 },
-    /// A worker finishes the task in its hand.
+    /// A worker finishes the task in its hand. Allowed where there is one.
     Finish { worker: u32 },
-    /// The jobs of the first wave are carried out in list order.
+    /// The jobs of the first wave are carried out in list order. Allowed where there is a wave, no task is to do and
+    /// each hand is empty.
     Commit,
 }

@@ -1,12 +1,10 @@
 -- What a round takes of the jobs that are known to wait.
-use Rattle.std.proofs.Common.{◌≡◌, ℕ, ◌+◌, ◌<◌, ◌≤◌, List, [], ◌∷◌, ◌++◌, length, filter, get_or, set, map, refl, sym, ◌∙◌, ap, subst, arith, append_assoc}
+use Rattle.std.proofs.Common.{◌≡◌, ℕ, ◌+◌, ◌<◌, ◌≤◌, List, ◌++◌, length, filter, get_or, set, map, refl, sym, ◌∙◌, ap, subst, arith, append_assoc}
 use Rattle.std.proofs.lemmas.List.{get_or-set_other, get_or_default, length-append, length-map, map-append}
 use Rattle.std.proofs.Math.ListN as lists
 use Rattle.std.specs.Prelude.{nat_eq}
 use mathlib.Core.List.{IsPrefix}
-use Rattle.dml_types.specs.declared.statuses.Status.TheVariants.{Success}
-use Rattle.dml_types.specs.Effect.{ended}
-use Rattle.dml_portal.specs.Types.{Job, LogEntry, Record}
+use Rattle.dml_portal.specs.Types.{Job, LogEntry}
 use Rattle.dml_portal.specs.Log.{jobs_in, part_of, sent_for}
 use Rattle.dml_portal.specs.Lanes.{AreTaken, IsTaken, waiting}
 use Rattle.dml_portal.specs.Blank.{blank}
@@ -16,10 +14,10 @@ use Rattle.dml_portal.proofs.Lists.{below_set}
 use Rattle.dml_portal.proofs.FetchLemmas.{part_none}
 use Rattle.dml_portal.proofs.LogLemmas.{jobs_mine, jobs_part, jobs_theirs}
 
--- one more job is popped
-pub first_more : (known taken left more : List Job) (job : Job) → IsPrefix known (taken ++ left) → IsPrefix left (job ∷ more) → IsPrefix known ((taken ++ job ∷ []) ++ more)
-first_more known taken left more job first next =
-    (first.0 ++ next.0, sym (append_assoc known first.0 next.0) ∙ (ap (λ all. all ++ next.0) first.1 ∙ (append_assoc taken left next.0 ∙ (ap (λ all. taken ++ all) next.1 ∙ sym (append_assoc taken (job ∷ []) more)))))
+-- more jobs are popped
+pub first_more : (known taken left jobs more : List Job) → IsPrefix known (taken ++ left) → IsPrefix left (jobs ++ more) → IsPrefix known ((taken ++ jobs) ++ more)
+first_more known taken left jobs more first next =
+    (first.0 ++ next.0, sym (append_assoc known first.0 next.0) ∙ (ap (λ all. all ++ next.0) first.1 ∙ (append_assoc taken left next.0 ∙ (ap (λ all. taken ++ all) next.1 ∙ sym (append_assoc taken jobs more)))))
 
 -- what a client's turn did so far
 abbrev pub FetchedSoFar : (client number : ℕ) (start now : List Job) (log_start log : List LogEntry) (jobs_start jobs known left : List Job) → Type 0
@@ -31,20 +29,19 @@ FetchedSoFar client number start now log_start log jobs_start jobs known left =
     × (length fetched ≡ number)
     × IsPrefix known (fetched ++ left)
 
-pub one_more_fetched : (client number : ℕ) (start now next : List Job) (log_start log log_next : List LogEntry) (jobs_start jobs jobs_next known left left_next : List Job) (job : Job) (answer : Record) → FetchedSoFar client number start now log_start log jobs_start jobs known left → next ≡ now ++ job ∷ [] → log_next ≡ log ++ record { client = client; job = job; answer = answer } ∷ [] → answer ≡ ended Success 0 0 0 → jobs_next ≡ jobs ++ job ∷ [] → IsPrefix left (job ∷ left_next) → FetchedSoFar client (number + 1) start next log_start log_next jobs_start jobs_next known left_next
-one_more_fetched client number start now next log_start log log_next jobs_start jobs jobs_next known left left_next job answer before is_next is_log is_answer is_jobs first =
+pub batch_fetched : (client number : ℕ) (start now next : List Job) (log_start log log_next : List LogEntry) (jobs_start jobs jobs_next known left left_next more : List Job) → FetchedSoFar client number start now log_start log jobs_start jobs known left → next ≡ now ++ more → log_next ≡ log ++ map (blank client) more → jobs_next ≡ jobs ++ more → IsPrefix left (more ++ left_next) → FetchedSoFar client (number + length more) start next log_start log_next jobs_start jobs_next known left_next
+batch_fetched client number start now next log_start log log_next jobs_start jobs jobs_next known left left_next more before is_next is_log is_jobs first =
     let fetched : List Job = before.0 in
     let entries : List LogEntry = map (blank client) fetched in (
-      fetched ++ job ∷ [],
-      is_next ∙ (ap (λ xs. xs ++ job ∷ []) before.1 ∙ append_assoc start fetched (job ∷ [])),
+      fetched ++ more,
+      is_next ∙ (ap (λ xs. xs ++ more) before.1 ∙ append_assoc start fetched more),
       is_log
-          ∙ (ap (λ a. log ++ record { client = client; job = job; answer = a } ∷ []) is_answer
-          ∙ (ap (λ xs. xs ++ blank client job ∷ []) before.2
-          ∙ (append_assoc log_start entries (blank client job ∷ [])
-          ∙ ap (λ xs. log_start ++ xs) (sym (map-append (blank client) fetched (job ∷ [])))))),
-      is_jobs ∙ (ap (λ xs. xs ++ job ∷ []) before.3 ∙ append_assoc jobs_start fetched (job ∷ [])),
-      length-append fetched (job ∷ []) ∙ ap (λ n. n + 1) before.4,
-      first_more known fetched left left_next job before.5 first,
+          ∙ (ap (λ xs. xs ++ map (blank client) more) before.2
+          ∙ (append_assoc log_start entries (map (blank client) more)
+          ∙ ap (λ xs. log_start ++ xs) (sym (map-append (blank client) fetched more)))),
+      is_jobs ∙ (ap (λ xs. xs ++ more) before.3 ∙ append_assoc jobs_start fetched more),
+      length-append fetched more ∙ ap (λ n. n + length more) before.4,
+      first_more known fetched left more left_next before.5 first,
     )
 
 -- the clients below a number had their turn, and the others' rings are as they were

@@ -28,7 +28,7 @@ ArePopped lanes log = EachLane (IsPopped log) lanes
 abbrev pub ArePushed : List Lane → List LogEntry → Type 0
 ArePushed lanes log = EachLane (IsPushed log) lanes
 
--- each record of the client was pushed, or its ring is known to be full
+-- each record of the client was pushed, or no place of its ring is known to be free
 abbrev pub IsAnswered : List LogEntry → ℕ → Lane → Type 0
 IsAnswered log client lane =
     (sent lane.records ≡ answers_in (part_of client log)) ⊎ (known_free lane.records ≡ 0)

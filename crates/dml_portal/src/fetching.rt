@@ -5,7 +5,7 @@ ghost use Rattle.dml_portal.specs.Types.{Job as Jobs, LogEntry as Entries};
 ghost use Rattle.dml_portal.specs.Log.{jobs_in, sent_for};
 ghost use Rattle.dml_portal.specs.Lanes.{ArePopped, ArePushed, AreSameLanes, AreTaken, IsSameLane, IsTaken, waiting};
 ghost use Rattle.dml_portal.specs.Served.{IsFetched};
-ghost use Rattle.dml_portal.specs.Blank.{blank};
+ghost use Rattle.dml_portal.specs.Blank as word;
 ghost use Rattle.dml_portal.specs.Blocks.{AreBlocks};
 
 use crate::lanes::Lane;
@@ -15,11 +15,50 @@ use dml_types::{Job, Record, Status};
 /// The most jobs of a client that a round fetches.
 pub(crate) const MOST_OF_A_CLIENT: usize = 128;
 
+/// How many jobs are popped of a ring at once.
+const BATCH: usize = 16;
+
+/// A fetched job with a record that stands for its own. The job is made anew of its fields, since a copy of what was
+/// written in other parts just before waits for the writes.
+fn blank(client: u32, job: &Job) -> LogEntry
+    ensures { result ≡ word.blank client job.now }
+{
+    LogEntry {
+        client,
+        job: Job {
+            opcode: job.opcode,
+            flags: job.flags,
+            source: job.source,
+            target: job.target,
+            size: job.size,
+            extra: job.extra,
+            delta_size: job.delta_size,
+            expected: job.expected,
+        },
+        answer: Record::refused(Status::Success),
+    }
+}
+
+/// Adds popped jobs of one client to the log and to the list of jobs.
+fn add_batch(client: u32, batch: &[Job], log: &mut Vec<LogEntry>, jobs: &mut Vec<Job>)
+    requires log_room { length log.old.items + length batch.now ≤ vec_capacity log.old }
+    requires jobs_room { length jobs.old.items + length batch.now ≤ vec_capacity jobs.old }
+    ensures log { log.new.items ≡ log.old.items ++ map (word.blank client) batch.now }
+    ensures jobs { jobs.new.items ≡ jobs.old.items ++ batch.now }
+    ensures log_capacity { vec_capacity log.new ≡ vec_capacity log.old }
+    ensures jobs_capacity { vec_capacity jobs.new ≡ vec_capacity jobs.old }
+{
+    for i in 0..batch.len() {
+        jobs.push_reserved(batch[i]);
+        log.push_reserved(blank(client, &batch[i]));
+    }
+}
+
 /// Fetches jobs of one client, into the log with a record that stands for their own, and into the list of jobs.
 fn fetch_client(client: u32, lane: &mut Lane, log: &mut Vec<LogEntry>, jobs: &mut Vec<Job>)
     requires log_room { length log.old.items + 128 ≤ vec_capacity log.old }
     requires jobs_room { length jobs.old.items + 128 ≤ vec_capacity jobs.old }
-    ensures fetched { (fetched : List Jobs) × (received lane.new.jobs ≡ received lane.old.jobs ++ fetched) × (log.new.items ≡ log.old.items ++ map (blank client) fetched) × (jobs.new.items ≡ jobs.old.items ++ fetched) × (length fetched ≤ 128) × IsTaken (waiting lane.old) fetched (waiting lane.new) }
+    ensures fetched { (fetched : List Jobs) × (received lane.new.jobs ≡ received lane.old.jobs ++ fetched) × (log.new.items ≡ log.old.items ++ map (word.blank client) fetched) × (jobs.new.items ≡ jobs.old.items ++ fetched) × (length fetched ≤ 128) × IsTaken (waiting lane.old) fetched (waiting lane.new) }
     ensures answered { lane.new.answered ≡ lane.old.answered }
     ensures records { lane.new.records ≡ lane.old.records }
     ensures before { lane.new.before ≡ length jobs.old.items }
@@ -30,17 +69,14 @@ fn fetch_client(client: u32, lane: &mut Lane, log: &mut Vec<LogEntry>, jobs: &mu
 {
     lane.before = jobs.len();
     lane.fetched = 0;
-    for _ in 0..MOST_OF_A_CLIENT {
-        let Ok(job) = lane.jobs.pop() else {
+    let mut batch = [Job::no_op(); BATCH];
+    for _ in 0..MOST_OF_A_CLIENT / BATCH {
+        let count = lane.jobs.pop_partial_slice(&mut batch);
+        add_batch(client, &batch[..count], log, jobs);
+        lane.fetched += count;
+        if count < BATCH {
             return;
-        };
-        jobs.push_reserved(job);
-        log.push_reserved(LogEntry {
-            client,
-            job,
-            answer: Record::refused(Status::Success),
-        });
-        lane.fetched += 1;
+        }
     }
 }
 

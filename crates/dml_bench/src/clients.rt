@@ -183,13 +183,21 @@ fn page_move(place: u32) -> Job
     Job::move_bytes(page, page + PAGE, 4096)
 }
 
-/// Each of the clients submits its share of a list: whether each job was taken.
-fn shares_submitted(seats: &mut Vec<Seat>) -> bool {
+/// The jobs of all clients, client by client.
+fn share_jobs(alloc: Global) -> io::Result<Vec<Job>> {
+    let mut jobs = Vec::new(alloc);
+    for place in 0..ROUND {
+        jobs.push(page_move(place))?;
+    }
+    Ok(jobs)
+}
+
+/// Each of the clients submits its share of the jobs: whether each job was taken.
+fn shares_submitted(seats: &mut Vec<Seat>, jobs: &[Job]) -> bool {
     let mut all = true;
-    for seat in seats.iter_mut() {
-        let first = seat.client() % CLIENTS * SHARE;
-        for nth in 0..SHARE {
-            all = seat.try_submit(page_move(first + nth)).is_ok() && all;
+    for (seat, share) in seats.iter_mut().zip(jobs.chunks(SHARE as usize)) {
+        for job in share {
+            all = seat.try_submit(*job).is_ok() && all;
         }
     }
     all
@@ -220,15 +228,16 @@ fn time_rounds<T: Threads + Wait + Sync + Clock + Eprint>(
     requires { 0 < turns }
 {
     let (mut server, mut seats) = portal_of(alloc, image, 4, CLIENTS)?;
+    let jobs = share_jobs(alloc)?;
     let (mut rounds, mut whole, mut all) = (0u128, 0u128, true);
     for _ in 0..ROOM / SHARE {
-        all = shares_submitted(&mut seats) && all;
+        all = shares_submitted(&mut seats, jobs.as_slice()) && all;
         all = served(rt, alloc, &mut server) == ROUND && all;
         all = shares_polled(&mut seats) && all;
     }
     for _ in 0..turns {
         let start = Instant::now(rt)?;
-        all = shares_submitted(&mut seats) && all;
+        all = shares_submitted(&mut seats, jobs.as_slice()) && all;
         let round = Instant::now(rt)?;
         all = served(rt, alloc, &mut server) == ROUND && all;
         rounds = rounds.saturating_add(round.elapsed(rt)?.as_nanos());
@@ -249,10 +258,7 @@ fn time_clients<T: Threads + Wait + Sync + Clock + Eprint>(
     requires { 0 < turns }
 {
     let mut engine = engine_of(alloc, image, 4, false)?;
-    let mut list = Vec::new(alloc);
-    for place in 0..ROUND {
-        list.push(page_move(place))?;
-    }
+    let list = share_jobs(alloc)?;
     listed(rt, alloc, &mut engine, list.as_slice())?;
     let start = Instant::now(rt)?;
     for _ in 0..turns {

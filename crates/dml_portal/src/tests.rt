@@ -5,6 +5,7 @@ mod gates;
 mod growths;
 mod portals;
 mod rounds;
+mod steps;
 
 use crate::{Full, Portal, PortalError};
 use dml_engine::Engine;
@@ -12,6 +13,7 @@ use dml_image::Image;
 use dml_types::{Job, Record, Settings, Status};
 use portals::One;
 use std::alloc::Global;
+use std::process::Abort;
 use std::test::Fail;
 
 /// An engine over an image of one page, which is present.
@@ -34,19 +36,33 @@ fn done(completed: u32) -> Record {
     }
 }
 
+/// The image has these bytes.
+fn expect_bytes(rt: &impl Abort, image: &Image, bytes: &[(u64, u8)]) {
+    for (addr, byte) in bytes {
+        assert_eq!(rt; image.byte(*addr), Some(*byte), "{addr}");
+    }
+}
+
 /// A ring that has room for two jobs hands the third back, and takes it once a round is served.
 #[test]
 fn full_ring(rt: HostRuntime) -> Result<(), Fail> {
     let mut portal = One::open(rt.alloc(), 2).ok_or("no memory")?;
     let job = Job::no_op();
-    assert_eq!(rt; portal.submit(job), Ok(()));
-    assert_eq!(rt; portal.submit(job), Ok(()));
+    portal.submit_all(&rt, &[job, job]);
     assert_eq!(rt; portal.submit(job), Err(Full { job }));
-    assert_eq!(rt; portal.serve(&rt, rt.alloc()), Ok(2));
-    assert_eq!(rt; portal.submit(job), Ok(()));
+    portal.expect_served(&rt, rt.alloc(), 2);
+    portal.submit_all(&rt, &[job]);
     let settled = portal.settle(&rt, rt.alloc()).ok_or("not settled")?;
     assert_eq!(rt; settled.log.list.len(), 3);
     Ok(())
+}
+
+/// A portal of these arguments is refused: why, and the pages of the engine that is handed back.
+fn refusal(alloc: Global, clients: u32, capacity: u32) -> Option<(PortalError, u32)> {
+    match Portal::open(alloc, engine(alloc)?, clients, capacity) {
+        Ok(_) => None,
+        Err((engine, error)) => Some((error, engine.image().pages())),
+    }
 }
 
 /// Arguments out of their limits are refused.
@@ -59,14 +75,7 @@ fn arguments_refused(rt: HostRuntime) -> Result<(), Fail> {
         (1, 0, PortalError::BadCapacity),
         (8, 1025, PortalError::BadCapacity),
     ] {
-        let engine = engine(rt.alloc()).ok_or("no memory")?;
-        match Portal::open(rt.alloc(), engine, clients, capacity) {
-            Ok(_) => return Err(Fail::from("opened")),
-            Err((engine, refused)) => {
-                assert_eq!(rt; refused, error);
-                assert_eq!(rt; engine.into_image().pages(), 1);
-            }
-        }
+        assert_eq!(rt; refusal(rt.alloc(), clients, capacity), Some((error, 1)));
     }
     Ok(())
 }
@@ -75,11 +84,9 @@ fn arguments_refused(rt: HostRuntime) -> Result<(), Fail> {
 #[test]
 fn round_of_128(rt: HostRuntime) -> Result<(), Fail> {
     let mut portal = One::open(rt.alloc(), 200).ok_or("no memory")?;
-    for _ in 0..130 {
-        assert_eq!(rt; portal.submit(Job::no_op()), Ok(()));
-    }
-    assert_eq!(rt; portal.serve(&rt, rt.alloc()), Ok(128));
-    assert_eq!(rt; portal.serve(&rt, rt.alloc()), Ok(2));
+    portal.submit_all(&rt, &[Job::no_op(); 130]);
+    portal.expect_served(&rt, rt.alloc(), 128);
+    portal.expect_served(&rt, rt.alloc(), 2);
     let settled = portal.settle(&rt, rt.alloc()).ok_or("not settled")?;
     assert_eq!(rt; settled.log.list.len(), 130);
     Ok(())
@@ -89,13 +96,10 @@ fn round_of_128(rt: HostRuntime) -> Result<(), Fail> {
 #[test]
 fn polled_in_order(rt: HostRuntime) -> Result<(), Fail> {
     let mut portal = One::open(rt.alloc(), 4).ok_or("no memory")?;
-    assert_eq!(rt; portal.submit(Job::fill(1, 0, 8)), Ok(()));
-    assert_eq!(rt; portal.submit(Job::no_op()), Ok(()));
-    assert_eq!(rt; portal.poll(), None);
-    assert_eq!(rt; portal.serve(&rt, rt.alloc()), Ok(2));
-    assert_eq!(rt; portal.poll(), Some(done(8)));
-    assert_eq!(rt; portal.poll(), Some(done(0)));
-    assert_eq!(rt; portal.poll(), None);
+    portal.submit_all(&rt, &[Job::fill(1, 0, 8), Job::no_op()]);
+    portal.expect_polled(&rt, &[]);
+    portal.expect_served(&rt, rt.alloc(), 2);
+    portal.expect_polled(&rt, &[done(8), done(0)]);
     let settled = portal.settle(&rt, rt.alloc()).ok_or("not settled")?;
     assert_eq!(rt; settled.log.list.len(), 2);
     Ok(())
@@ -105,43 +109,44 @@ fn polled_in_order(rt: HostRuntime) -> Result<(), Fail> {
 #[test]
 fn poll_with_one_slot(rt: HostRuntime) -> Result<(), Fail> {
     let mut portal = One::open(rt.alloc(), 1).ok_or("no memory")?;
-    assert_eq!(rt; portal.submit(Job::fill(1, 0, 8)), Ok(()));
-    assert_eq!(rt; portal.serve(&rt, rt.alloc()), Ok(1));
-    assert_eq!(rt; portal.submit(Job::no_op()), Ok(()));
-    assert_eq!(rt; portal.serve(&rt, rt.alloc()), Ok(1));
-    assert_eq!(rt; portal.poll(), Some(done(8)));
-    assert_eq!(rt; portal.poll(), None);
-    assert_eq!(rt; portal.serve(&rt, rt.alloc()), Ok(0));
-    assert_eq!(rt; portal.poll(), Some(done(0)));
+    portal.submit_all(&rt, &[Job::fill(1, 0, 8)]);
+    portal.expect_served(&rt, rt.alloc(), 1);
+    portal.submit_all(&rt, &[Job::no_op()]);
+    portal.expect_served(&rt, rt.alloc(), 1);
+    portal.expect_polled(&rt, &[done(8)]);
+    portal.expect_served(&rt, rt.alloc(), 0);
+    portal.expect_polled(&rt, &[done(0)]);
     Ok(())
+}
+
+/// What `fence_in_a_queue` submits.
+fn fenced_jobs() -> [Job; 4] {
+    [
+        Job::fill(1, 4096, 8),
+        Job::no_op().with_flags(1),
+        Job::fill(2, 0, 8).with_flags(1),
+        Job::fill(3, 8, 8),
+    ]
+}
+
+/// The records of these jobs.
+fn fenced_records() -> [Record; 4] {
+    let fault = Record {
+        fault: 4096,
+        ..Record::refused(Status::WriteFault)
+    };
+    let refused = Record::refused(Status::BadFlags);
+    [fault, refused, refused, done(8)]
 }
 
 /// In a client's queue a fence is refused and holds nothing back: each other job is carried out.
 #[test]
 fn fence_in_a_queue(rt: HostRuntime) -> Result<(), Fail> {
     let mut portal = One::open(rt.alloc(), 4).ok_or("no memory")?;
-    let jobs = [
-        Job::fill(1, 4096, 8),
-        Job::no_op().with_flags(1),
-        Job::fill(2, 0, 8).with_flags(1),
-        Job::fill(3, 8, 8),
-    ];
-    for job in jobs {
-        assert_eq!(rt; portal.submit(job), Ok(()));
-    }
-    assert_eq!(rt; portal.serve(&rt, rt.alloc()), Ok(4));
-    let fault = Record {
-        fault: 4096,
-        ..Record::refused(Status::WriteFault)
-    };
-    let refused = Record::refused(Status::BadFlags);
-    for answer in [fault, refused, refused, done(8)] {
-        assert_eq!(rt; portal.poll(), Some(answer));
-    }
-    assert_eq!(rt; portal.poll(), None);
+    portal.submit_all(&rt, &fenced_jobs());
+    portal.expect_served(&rt, rt.alloc(), 4);
+    portal.expect_polled(&rt, &fenced_records());
     let settled = portal.settle(&rt, rt.alloc()).ok_or("not settled")?;
-    for (addr, byte) in [(0, 0), (7, 0), (8, 3), (9, 0)] {
-        assert_eq!(rt; settled.image.byte(addr), Some(byte), "{addr}");
-    }
+    expect_bytes(&rt, &settled.image, &[(0, 0), (7, 0), (8, 3), (9, 0)]);
     Ok(())
 }

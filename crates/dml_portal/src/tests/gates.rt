@@ -1,12 +1,14 @@
 //! Rounds whose tasks are held.
 
 use super::done;
+use super::steps::{expect_polled, expect_served, submit_all};
 use crate::{Portal, PortalError, Seat, Server};
 use dml_engine::Engine;
 use dml_image::Image;
 use dml_pool::Gate;
 use dml_types::{Job, Record, Settings};
 use std::alloc::Global;
+use std::process::Abort;
 use std::sync::Wait;
 use std::sync::atomic::{AtomicU64, Ordering};
 use std::test::Fail;
@@ -80,6 +82,35 @@ fn engine_of_eight(alloc: Global) -> Option<Engine> {
     Engine::new(alloc, image, settings).ok()
 }
 
+/// The server of a portal whose lists all go through this gate, and the seat of its one client.
+fn gated<G: Gate + Drop>(alloc: Global, gate: G) -> Option<(Server<G>, Seat)> {
+    let engine = engine_of_eight(alloc)?.with_gate(gate);
+    let Ok((server, mut seats)) = Portal::open(alloc, engine, 1, 2) else {
+        return None;
+    };
+    let seat = seats.pop()?;
+    Some((server, seat))
+}
+
+/// Two jobs of three chunks in all.
+fn two_fills() -> [Job; 2] {
+    [Job::fill(1, 0, 16), Job::fill(2, 64, 8)]
+}
+
+/// A round carries out two jobs of the client.
+fn expect_fills<R: Abort + Threads + Wait + Sync, G: Gate + Sync + Drop>(
+    rt: &R,
+    alloc: Global,
+    server: Server<G>,
+    seat: Seat,
+) {
+    let mut server = server;
+    let mut seat = seat;
+    submit_all(rt, &mut seat, &two_fills());
+    expect_served(rt, alloc, &mut server, 2);
+    expect_polled(rt, &mut seat, &[done(16), done(8)]);
+}
+
 /// The tasks of a round enter at once.
 #[test]
 fn every_submit_runs_at_once(rt: HostRuntime) -> Result<(), Fail> {
@@ -89,19 +120,8 @@ fn every_submit_runs_at_once(rt: HostRuntime) -> Result<(), Fail> {
             clock: &rt,
             counts: &counts,
         };
-        let engine = engine_of_eight(rt.alloc())
-            .ok_or("no memory")?
-            .with_gate(gate);
-        let (mut server, mut seats) = Portal::open(rt.alloc(), engine, 1, 2).map_err(|(
-            _,
-            error,
-        )| error)?;
-        let mut seat = seats.pop().ok_or("no seat")?;
-        assert_eq!(rt; seat.try_submit(Job::fill(1, 0, 16)), Ok(()));
-        assert_eq!(rt; seat.try_submit(Job::fill(2, 64, 8)), Ok(()));
-        assert_eq!(rt; server.serve_round(&rt, rt.alloc()), Ok(2));
-        assert_eq!(rt; seat.poll(), Some(done(16)));
-        assert_eq!(rt; seat.poll(), Some(done(8)));
+        let (server, seat) = gated(rt.alloc(), gate).ok_or("no memory")?;
+        expect_fills(&rt, rt.alloc(), server, seat);
         assert_eq!(rt; counts.both(), (ALL_ONCE, 0), "turn {turn}");
     }
     Ok(())
@@ -164,6 +184,21 @@ fn polled_while_served<R: Threads + Wait + Sync + Clock, G: Gate + Sync + Drop>(
     )
 }
 
+/// Two rounds of two jobs each, of which the first two records are polled, and then two jobs more.
+fn fill_rings<R: Abort + Threads + Wait + Sync, G: Gate + Sync>(
+    rt: &R,
+    alloc: Global,
+    server: &mut Server<G>,
+    seat: &mut Seat,
+) {
+    for _ in 0..2 {
+        submit_all(rt, seat, &[Job::no_op(), Job::no_op()]);
+        expect_served(rt, alloc, server, 2);
+    }
+    expect_polled(rt, seat, &[done(0), done(0)]);
+    submit_all(rt, seat, &two_fills());
+}
+
 /// A round pushes the records that wait before its own jobs are carried out.
 #[test]
 fn pushed_before_tasks(rt: HostRuntime) -> Result<(), Fail> {
@@ -173,28 +208,11 @@ fn pushed_before_tasks(rt: HostRuntime) -> Result<(), Fail> {
             clock: &rt,
             counts: &counts,
         };
-        let engine = engine_of_eight(rt.alloc())
-            .ok_or("no memory")?
-            .with_gate(gate);
-        let (mut server, mut seats) = Portal::open(rt.alloc(), engine, 1, 2).map_err(|(
-            _,
-            error,
-        )| error)?;
-        let mut seat = seats.pop().ok_or("no seat")?;
-        for _ in 0..2 {
-            assert_eq!(rt; seat.try_submit(Job::no_op()), Ok(()));
-            assert_eq!(rt; seat.try_submit(Job::no_op()), Ok(()));
-            assert_eq!(rt; server.serve_round(&rt, rt.alloc()), Ok(2));
-        }
-        assert_eq!(rt; seat.poll(), Some(done(0)));
-        assert_eq!(rt; seat.poll(), Some(done(0)));
-        assert_eq!(rt; seat.poll(), None);
-        assert_eq!(rt; seat.try_submit(Job::fill(1, 0, 16)), Ok(()));
-        assert_eq!(rt; seat.try_submit(Job::fill(2, 64, 8)), Ok(()));
-        let (polled, served) = polled_while_served(&rt, rt.alloc(), server, seat, &counts);
-        assert_eq!(rt; polled, Some(done(0)), "turn {turn}");
-        assert_eq!(rt; served, Ok(2), "turn {turn}");
-        assert_eq!(rt; counts.both(), (1, 0), "turn {turn}");
+        let (mut server, mut seat) = gated(rt.alloc(), gate).ok_or("no memory")?;
+        fill_rings(&rt, rt.alloc(), &mut server, &mut seat);
+        let answers = polled_while_served(&rt, rt.alloc(), server, seat, &counts);
+        let wanted = ((Some(done(0)), Ok(2)), (1, 0));
+        assert_eq!(rt; (answers, counts.both()), wanted, "turn {turn}");
     }
     Ok(())
 }

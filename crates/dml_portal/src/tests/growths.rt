@@ -3,8 +3,8 @@ ghost use Rattle.std.specs.Prelude.{IfSome};
 ghost use Rattle.dml_portal.specs.Settled.{AreSeatsOf};
 
 use super::portals::{One, Two};
-use super::{done, engine};
-use crate::{Done, LogEntry, Portal, PortalError, Seat, Server, SettleFault};
+use super::{done, engine, expect_bytes};
+use crate::{Done, LogEntry, Portal, PortalError, Seat, Server, SettleFault, Settled};
 use dml_engine::Engine;
 use dml_pool::Free;
 use dml_types::{Job, Record};
@@ -13,6 +13,9 @@ use std::process::Abort;
 use std::sync::Wait;
 use std::test::Fail;
 use std::thread::Threads;
+
+/// What the jobs of a portal below leave of its page.
+const BYTES: [(u64, u8); 6] = [(0, 1), (15, 1), (16, 0), (64, 2), (71, 2), (72, 0)];
 
 // The refused_* below hold whichever growth is refused: they are also run with each refused in turn, from the first one
 // behind those that their set-up takes.
@@ -32,27 +35,37 @@ fn set_up_of_open(rt: HostRuntime) -> Result<(), Fail> {
     Ok(())
 }
 
-/// A server and a seat for each client, or the engine as it was.
-#[test]
-fn refused_open(rt: HostRuntime) -> Result<(), Fail> {
-    let engine = engine_of_sevens(rt.alloc()).ok_or("no memory")?;
-    let settings = engine.settings();
-    let engine = match Portal::open(rt.alloc(), engine, 2, 4) {
+/// These are the seats of the first two clients.
+fn expect_two_seats(rt: &impl Abort, seats: &[Seat]) {
+    assert_eq!(rt; seats.len(), 2);
+    for (i, seat) in seats.iter().enumerate() {
+        assert_eq!(rt; seat.client() as usize, i);
+    }
+}
+
+/// The engine behind an opening for two clients, of which there is a seat for each, or which was refused.
+fn engine_behind_open(rt: &impl Abort, alloc: Global, engine: Engine) -> Engine {
+    match Portal::open(alloc, engine, 2, 4) {
         Ok((server, seats)) => {
-            assert_eq!(rt; seats.len(), 2);
-            for (i, seat) in seats.iter().enumerate() {
-                assert_eq!(rt; seat.client() as usize, i);
-            }
+            expect_two_seats(rt, seats.as_slice());
             server.engine
         }
         Err((engine, error)) => {
             assert_eq!(rt; error, PortalError::NoMemory);
             engine
         }
-    };
+    }
+}
+
+/// A server and a seat for each client, or the engine as it was.
+#[test]
+fn refused_open(rt: HostRuntime) -> Result<(), Fail> {
+    let engine = engine_of_sevens(rt.alloc()).ok_or("no memory")?;
+    let settings = engine.settings();
+    let engine = engine_behind_open(&rt, rt.alloc(), engine);
     assert_eq!(rt; engine.settings(), settings);
-    assert_eq!(rt; engine.image().pages(), 1);
-    assert_eq!(rt; engine.image().byte(4095), Some(7));
+    let image = engine.image();
+    assert_eq!(rt; (image.pages(), image.byte(4095)), (1, Some(7)));
     Ok(())
 }
 
@@ -82,26 +95,38 @@ fn submitted(rt: &(impl Threads + Wait + Sync), alloc: Global) -> Option<Two> {
     three_submitted(portal)
 }
 
-/// The seat polls these records, and no more.
-fn expect_polled(rt: &impl Abort, seat: &mut Seat, records: &[Record]) {
-    for record in records {
-        assert_eq!(rt; seat.poll(), Some(*record));
-    }
-    assert_eq!(rt; seat.poll(), None);
-}
-
 /// What `refused_serve_round` does before its call.
 #[test]
 fn set_up_of_serve_round(rt: HostRuntime) -> Result<(), Fail> {
-    let Two {
-        server,
-        mut first,
-        mut second,
-    } = submitted(&rt, rt.alloc()).ok_or("no memory")?;
-    assert_eq!(rt; server.log.len(), 1);
-    expect_polled(&rt, &mut first, &[]);
-    expect_polled(&rt, &mut second, &[done(0)]);
+    let mut portal = submitted(&rt, rt.alloc()).ok_or("no memory")?;
+    assert_eq!(rt; portal.server.log.len(), 1);
+    portal.expect_polled(&rt, &[], &[done(0)]);
     Ok(())
+}
+
+/// A round is served behind so many entries; where it is refused nothing was fetched, and the next one is served.
+fn serve_at_last<R: Abort + Threads + Wait + Sync>(
+    rt: &R,
+    alloc: Global,
+    portal: &mut Two,
+    earlier: usize,
+) {
+    if let Err(error) = portal.serve(rt, alloc) {
+        let byte = portal.server.engine.image().byte(0);
+        let found = (error, portal.server.log.len(), byte);
+        assert_eq!(rt; found, (PortalError::NoMemory, earlier, Some(0)));
+        portal.expect_polled(rt, &[], &[]);
+        assert_eq!(rt; portal.serve(rt, alloc), Ok(3));
+    }
+}
+
+/// The log has the three jobs of a round behind so many entries, and the image what they wrote.
+fn expect_carried_out(rt: &impl Abort, server: &Server<Free>, earlier: usize) {
+    assert_eq!(rt; server.log.len().checked_sub(earlier), Some(3));
+    for (entry, client) in server.log.iter().skip(earlier).zip([0, 0, 1]) {
+        assert_eq!(rt; entry.client, client);
+    }
+    expect_bytes(rt, server.engine.image(), &BYTES);
 }
 
 /// A round behind these records of the second client: each client's jobs are carried out, or nothing was fetched, and
@@ -112,29 +137,11 @@ fn expect_round<R: Abort + Threads + Wait + Sync>(
     portal: Two,
     earlier: &[Record],
 ) {
-    let Two {
-        mut server,
-        mut first,
-        mut second,
-    } = portal;
-    expect_polled(rt, &mut second, earlier);
-    if let Err(error) = server.serve_round(rt, alloc) {
-        assert_eq!(rt; error, PortalError::NoMemory);
-        assert_eq!(rt; server.log.len(), earlier.len());
-        assert_eq!(rt; server.engine.image().byte(0), Some(0));
-        expect_polled(rt, &mut first, &[]);
-        expect_polled(rt, &mut second, &[]);
-        assert_eq!(rt; server.serve_round(rt, alloc), Ok(3));
-    }
-    assert_eq!(rt; server.log.len().checked_sub(earlier.len()), Some(3));
-    for (entry, client) in server.log.iter().skip(earlier.len()).zip([0, 0, 1]) {
-        assert_eq!(rt; entry.client, client);
-    }
-    expect_polled(rt, &mut first, &[done(16), done(0)]);
-    expect_polled(rt, &mut second, &[done(8)]);
-    for (addr, byte) in [(0, 1), (15, 1), (16, 0), (64, 2), (71, 2), (72, 0)] {
-        assert_eq!(rt; server.engine.image().byte(addr), Some(byte), "{addr}");
-    }
+    let mut portal = portal;
+    portal.expect_polled(rt, &[], earlier);
+    serve_at_last(rt, alloc, &mut portal, earlier.len());
+    expect_carried_out(rt, &portal.server, earlier.len());
+    portal.expect_polled(rt, &[done(16), done(0)], &[done(8)]);
 }
 
 #[test]
@@ -181,27 +188,56 @@ fn set_up_of_settle(rt: HostRuntime) -> Result<(), Fail> {
     Ok(())
 }
 
+/// What a portal leaves that was not settled before.
+fn settled_again<R: Threads + Wait + Sync>(
+    rt: &R,
+    alloc: Global,
+    server: Server<Free>,
+    dones: Vec<Done>,
+) -> Option<Settled>
+    requires { AreSeatsOf server.lanes.items dones.items }
+{
+    server.settle(rt, alloc, dones).ok()
+}
+
+/// What a portal leaves, or leaves when it is settled again with so many seats behind one of these numbers of jobs.
+fn settled_at_last<R: Abort + Threads + Wait + Sync>(
+    rt: &R,
+    alloc: Global,
+    server: Server<Free>,
+    dones: Vec<Done>,
+    numbers: &[usize],
+) -> Option<Settled>
+    requires { AreSeatsOf server.lanes.items dones.items }
+{
+    let seats = dones.len();
+    match server.settle(rt, alloc, dones) {
+        Ok(settled) => Some(settled),
+        Err((server, dones, fault)) => {
+            assert_eq!(rt; (fault, dones.len()), (SettleFault::NoMemory, seats));
+            let served = server.log.len();
+            assert!(rt; numbers.contains(&served), "{served} jobs");
+            settled_again(rt, alloc, server, dones)
+        }
+    }
+}
+
+/// These are the clients and the completed bytes of the log.
+fn expect_completed(rt: &impl Abort, log: &[LogEntry], wanted: &[(u32, u32)]) {
+    assert_eq!(rt; log.len(), wanted.len());
+    for (entry, (client, completed)) in log.iter().zip(wanted) {
+        assert_eq!(rt; (entry.client, entry.answer), (*client, done(*completed)));
+    }
+}
+
 /// The whole log, or the portal as it was, which gives the whole log when it is settled again.
 #[test]
 fn refused_settle(rt: HostRuntime) -> Result<(), Fail> {
     let (server, dones) = finished(&rt, rt.alloc()).ok_or("no memory")?;
-    let settled = match server.settle(&rt, rt.alloc(), dones) {
-        Ok(settled) => settled,
-        Err((server, dones, fault)) => {
-            assert_eq!(rt; fault, SettleFault::NoMemory);
-            assert_eq!(rt; (server.log.len(), dones.len()), (1, 2));
-            let settled = server.settle(&rt, rt.alloc(), dones);
-            settled.map_err(|(_, _, fault)| fault)?
-        }
-    };
-    let log = settled.log.list.as_slice();
-    assert_eq!(rt; log.len(), 4);
-    for (entry, (client, completed)) in log.iter().zip([(1, 0), (0, 16), (0, 0), (1, 8)]) {
-        assert_eq!(rt; (entry.client, entry.answer), (client, done(completed)));
-    }
-    for (addr, byte) in [(0, 1), (15, 1), (16, 0), (64, 2), (71, 2), (72, 0)] {
-        assert_eq!(rt; settled.image.byte(addr), Some(byte), "{addr}");
-    }
+    let settled = settled_at_last(&rt, rt.alloc(), server, dones, &[1]).ok_or("not settled")?;
+    let wanted = [(1, 0), (0, 16), (0, 0), (1, 8)];
+    expect_completed(&rt, settled.log.list.as_slice(), &wanted);
+    expect_bytes(&rt, &settled.image, &BYTES);
     Ok(())
 }
 
@@ -226,29 +262,24 @@ fn set_up_of_second_round_of_settle(rt: HostRuntime) -> Result<(), Fail> {
     Ok(())
 }
 
+/// The log is of 130 jobs that do nothing.
+fn expect_no_ops(rt: &impl Abort, log: &[LogEntry]) {
+    assert_eq!(rt; log.len(), 130);
+    let wanted = LogEntry {
+        client: 0,
+        job: Job::no_op(),
+        answer: done(0),
+    };
+    for entry in log {
+        assert_eq!(rt; *entry, wanted);
+    }
+}
+
 /// The whole log, or the portal behind the rounds that were served, which gives the whole log when it is settled again.
 #[test]
 fn refused_second_round_of_settle(rt: HostRuntime) -> Result<(), Fail> {
     let (server, dones) = finished_with_more(rt.alloc()).ok_or("no memory")?;
-    let settled = match server.settle(&rt, rt.alloc(), dones) {
-        Ok(settled) => settled,
-        Err((server, dones, fault)) => {
-            assert_eq!(rt; fault, SettleFault::NoMemory);
-            let served = server.log.len();
-            assert!(rt; served == 0 || served == 128, "{served} jobs");
-            assert_eq!(rt; dones.len(), 1);
-            let settled = server.settle(&rt, rt.alloc(), dones);
-            settled.map_err(|(_, _, fault)| fault)?
-        }
-    };
-    assert_eq!(rt; settled.log.list.len(), 130);
-    for entry in &settled.log.list {
-        let wanted = LogEntry {
-            client: 0,
-            job: Job::no_op(),
-            answer: done(0),
-        };
-        assert_eq!(rt; *entry, wanted);
-    }
+    let settled = settled_at_last(&rt, rt.alloc(), server, dones, &[0, 128]).ok_or("not settled")?;
+    expect_no_ops(&rt, settled.log.list.as_slice());
     Ok(())
 }

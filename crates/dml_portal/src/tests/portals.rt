@@ -2,11 +2,13 @@
 ghost use Rattle.dml_portal.specs.Lanes.{IsSeatOf};
 
 use super::engine;
+use super::steps::{expect_polled, expect_served, submit_all};
 use crate::{Full, Portal, PortalError, Seat, Server, SettleFault, Settled};
 use dml_engine::Engine;
 use dml_pool::Free;
 use dml_types::{Job, Record};
 use std::alloc::Global;
+use std::process::Abort;
 use std::sync::Wait;
 use std::thread::Threads;
 
@@ -54,16 +56,21 @@ impl One {
         self.seat.try_submit(job)
     }
 
-    pub(super) fn poll(&mut self) -> Option<Record> {
-        self.seat.poll()
+    pub(super) fn submit_all(&mut self, rt: &impl Abort, jobs: &[Job]) {
+        submit_all(rt, &mut self.seat, jobs);
     }
 
-    pub(super) fn serve<R: Threads + Wait + Sync>(
+    pub(super) fn expect_polled(&mut self, rt: &impl Abort, records: &[Record]) {
+        expect_polled(rt, &mut self.seat, records);
+    }
+
+    pub(super) fn expect_served<R: Abort + Threads + Wait + Sync>(
         &mut self,
         rt: &R,
         alloc: Global,
-    ) -> Result<usize, PortalError> {
-        self.server.serve_round(rt, alloc)
+        jobs: usize,
+    ) {
+        expect_served(rt, alloc, &mut self.server, jobs);
     }
 
     /// The client finishes, and the portal is settled.
@@ -94,6 +101,12 @@ impl Two {
 
     pub(super) fn submit_second(&mut self, job: Job) -> Result<(), Full> {
         self.second.try_submit(job)
+    }
+
+    /// The first client polls these records of the first list, and the second one those of the second, and no more.
+    pub(super) fn expect_polled(&mut self, rt: &impl Abort, first: &[Record], second: &[Record]) {
+        expect_polled(rt, &mut self.first, first);
+        expect_polled(rt, &mut self.second, second);
     }
 
     pub(super) fn serve<R: Threads + Wait + Sync>(
@@ -176,12 +189,13 @@ impl Three {
         }
     }
 
-    pub(super) fn serve<R: Threads + Wait + Sync>(
+    pub(super) fn expect_served<R: Abort + Threads + Wait + Sync>(
         &mut self,
         rt: &R,
         alloc: Global,
-    ) -> Result<usize, PortalError> {
-        self.server.serve_round(rt, alloc)
+        jobs: usize,
+    ) {
+        expect_served(rt, alloc, &mut self.server, jobs);
     }
 
     /// The clients finish, and the portal is settled.

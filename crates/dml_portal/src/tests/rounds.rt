@@ -2,10 +2,12 @@
 ghost use Rattle.dml_portal.specs.Seats.{IsSameSeat};
 
 use super::portals::{Three, Two};
-use super::{done, engine};
+use super::{done, engine, expect_bytes};
 use crate::{LogEntry, Seat};
 use dml_types::Job;
+use std::alloc::Global;
 use std::process::Abort;
+use std::sync::Wait;
 use std::test::Fail;
 use std::thread::{self, Threads};
 
@@ -42,46 +44,115 @@ fn expect_log(rt: &impl Abort, log: &[LogEntry], fetched: &[(u32, u32, u32)]) {
     assert!(rt; entries.next().is_none());
 }
 
-/// Three clients submit in turn, the last one first, and are fetched by two rounds.
-#[test]
-fn three_clients_fetched_in_turn(rt: HostRuntime) -> Result<(), Fail> {
-    let mut portal = Three::open(rt.alloc(), 200).ok_or("no memory")?;
+/// Three clients submit all their jobs in turn, the last one first.
+fn submit_in_turn(rt: &impl Abort, portal: &mut Three) {
     for number in 0..130 {
-        for client in [2, 1, 0] {
-            if number < COUNTS[client as usize] {
+        for (client, count) in [(2, COUNTS[2]), (1, COUNTS[1]), (0, COUNTS[0])] {
+            if number < count {
                 assert_eq!(rt; portal.submit(client, job(client, number)), Ok(()));
             }
         }
     }
-    assert_eq!(rt; portal.serve(&rt, rt.alloc()), Ok(259));
-    assert_eq!(rt; portal.serve(&rt, rt.alloc()), Ok(3));
-    assert_eq!(rt; portal.serve(&rt, rt.alloc()), Ok(0));
-    for client in [1, 0, 2] {
-        for _ in 0..COUNTS[client as usize] {
+}
+
+/// Each client polls the records of all its jobs, and no more.
+fn expect_all_polled(rt: &impl Abort, portal: &mut Three) {
+    for (client, count) in [(1, COUNTS[1]), (0, COUNTS[0]), (2, COUNTS[2])] {
+        for _ in 0..count {
             assert_eq!(rt; portal.poll(client), Some(done(8)));
         }
         assert_eq!(rt; portal.poll(client), None);
     }
+}
+
+/// Three clients submit in turn, and are fetched by two rounds.
+#[test]
+fn three_clients_fetched_in_turn(rt: HostRuntime) -> Result<(), Fail> {
+    let mut portal = Three::open(rt.alloc(), 200).ok_or("no memory")?;
+    submit_in_turn(&rt, &mut portal);
+    portal.expect_served(&rt, rt.alloc(), 259);
+    portal.expect_served(&rt, rt.alloc(), 3);
+    portal.expect_served(&rt, rt.alloc(), 0);
+    expect_all_polled(&rt, &mut portal);
     let settled = portal.settle(&rt, rt.alloc()).ok_or("not settled")?;
     expect_log(&rt, settled.log.list.as_slice(), &FETCHED);
-    for (addr, byte) in [(0, 129), (8, 2), (16, 128), (24, 0)] {
-        assert_eq!(rt; settled.image.byte(addr), Some(byte), "{addr}");
-    }
+    expect_bytes(&rt, &settled.image, &[(0, 129), (8, 2), (16, 128), (24, 0)]);
     Ok(())
+}
+
+/// Each of three clients submits all its jobs before the next one does, the first one last.
+fn submit_one_by_one(rt: &impl Abort, portal: &mut Three) {
+    for (client, count) in [(1, COUNTS[1]), (2, COUNTS[2]), (0, COUNTS[0])] {
+        for number in 0..count {
+            assert_eq!(rt; portal.submit(client, job(client, number)), Ok(()));
+        }
+    }
 }
 
 /// A settlement fetches the same by the same rounds.
 #[test]
 fn three_clients_settled_in_turn(rt: HostRuntime) -> Result<(), Fail> {
     let mut portal = Three::open(rt.alloc(), 130).ok_or("no memory")?;
-    for client in [1, 2, 0] {
-        for number in 0..COUNTS[client as usize] {
-            assert_eq!(rt; portal.submit(client, job(client, number)), Ok(()));
-        }
-    }
+    submit_one_by_one(&rt, &mut portal);
     let settled = portal.settle(&rt, rt.alloc()).ok_or("not settled")?;
     expect_log(&rt, settled.log.list.as_slice(), &FETCHED);
     Ok(())
+}
+
+/// What two clients submit: three jobs, three more, and one.
+fn submitted_by_two() -> [(u32, Job); 7] {
+    [
+        (1, Job::fill(2, 0, 8)),
+        (0, Job::compare_pattern(0, 0, 8)),
+        (0, Job::fill(1, 0, 8)),
+        (1, Job::compare_pattern(0, 3, 8)),
+        (0, Job::compare_pattern(0, 2, 8)),
+        (0, Job::fill(3, 0, 8)),
+        (1, Job::fill(4, 0, 8)),
+    ]
+}
+
+/// The same as rounds fetch them.
+fn fetched_of_two() -> [(u32, Job); 7] {
+    [
+        (0, Job::compare_pattern(0, 0, 8)),
+        (0, Job::fill(1, 0, 8)),
+        (1, Job::fill(2, 0, 8)),
+        (0, Job::compare_pattern(0, 2, 8)),
+        (0, Job::fill(3, 0, 8)),
+        (1, Job::compare_pattern(0, 3, 8)),
+        (1, Job::fill(4, 0, 8)),
+    ]
+}
+
+/// Two clients submit these jobs, which the next round fetches.
+fn expect_fetched<R: Abort + Threads + Wait + Sync>(
+    rt: &R,
+    alloc: Global,
+    portal: &mut Two,
+    jobs: &[(u32, Job)],
+) {
+    for (client, job) in jobs {
+        let taken = match client {
+            0 => portal.submit_first(*job),
+            _ => portal.submit_second(*job),
+        };
+        assert_eq!(rt; taken, Ok(()));
+    }
+    assert_eq!(rt; portal.serve(rt, alloc), Ok(jobs.len()));
+}
+
+/// The log is these clients' jobs, each of which was done.
+fn expect_done(rt: &impl Abort, log: &[LogEntry], jobs: &[(u32, Job)]) {
+    assert_eq!(rt; log.len(), jobs.len());
+    for (entry, (client, job)) in log.iter().zip(jobs) {
+        let wanted = LogEntry {
+            client: *client,
+            job: *job,
+            answer: done(8),
+        };
+        assert_eq!(rt; *entry, wanted);
+    }
 }
 
 /// Two clients write the same bytes, and each round looks at what the one before has left.
@@ -89,48 +160,13 @@ fn three_clients_settled_in_turn(rt: HostRuntime) -> Result<(), Fail> {
 fn two_clients_fetched_in_turn(rt: HostRuntime) -> Result<(), Fail> {
     let engine = engine(rt.alloc()).ok_or("no memory")?;
     let mut portal = Two::open(rt.alloc(), engine, 4).ok_or("no memory")?;
-    let submitted = [
-        (1, Job::fill(2, 0, 8)),
-        (0, Job::compare_pattern(0, 0, 8)),
-        (0, Job::fill(1, 0, 8)),
-        (1, Job::compare_pattern(0, 3, 8)),
-        (0, Job::compare_pattern(0, 2, 8)),
-        (0, Job::fill(3, 0, 8)),
-        (1, Job::fill(4, 0, 8)),
-    ];
-    for (round, wanted) in [(0..3, 3), (3..6, 3), (6..7, 1), (7..7, 0)] {
-        for (client, job) in &submitted[round] {
-            let taken = match client {
-                0 => portal.submit_first(*job),
-                _ => portal.submit_second(*job),
-            };
-            assert_eq!(rt; taken, Ok(()));
-        }
-        assert_eq!(rt; portal.serve(&rt, rt.alloc()), Ok(wanted));
-    }
+    let submitted = submitted_by_two();
+    expect_fetched(&rt, rt.alloc(), &mut portal, &submitted[..3]);
+    expect_fetched(&rt, rt.alloc(), &mut portal, &submitted[3..6]);
+    expect_fetched(&rt, rt.alloc(), &mut portal, &submitted[6..]);
+    expect_fetched(&rt, rt.alloc(), &mut portal, &[]);
     let settled = portal.settle(&rt, rt.alloc()).ok_or("not settled")?;
-    let log = settled.log.list.as_slice();
-    let wanted = [
-        (0, Job::compare_pattern(0, 0, 8)),
-        (0, Job::fill(1, 0, 8)),
-        (1, Job::fill(2, 0, 8)),
-        (0, Job::compare_pattern(0, 2, 8)),
-        (0, Job::fill(3, 0, 8)),
-        (1, Job::compare_pattern(0, 3, 8)),
-        (1, Job::fill(4, 0, 8)),
-    ];
-    assert_eq!(rt; log.len(), wanted.len());
-    for (entry, (client, job)) in log.iter().zip(wanted) {
-        let answer = done(8);
-        assert_eq!(rt;
-            *entry,
-            LogEntry {
-                client,
-                job,
-                answer
-            }
-        );
-    }
+    expect_done(&rt, settled.log.list.as_slice(), &fetched_of_two());
     assert_eq!(rt; settled.image.byte(0), Some(4));
     Ok(())
 }

@@ -10,9 +10,13 @@ mod refusals;
 mod streams;
 mod texts;
 
+ghost use Rattle.dml_types.specs.Limits.{IsValid};
+
 use crate::{RunFault, ScriptFault, Watched, run_script};
 use dml_types::Settings;
 use std::alloc::Global;
+use std::fmt::Debug;
+use std::io::{Read, Write};
 use std::process::Abort;
 use std::sync::Wait;
 use std::thread::Threads;
@@ -60,6 +64,14 @@ const BATCH_ANSWER: &str = "job 0 status 01 result 0 completed 8 fault 0 delta 0
      job 2 status 01 result 0 completed 8 fault 0 delta 0\n\
      batch status 05 completed 3\n";
 
+/// What a run answers, and what it writes.
+type Ran<'a> = (Result<(), RunFault>, &'a [u8]);
+
+/// Compares what is found at a place of a table with what is expected there.
+fn expect_same<V: PartialEq + Debug>(rt: &impl Abort, place: &impl Debug, found: &V, expected: &V) {
+    assert_eq!(rt; found, expected, "at {place:?}");
+}
+
 /// Runs a script at all settings: it ends well, and its answer is this one.
 fn answers<T: Abort + Threads + Wait + Sync>(
     rt: &T,
@@ -69,16 +81,7 @@ fn answers<T: Abort + Threads + Wait + Sync>(
     script: &[u8],
     answer: &[u8],
 ) {
-    for (chunk, workers) in SETTINGS {
-        let settings = Settings {
-            staging,
-            chunk,
-            workers,
-        };
-        let (outcome, written) = run_at(rt, alloc, script, settings);
-        assert_eq!(rt; outcome, Ok(()), "at {name} {chunk} {workers}");
-        assert_eq!(rt; written.as_slice(), answer, "at {name} {chunk} {workers}");
-    }
+    expect_at_all(rt, alloc, name, staging, script, (Ok(()), answer));
 }
 
 /// Runs a script with a fault at all settings: the fault is this one, and nothing is written.
@@ -89,19 +92,28 @@ fn refuses<T: Abort + Threads + Wait + Sync>(
     script: &[u8],
     fault: ScriptFault,
 ) {
+    let expected = (Err(RunFault::Script(fault)), b"".as_slice());
+    expect_at_all(rt, alloc, name, WIDE, script, expected);
+}
+
+/// Runs a script at all settings: it answers and writes this.
+fn expect_at_all<T: Abort + Threads + Wait + Sync>(
+    rt: &T,
+    alloc: Global,
+    name: &str,
+    staging: u32,
+    script: &[u8],
+    expected: Ran<'_>,
+) {
     for (chunk, workers) in SETTINGS {
         let settings = Settings {
+            staging,
             chunk,
             workers,
-            ..DEFAULTS
         };
         let (outcome, written) = run_at(rt, alloc, script, settings);
-        assert_eq!(rt;
-            outcome,
-            Err(RunFault::Script(fault)),
-            "at {name} {chunk} {workers}"
-        );
-        assert!(rt; written.is_empty(), "at {name} {chunk} {workers}");
+        let found = (outcome, written.as_slice());
+        expect_same(rt, &(name, chunk, workers), &found, &expected);
     }
 }
 
@@ -122,10 +134,45 @@ fn run_at<T: Abort + Threads + Wait + Sync>(
     settings: Settings,
 ) -> (Result<(), RunFault>, Vec<u8>) {
     assert!(rt; settings.is_valid());
-    let mut reader = Watched::new(script);
-    let mut writer = Watched::new(Vec::new(alloc));
-    let outcome = run_script(rt, alloc, &mut reader, &mut writer, settings);
+    let (outcome, reader, writer) = run_between(rt, alloc, script, Vec::new(alloc), settings);
     assert!(rt; !reader.failed());
     assert!(rt; !writer.failed());
     (outcome, writer.into_inner())
+}
+
+/// What a run from this reader answers, the reader as it leaves it, and what it writes.
+fn run_from<T: Threads + Wait + Sync, R: Read>(
+    rt: &T,
+    alloc: Global,
+    reader: R,
+) -> (Result<(), RunFault>, Watched<R>, Vec<u8>) {
+    let (outcome, reader, writer) = run_between(rt, alloc, reader, Vec::new(alloc), DEFAULTS);
+    (outcome, reader, writer.into_inner())
+}
+
+/// What a script's run into this writer answers, and the writer as it leaves it.
+fn run_into<T: Threads + Wait + Sync, W: Write>(
+    rt: &T,
+    alloc: Global,
+    script: &[u8],
+    writer: W,
+) -> (Result<(), RunFault>, Watched<W>) {
+    let (outcome, _, writer) = run_between(rt, alloc, script, writer, DEFAULTS);
+    (outcome, writer)
+}
+
+/// What a run between these answers, and both as it leaves them.
+fn run_between<T: Threads + Wait + Sync, R: Read, W: Write>(
+    rt: &T,
+    alloc: Global,
+    reader: R,
+    writer: W,
+    settings: Settings,
+) -> (Result<(), RunFault>, Watched<R>, Watched<W>)
+    requires { IsValid settings }
+{
+    let mut reader = Watched::new(reader);
+    let mut writer = Watched::new(writer);
+    let outcome = run_script(rt, alloc, &mut reader, &mut writer, settings);
+    (outcome, reader, writer)
 }

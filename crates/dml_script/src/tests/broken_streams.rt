@@ -1,7 +1,7 @@
 //! Readers and writers that fail, over more scripts: a batch, one with all kinds of lines, and one with a fault.
 
-use super::{BATCH, BATCH_ANSWER, DEFAULTS};
-use crate::{RunFault, Watched, run_script};
+use super::{BATCH, BATCH_ANSWER, expect_same, run_from, run_into};
+use crate::RunFault;
 use std::alloc::Global;
 use std::io;
 use std::io::{ErrorKind, Read, Write};
@@ -64,6 +64,19 @@ impl Read for Failing<'_> {
     }
 }
 
+/// Runs a script from such a reader: what it answers, whether the reader failed, and what is written.
+fn expect_pieces<T: Abort + Threads + Wait + Sync>(
+    rt: &T,
+    alloc: Global,
+    reader: Failing<'_>,
+    expected: (Result<(), RunFault>, bool, &[u8]),
+) {
+    let place = (reader.step, reader.fails_at);
+    let (outcome, reader, written) = run_from(rt, alloc, reader);
+    let found = (outcome, reader.failed(), written.as_slice());
+    expect_same(rt, &place, &found, &expected);
+}
+
 /// Runs a script from such a reader: it answers by want of its input, and nothing is written.
 fn expect_read_fault<T: Abort + Threads + Wait + Sync>(
     rt: &T,
@@ -72,23 +85,18 @@ fn expect_read_fault<T: Abort + Threads + Wait + Sync>(
     step: usize,
     fails_at: usize,
 ) {
-    let mut reader = Watched::new(Failing::new(text, step, fails_at));
-    let mut writer = Watched::new(Vec::new(alloc));
-    let outcome = run_script(rt, alloc, &mut reader, &mut writer, DEFAULTS);
-    assert_eq!(rt; outcome, Err(RunFault::Read), "{step} at {fails_at}");
-    assert!(rt; reader.failed());
-    assert!(rt; writer.into_inner().is_empty(), "{step} at {fails_at}");
+    let reader = Failing::new(text, step, fails_at);
+    let expected = (Err(RunFault::Read), true, b"".as_slice());
+    expect_pieces(rt, alloc, reader, expected);
 }
 
 #[test]
 fn pieces_of_any_length(rt: HostRuntime) {
     for (script, answer) in [(BATCH, BATCH_ANSWER), (ALL, ALL_ANSWER)] {
         for step in [1, 2, 3, 7, 64, 4096] {
-            let mut reader = Watched::new(Failing::new(script, step, usize::MAX));
-            let mut writer = Watched::new(Vec::new(rt.alloc()));
-            let outcome = run_script(&rt, rt.alloc(), &mut reader, &mut writer, DEFAULTS);
-            assert_eq!(rt; outcome, Ok(()), "{step}");
-            assert_eq!(rt; writer.into_inner().as_slice(), answer.as_bytes(), "{step}");
+            let reader = Failing::new(script, step, usize::MAX);
+            let expected = (Ok(()), false, answer.as_bytes());
+            expect_pieces(&rt, rt.alloc(), reader, expected);
         }
     }
 }
@@ -131,12 +139,9 @@ impl Read for Flood {
 #[test]
 fn a_flood(rt: HostRuntime) {
     for letter in [b'\n', b'#', 0xff] {
-        let mut reader = Watched::new(Flood { letter });
-        let mut writer = Watched::new(Vec::new(rt.alloc()));
-        let outcome = run_script(&rt, rt.alloc(), &mut reader, &mut writer, DEFAULTS);
-        assert_eq!(rt; outcome, Err(RunFault::TooLong), "{letter}");
-        assert!(rt; !reader.failed());
-        assert!(rt; writer.into_inner().is_empty());
+        let (outcome, reader, written) = run_from(&rt, rt.alloc(), Flood { letter });
+        let found = (outcome, reader.failed(), written.len());
+        expect_same(&rt, &letter, &found, &(Err(RunFault::TooLong), false, 0));
     }
 }
 
@@ -170,28 +175,28 @@ impl Write for Sheet {
     }
 }
 
+/// Runs the script with all kinds of lines into a sheet with so much room: what was taken is a front of the answer.
+fn expect_front<T: Abort + Threads + Wait + Sync>(rt: &T, alloc: Global, room: usize, fails: bool) {
+    let sheet = Sheet {
+        bytes: [0; 1024],
+        len: 0,
+        room,
+        fails,
+    };
+    let (outcome, writer) = run_into(rt, alloc, ALL.as_bytes(), sheet);
+    let failed = writer.failed();
+    let sheet = writer.into_inner();
+    let found = (outcome, failed, sheet.bytes.get(..sheet.len));
+    let front = ALL_ANSWER.as_bytes().get(..room);
+    expect_same(rt, &room, &found, &(Err(RunFault::Write), true, front));
+}
+
 /// What was taken is a front of the answer, as long as there was room.
 #[test]
 fn a_writer_ends_at_each_byte(rt: HostRuntime) {
-    let answer = ALL_ANSWER.as_bytes();
     for fails in [true, false] {
-        for room in 0..answer.len() {
-            let mut reader = Watched::new(ALL.as_bytes());
-            let mut writer = Watched::new(Sheet {
-                bytes: [0; 1024],
-                len: 0,
-                room,
-                fails,
-            });
-            let outcome = run_script(&rt, rt.alloc(), &mut reader, &mut writer, DEFAULTS);
-            assert_eq!(rt; outcome, Err(RunFault::Write), "at {room}");
-            assert!(rt; writer.failed());
-            let sheet = writer.into_inner();
-            assert_eq!(rt;
-                sheet.bytes.get(..sheet.len),
-                answer.get(..room),
-                "at {room}"
-            );
+        for room in 0..ALL_ANSWER.len() {
+            expect_front(&rt, rt.alloc(), room, fails);
         }
     }
 }

@@ -1,6 +1,6 @@
 //! Scripts that are cut anywhere: what a front of a script answers, byte by byte.
 
-use super::run;
+use super::{expect_same, run};
 use crate::{Kind, RunFault, ScriptFault};
 use std::alloc::Global;
 use std::process::Abort;
@@ -255,23 +255,7 @@ fn cut_in<T: Abort + Threads + Wait + Sync>(
     for (piece, cut) in pieces {
         for letter in piece.chars() {
             script.push(letter)?;
-            let (outcome, written) = run(rt, alloc, script.as_bytes());
-            match cut {
-                Fault(line, kind) => {
-                    let fault = ScriptFault {
-                        line: *line,
-                        kind: *kind,
-                    };
-                    assert_eq!(rt; outcome, Err(RunFault::Script(fault)), "behind {script}");
-                    assert!(rt; written.is_empty(), "behind {script}");
-                }
-                Adds(text) => {
-                    let (before, last) = written.split_at(answer.len().min(written.len()));
-                    assert_eq!(rt; outcome, Ok(()), "behind {script}");
-                    assert_eq!(rt; before, answer.as_bytes(), "behind {script}");
-                    assert_eq!(rt; last, text.as_bytes(), "behind {script}");
-                }
-            }
+            expect_cut(rt, alloc, script.as_str(), answer.as_str(), cut);
         }
         if let Adds(text) = cut {
             if piece.ends_with('\n') {
@@ -280,6 +264,30 @@ fn cut_in<T: Abort + Threads + Wait + Sync>(
         }
     }
     Ok(())
+}
+
+/// Runs a script that is cut: it has the fault and writes nothing, or adds to the answer of the lines before.
+fn expect_cut<T: Abort + Threads + Wait + Sync>(
+    rt: &T,
+    alloc: Global,
+    script: &str,
+    answer: &str,
+    cut: &Cut,
+) {
+    let (end, before, added) = match cut {
+        Fault(line, kind) => {
+            let fault = ScriptFault {
+                line: *line,
+                kind: *kind,
+            };
+            (Err(RunFault::Script(fault)), "", "")
+        }
+        Adds(text) => (Ok(()), answer, *text),
+    };
+    let (outcome, written) = run(rt, alloc, script.as_bytes());
+    let (start, last) = written.split_at(before.len().min(written.len()));
+    let expected = (end, before.as_bytes(), added.as_bytes());
+    expect_same(rt, &script, &(outcome, start, last), &expected);
 }
 
 /// Cuts a script of these parts everywhere.

@@ -1,6 +1,6 @@
 //! Scripts with a fault, and inputs of the greatest length.
 
-use super::{refuses, run};
+use super::{expect_same, refuses, run};
 use crate::{Kind, MAX_SCRIPT, RunFault, ScriptFault, fault_text};
 use std::alloc::{AllocError, Global};
 use std::test::Fail;
@@ -56,7 +56,7 @@ fn a_fault_writes_nothing(rt: HostRuntime) {
     for (name, script, line, kind, text) in FAULTS {
         let fault = ScriptFault { line, kind };
         refuses(&rt, rt.alloc(), name, script.as_bytes(), fault);
-        assert_eq!(rt; fault_text(kind), text, "at {name}");
+        expect_same(&rt, &name, &fault_text(kind), &text);
     }
 }
 
@@ -78,8 +78,12 @@ fn the_longest_input(rt: HostRuntime) -> Result<(), Fail> {
     ] {
         let input = long_input(rt.alloc(), len)?;
         let (found, written) = run(&rt, rt.alloc(), &input);
-        assert_eq!(rt; found, outcome, "at {len}");
-        assert_eq!(rt; written.as_slice(), answer.as_bytes(), "at {len}");
+        expect_same(
+            &rt,
+            &len,
+            &(found, written.as_slice()),
+            &(outcome, answer.as_bytes()),
+        );
     }
     Ok(())
 }

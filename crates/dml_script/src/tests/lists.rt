@@ -3,7 +3,10 @@
 use super::{WIDE, answers, refuses};
 use crate::{Kind, ScriptFault};
 use std::alloc::{AllocError, Global};
+use std::process::Abort;
+use std::sync::Wait;
 use std::test::Fail;
+use std::thread::Threads;
 
 /// Adds so many times this line.
 fn push_lines(text: &mut String, line: &str, count: u32) -> Result<(), AllocError> {
@@ -24,76 +27,111 @@ fn push_done(text: &mut String, first: u32, count: u32, completed: u32) -> Resul
     Ok(())
 }
 
+/// The lines of these rows, each as often as its row says.
+fn script_of(alloc: Global, rows: &[(&str, u32)]) -> Result<String, AllocError> {
+    let mut script = String::new(alloc);
+    push_rows(&mut script, rows)?;
+    Ok(script)
+}
+
+/// Lines behind an image of so many pages, all of which are brought.
+fn script_with_pages(
+    alloc: Global,
+    pages: u32,
+    rows: &[(&str, u32)],
+) -> Result<String, AllocError> {
+    let mut script = String::new(alloc);
+    write!(script, "image {pages}\n")?;
+    for page in 0..pages {
+        write!(script, "page {page}\n")?;
+    }
+    push_rows(&mut script, rows)?;
+    Ok(script)
+}
+
+/// Adds the lines of these rows, each as often as its row says.
+fn push_rows(text: &mut String, rows: &[(&str, u32)]) -> Result<(), AllocError> {
+    for (line, count) in rows {
+        push_lines(text, line, *count)?;
+    }
+    Ok(())
+}
+
+/// A row of an answer: the first of some jobs that complete with success, how many they are, the bytes that each
+/// completes, and the lines behind theirs.
+type Done = (u32, u32, u32, &'static str);
+
+/// The lines of these rows.
+fn answer_of(alloc: Global, rows: &[Done]) -> Result<String, AllocError> {
+    let mut answer = String::new(alloc);
+    for (first, count, completed, rest) in rows {
+        push_done(&mut answer, *first, *count, *completed)?;
+        answer.push_str(rest)?;
+    }
+    Ok(answer)
+}
+
+/// Runs a script at all settings: its answer has these rows.
+fn expect_done<T: Abort + Threads + Wait + Sync>(
+    rt: &T,
+    alloc: Global,
+    name: &str,
+    script: &str,
+    rows: &[Done],
+) -> Result<(), AllocError> {
+    let answer = answer_of(alloc, rows)?;
+    answers(rt, alloc, name, WIDE, script.as_bytes(), answer.as_bytes());
+    Ok(())
+}
+
 #[test]
 fn more_lines_than_one_list(rt: HostRuntime) -> Result<(), Fail> {
-    let mut script = String::new(rt.alloc());
-    let mut answer = String::new(rt.alloc());
-    script.push_str("image 1\n")?;
-    push_lines(&mut script, "noop\n", 1025)?;
-    push_done(&mut answer, 0, 1025, 0)?;
-    answers(
-        &rt,
-        rt.alloc(),
-        "no-ops",
-        WIDE,
-        script.as_bytes(),
-        answer.as_bytes(),
-    );
+    let script = script_of(rt.alloc(), &[("image 1\n", 1), ("noop\n", 1025)])?;
+    expect_done(&rt, rt.alloc(), "no-ops", &script, &[(0, 1025, 0, "")])?;
     Ok(())
 }
 
 /// The second list goes on where the first ended, other lines end a list, and a batch takes none of the jobs before it.
 #[test]
 fn lists_in_a_row(rt: HostRuntime) -> Result<(), Fail> {
-    let mut script = String::new(rt.alloc());
-    let mut answer = String::new(rt.alloc());
-    script.push_str("image 1\npage 0\n")?;
-    push_lines(&mut script, "fill 1 0 8\n", 1024)?;
-    script.push_str(
-        "fill 2 0 8\nshow 0 1\nfill 3 0 8\nbatch\nnoop flags 1\nend\nmove 0 8 8\nshow 8 1\n",
-    )?;
-    push_done(&mut answer, 0, 1025, 8)?;
-    answer.push_str("show 0 02\n")?;
-    push_done(&mut answer, 1025, 1, 8)?;
-    answer.push_str(
-        "job 1026 status 01 result 0 completed 0 fault 0 delta 0\nbatch status 01 completed 1\n",
-    )?;
-    push_done(&mut answer, 1027, 1, 8)?;
-    answer.push_str("show 8 03\n")?;
-    answers(
-        &rt,
+    let script = script_of(
         rt.alloc(),
-        "lists",
-        WIDE,
-        script.as_bytes(),
-        answer.as_bytes(),
-    );
+        &[
+            ("image 1\npage 0\n", 1),
+            ("fill 1 0 8\n", 1024),
+            (
+                "fill 2 0 8\nshow 0 1\nfill 3 0 8\nbatch\nnoop flags 1\nend\nmove 0 8 8\nshow 8 1\n",
+                1,
+            ),
+        ],
+    )?;
+    let rows = [
+        (0, 1025, 8, "show 0 02\n"),
+        (
+            1025,
+            1,
+            8,
+            "job 1026 status 01 result 0 completed 0 fault 0 delta 0\nbatch status 01 completed 1\n",
+        ),
+        (1027, 1, 8, "show 8 03\n"),
+    ];
+    expect_done(&rt, rt.alloc(), "lists", &script, &rows)?;
     Ok(())
 }
 
 /// A batch of so many no-ops.
 fn batch_of(alloc: Global, jobs: u32) -> Result<String, AllocError> {
-    let mut script = String::new(alloc);
-    script.push_str("image 1\nbatch\n")?;
-    push_lines(&mut script, "noop\n", jobs)?;
-    script.push_str("end\n")?;
-    Ok(script)
+    script_of(
+        alloc,
+        &[("image 1\nbatch\n", 1), ("noop\n", jobs), ("end\n", 1)],
+    )
 }
 
 #[test]
 fn too_many_jobs(rt: HostRuntime) -> Result<(), Fail> {
     let script = batch_of(rt.alloc(), 1024)?;
-    let mut answer = String::new(rt.alloc());
-    push_done(&mut answer, 0, 1024, 0)?;
-    answer.push_str("batch status 01 completed 1024\n")?;
-    answers(
-        &rt,
-        rt.alloc(),
-        "1,024 jobs",
-        WIDE,
-        script.as_bytes(),
-        answer.as_bytes(),
-    );
+    let rows = [(0, 1024, 0, "batch status 01 completed 1024\n")];
+    expect_done(&rt, rt.alloc(), "1,024 jobs", &script, &rows)?;
     let script = batch_of(rt.alloc(), 1025)?;
     let fault = ScriptFault {
         line: 1027,
@@ -106,26 +144,18 @@ fn too_many_jobs(rt: HostRuntime) -> Result<(), Fail> {
 /// Eight compares of a mebibyte, worth four workers, as a list and as a batch.
 #[test]
 fn compares_on_workers(rt: HostRuntime) -> Result<(), Fail> {
-    let mut script = String::new(rt.alloc());
-    let mut answer = String::new(rt.alloc());
-    script.push_str("image 256\n")?;
-    for page in 0..256 {
-        write!(script, "page {page}\n")?;
-    }
-    push_lines(&mut script, "compare 0 0 1048576\n", 8)?;
-    script.push_str("batch\n")?;
-    push_lines(&mut script, "compare 0 0 1048576\n", 8)?;
-    script.push_str("end\n")?;
-    push_done(&mut answer, 0, 16, 1_048_576)?;
-    answer.push_str("batch status 01 completed 8\n")?;
-    answers(
-        &rt,
+    let script = script_with_pages(
         rt.alloc(),
-        "compares",
-        WIDE,
-        script.as_bytes(),
-        answer.as_bytes(),
-    );
+        256,
+        &[
+            ("compare 0 0 1048576\n", 8),
+            ("batch\n", 1),
+            ("compare 0 0 1048576\n", 8),
+            ("end\n", 1),
+        ],
+    )?;
+    let rows = [(0, 16, 1_048_576, "batch status 01 completed 8\n")];
+    expect_done(&rt, rt.alloc(), "compares", &script, &rows)?;
     Ok(())
 }
 
@@ -133,33 +163,30 @@ fn compares_on_workers(rt: HostRuntime) -> Result<(), Fail> {
 /// fence is the fill's, which the compares behind it see.
 #[test]
 fn compares_about_a_fence(rt: HostRuntime) -> Result<(), Fail> {
-    let mut script = String::new(rt.alloc());
-    let mut answer = String::new(rt.alloc());
-    script.push_str("image 512\n")?;
-    for page in 0..512 {
-        write!(script, "page {page}\n")?;
-    }
-    script.push_str("batch\n")?;
-    push_lines(&mut script, "compare 0 1048576 1048576\n", 4)?;
-    script.push_str("fill 1 0 8 flags 1\n")?;
-    push_lines(&mut script, "compare 0 1048576 1048576\n", 4)?;
-    script.push_str("end\n")?;
-    push_done(&mut answer, 0, 4, 1_048_576)?;
-    push_done(&mut answer, 4, 1, 8)?;
-    for number in 5..9 {
-        write!(
-            answer,
-            "job {number} status 01 result 1 completed 0 fault 0 delta 0\n"
-        )?;
-    }
-    answer.push_str("batch status 01 completed 9\n")?;
-    answers(
-        &rt,
+    let script = script_with_pages(
         rt.alloc(),
-        "compares about a fence",
-        WIDE,
-        script.as_bytes(),
-        answer.as_bytes(),
-    );
+        512,
+        &[
+            ("batch\n", 1),
+            ("compare 0 1048576 1048576\n", 4),
+            ("fill 1 0 8 flags 1\n", 1),
+            ("compare 0 1048576 1048576\n", 4),
+            ("end\n", 1),
+        ],
+    )?;
+    let rows = [
+        (0, 4, 1_048_576, ""),
+        (
+            4,
+            1,
+            8,
+            "job 5 status 01 result 1 completed 0 fault 0 delta 0\n\
+             job 6 status 01 result 1 completed 0 fault 0 delta 0\n\
+             job 7 status 01 result 1 completed 0 fault 0 delta 0\n\
+             job 8 status 01 result 1 completed 0 fault 0 delta 0\n\
+             batch status 01 completed 9\n",
+        ),
+    ];
+    expect_done(&rt, rt.alloc(), "compares about a fence", &script, &rows)?;
     Ok(())
 }

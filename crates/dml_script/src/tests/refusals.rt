@@ -1,8 +1,8 @@
 //! Calls whose growths of memory are refused.
 
 use super::streams::Paper;
-use super::{DEFAULTS, FILL, FILL_ANSWER};
-use crate::{Item, RunFault, Shown, TextError, Watched, job_text, out_text, run_script};
+use super::{FILL, FILL_ANSWER, run_into};
+use crate::{Item, RunFault, Shown, TextError, job_text, out_text};
 use dml_types::Job;
 use std::alloc::{AllocError, Global};
 use std::test::Fail;
@@ -55,13 +55,13 @@ fn refused_job_text(rt: HostRuntime) {
 
 #[test]
 fn refused_run_script(rt: HostRuntime) {
-    let mut reader = Watched::new(FILL.as_bytes());
-    let mut writer = Watched::new(Paper::new(256, true));
-    match run_script(&rt, rt.alloc(), &mut reader, &mut writer, DEFAULTS) {
-        Ok(()) => assert!(rt; writer.into_inner().holds(FILL_ANSWER.as_bytes())),
+    let paper = Paper::new(256, true);
+    let (outcome, writer) = run_into(&rt, rt.alloc(), FILL.as_bytes(), paper);
+    let paper = writer.into_inner();
+    match outcome {
+        Ok(()) => assert!(rt; paper.holds(FILL_ANSWER.as_bytes())),
         Err(fault) => {
             assert_eq!(rt; fault, RunFault::NoMemory);
-            let paper = writer.into_inner();
             let front = FILL_ANSWER.as_bytes().get(..paper.len).unwrap_or(b"none");
             assert!(rt; paper.holds(front));
         }

@@ -1,17 +1,32 @@
 //! Readers and writers that give, take and fail as told.
 
-use super::{BATCH, BATCH_ANSWER, DEFAULTS, FILL, FILL_ANSWER};
-use crate::{RunFault, Watched, run_script};
+use super::{BATCH, BATCH_ANSWER, FILL, FILL_ANSWER, expect_same, run_from, run_into};
+use crate::{RunFault, Watched};
+use std::alloc::Global;
 use std::io;
 use std::io::{ErrorKind, Read, Write};
+use std::process::Abort;
+use std::sync::Wait;
+use std::thread::Threads;
 
-/// Gives bytes, at most so many a call, and fails at one call.
+/// Gives bytes, one a call, and fails at one call.
 #[derive(Drop)]
 struct Steps<'a> {
     bytes: &'a [u8],
     step: usize,
     calls: usize,
     fails_at: usize,
+}
+
+impl<'a> Steps<'a> {
+    fn new(text: &'a str, fails_at: usize) -> Steps<'a> {
+        Steps {
+            bytes: text.as_bytes(),
+            step: 1,
+            calls: 0,
+            fails_at,
+        }
+    }
 }
 
 impl Read for Steps<'_> {
@@ -29,41 +44,32 @@ impl Read for Steps<'_> {
     }
 }
 
+/// Runs a script from a reader that gives one byte a call and fails at one: what it answers, whether the reader
+/// failed, its calls, and what is written.
+fn expect_steps<T: Abort + Threads + Wait + Sync>(
+    rt: &T,
+    alloc: Global,
+    fails_at: usize,
+    expected: (Result<(), RunFault>, bool, usize, &[u8]),
+) {
+    let (outcome, reader, written) = run_from(rt, alloc, Steps::new(FILL, fails_at));
+    let failed = reader.failed();
+    let calls = reader.into_inner().calls;
+    let found = (outcome, failed, calls, written.as_slice());
+    expect_same(rt, &fails_at, &found, &expected);
+}
+
 #[test]
 fn one_byte_a_call(rt: HostRuntime) {
-    let mut reader = Watched::new(Steps {
-        bytes: FILL.as_bytes(),
-        step: 1,
-        calls: 0,
-        fails_at: usize::MAX,
-    });
-    let mut writer = Watched::new(Vec::new(rt.alloc()));
-    assert_eq!(rt;
-        run_script(&rt, rt.alloc(), &mut reader, &mut writer, DEFAULTS),
-        Ok(())
-    );
-    assert_eq!(rt; writer.into_inner().as_slice(), FILL_ANSWER.as_bytes());
-    assert_eq!(rt; reader.into_inner().calls, FILL.len() + 1);
+    let expected = (Ok(()), false, FILL.len() + 1, FILL_ANSWER.as_bytes());
+    expect_steps(&rt, rt.alloc(), usize::MAX, expected);
 }
 
 #[test]
 fn a_reader_fails_at_each_call(rt: HostRuntime) {
     for fails_at in 0..FILL.len() + 1 {
-        let mut reader = Watched::new(Steps {
-            bytes: FILL.as_bytes(),
-            step: 1,
-            calls: 0,
-            fails_at,
-        });
-        let mut writer = Watched::new(Vec::new(rt.alloc()));
-        assert_eq!(rt;
-            run_script(&rt, rt.alloc(), &mut reader, &mut writer, DEFAULTS),
-            Err(RunFault::Read),
-            "at {fails_at}"
-        );
-        assert!(rt; reader.failed());
-        assert_eq!(rt; reader.into_inner().calls, fails_at + 1);
-        assert!(rt; writer.into_inner().is_empty(), "at {fails_at}");
+        let expected = (Err(RunFault::Read), true, fails_at + 1, b"".as_slice());
+        expect_steps(&rt, rt.alloc(), fails_at, expected);
     }
 }
 
@@ -86,15 +92,11 @@ impl Read for Endless {
 
 #[test]
 fn a_reader_without_end(rt: HostRuntime) {
-    let mut reader = Watched::new(Endless { calls: 0 });
-    let mut writer = Watched::new(Vec::new(rt.alloc()));
-    assert_eq!(rt;
-        run_script(&rt, rt.alloc(), &mut reader, &mut writer, DEFAULTS),
-        Err(RunFault::TooLong)
-    );
-    assert!(rt; !reader.failed());
-    assert_eq!(rt; reader.into_inner().calls, 4_194_305);
-    assert!(rt; writer.into_inner().is_empty());
+    let (outcome, reader, written) = run_from(&rt, rt.alloc(), Endless { calls: 0 });
+    let failed = reader.failed();
+    let found = (outcome, failed, reader.into_inner().calls, written.len());
+    let expected = (Err(RunFault::TooLong), false, 4_194_305, 0);
+    expect_same(&rt, &"the limit", &found, &expected);
 }
 
 /// Room for so many bytes: then one call fails, or takes none, and there is room again. It takes at most seven bytes
@@ -145,30 +147,32 @@ impl Write for Paper {
     }
 }
 
+/// Runs a script into a paper with room for this text, which is written: what it answers, and whether the writer
+/// failed.
+fn expect_paper<T: Abort + Threads + Wait + Sync>(
+    rt: &T,
+    alloc: Global,
+    script: &str,
+    text: &[u8],
+    fails: bool,
+    expected: (Result<(), RunFault>, bool),
+) {
+    let room = text.len();
+    let (outcome, writer) = run_into(rt, alloc, script.as_bytes(), Paper::new(room, fails));
+    expect_same(rt, &room, &(outcome, writer.failed()), &expected);
+    assert!(rt; writer.into_inner().holds(text), "at {room}");
+}
+
 #[test]
 fn a_writer_fails_at_each_byte(rt: HostRuntime) {
     for (script, answer) in [(FILL, FILL_ANSWER), (BATCH, BATCH_ANSWER)] {
-        let (script, answer) = (script.as_bytes(), answer.as_bytes());
+        let answer = answer.as_bytes();
         for fails in [true, false] {
             for room in 0..answer.len() {
-                let mut reader = Watched::new(script);
-                let mut writer = Watched::new(Paper::new(room, fails));
-                assert_eq!(rt;
-                    run_script(&rt, rt.alloc(), &mut reader, &mut writer, DEFAULTS),
-                    Err(RunFault::Write),
-                    "at {room}"
-                );
-                assert!(rt; writer.failed());
-                assert!(rt; writer.into_inner().holds(&answer[..room]), "at {room}");
+                let fault = (Err(RunFault::Write), true);
+                expect_paper(&rt, rt.alloc(), script, &answer[..room], fails, fault);
             }
-            let mut reader = Watched::new(script);
-            let mut writer = Watched::new(Paper::new(answer.len(), fails));
-            assert_eq!(rt;
-                run_script(&rt, rt.alloc(), &mut reader, &mut writer, DEFAULTS),
-                Ok(())
-            );
-            assert!(rt; !writer.failed());
-            assert!(rt; writer.into_inner().holds(answer));
+            expect_paper(&rt, rt.alloc(), script, answer, fails, (Ok(()), false));
         }
     }
 }
@@ -195,49 +199,58 @@ impl Write for Stuck {
 
 #[test]
 fn a_flush_that_fails(rt: HostRuntime) {
-    let mut reader = Watched::new(FILL.as_bytes());
-    let mut writer = Watched::new(Stuck { flushes: 0 });
-    assert_eq!(rt;
-        run_script(&rt, rt.alloc(), &mut reader, &mut writer, DEFAULTS),
-        Err(RunFault::Write)
-    );
-    assert!(rt; writer.failed());
-    assert!(rt; !writer.flushed());
-    assert_eq!(rt; writer.into_inner().flushes, 1);
+    let (outcome, writer) = run_into(&rt, rt.alloc(), FILL.as_bytes(), Stuck { flushes: 0 });
+    let (failed, flushed) = (writer.failed(), writer.flushed());
+    let found = (outcome, failed, flushed, writer.into_inner().flushes);
+    let expected = (Err(RunFault::Write), true, false, 1);
+    expect_same(&rt, &"the flush", &found, &expected);
 }
 
 /// Each call is passed on once, also after one that failed, and the failure is kept.
 #[test]
 fn watched_calls(rt: HostRuntime) {
-    let mut reader = Watched::new(Steps {
-        bytes: b"ab",
-        step: 1,
-        calls: 0,
-        fails_at: 0,
-    });
-    let mut buf = [0; 2];
-    assert!(rt; reader.read(&mut buf).is_err());
-    assert!(rt; reader.failed());
-    assert_eq!(rt; reader.read(&mut buf).ok(), Some(1));
-    assert!(rt; reader.failed());
-    assert_eq!(rt; reader.into_inner().calls, 2);
+    expect_watched_reads(&rt);
     for fails in [true, false] {
-        let mut writer = Watched::new(Paper::new(0, fails));
-        assert_eq!(rt; writer.write(b"").is_err(), fails);
-        assert_eq!(rt; writer.failed(), fails);
-        let mut writer = Watched::new(Paper::new(0, fails));
-        assert_eq!(rt; writer.write(b"ab").is_err(), fails);
-        assert!(rt; writer.failed());
-        assert!(rt; writer.flushed());
-        assert_eq!(rt; writer.write(b"ab").ok(), Some(2));
-        assert!(rt; !writer.flushed());
-        assert!(rt; writer.flush().is_ok());
-        assert!(rt; writer.flushed());
-        assert!(rt; writer.into_inner().holds(b"ab"));
+        expect_watched_write_of_none(&rt, fails);
+        expect_watched_writes(&rt, fails);
     }
+    expect_watched_flushes(&rt);
+}
+
+fn expect_watched_reads(rt: &impl Abort) {
+    let mut reader = Watched::new(Steps::new("ab", 0));
+    let mut buf = [0; 2];
+    let first = (reader.read(&mut buf).is_err(), reader.failed());
+    let second = (reader.read(&mut buf).ok(), reader.failed());
+    let found = (first, second, reader.into_inner().calls);
+    expect_same(rt, &"reads", &found, &((true, true), (Some(1), true), 2));
+}
+
+fn expect_watched_write_of_none(rt: &impl Abort, fails: bool) {
+    let mut writer = Watched::new(Paper::new(0, fails));
+    let found = (writer.write(b"").is_err(), writer.failed());
+    expect_same(rt, &fails, &found, &(fails, fails));
+}
+
+fn expect_watched_writes(rt: &impl Abort, fails: bool) {
+    let mut writer = Watched::new(Paper::new(0, fails));
+    let first = (
+        writer.write(b"ab").is_err(),
+        writer.failed(),
+        writer.flushed(),
+    );
+    let second = (writer.write(b"ab").ok(), writer.flushed());
+    let third = (writer.flush().is_ok(), writer.flushed());
+    let found = (first, second, third);
+    let expected = ((fails, true, true), (Some(2), false), (true, true));
+    expect_same(rt, &fails, &found, &expected);
+    assert!(rt; writer.into_inner().holds(b"ab"));
+}
+
+fn expect_watched_flushes(rt: &impl Abort) {
     let mut writer = Watched::new(Stuck { flushes: 0 });
-    assert!(rt; writer.flush().is_err());
-    assert!(rt; writer.failed());
-    assert!(rt; writer.flush().is_ok());
-    assert_eq!(rt; writer.into_inner().flushes, 2);
+    let first = (writer.flush().is_err(), writer.failed());
+    let second = writer.flush().is_ok();
+    let found = (first, second, writer.into_inner().flushes);
+    expect_same(rt, &"flushes", &found, &((true, true), true, 2));
 }

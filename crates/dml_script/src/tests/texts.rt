@@ -1,7 +1,11 @@
 //! The texts of answers, jobs and errors.
 
+use super::expect_same;
 use crate::{Item, Kind, RunFault, ScriptFault, Shown, TextError, job_text, out_text, push_byte};
 use dml_types::{BatchRecord, Job, Record, Status};
+use std::alloc::{AllocError, Global};
+use std::fmt::Display;
+use std::process::Abort;
 use std::test::Fail;
 
 /// A record whose fields are wide.
@@ -13,39 +17,56 @@ const WIDE_RECORD: Record = Record {
     delta_size: 20,
 };
 
-#[test]
-fn lines_of_an_answer(rt: HostRuntime) -> Result<(), Fail> {
-    let mut list = Vec::new(rt.alloc());
+/// Compares the line of an item.
+fn expect_line(rt: &impl Abort, alloc: Global, item: &Item, line: &str) -> Result<(), TextError> {
+    let text = out_text(alloc, item)?;
+    expect_same(rt, &"a line", &text.as_str(), &line);
+    Ok(())
+}
+
+/// Four bytes that are shown, one of them of an absent page.
+fn shown(alloc: Global) -> Result<Item, AllocError> {
+    let mut list = Vec::new(alloc);
     for byte in [Some(0x00), None, Some(0x9a), Some(0xff)] {
         list.push(byte)?;
     }
-    for (item, line) in [
-        (
-            Item::Job {
-                number: 1023,
-                answer: WIDE_RECORD,
-            },
-            "job 1023 status 7d result 2 completed 4294967295 fault 18446744073709551615 delta 20\n",
-        ),
-        (
-            Item::Batch {
-                answer: BatchRecord {
-                    status: Status::BatchFailed,
-                    completed: 3,
-                },
-            },
-            "batch status 05 completed 3\n",
-        ),
-        (
-            Item::Show {
-                addr: 4088,
-                bytes: Shown { list },
-            },
-            "show 4088 00--9aff\n",
-        ),
-    ] {
-        assert_eq!(rt; out_text(rt.alloc(), &item)?.as_str(), line);
-    }
+    Ok(Item::Show {
+        addr: 4088,
+        bytes: Shown { list },
+    })
+}
+
+#[test]
+fn lines_of_an_answer(rt: HostRuntime) -> Result<(), Fail> {
+    let job = Item::Job {
+        number: 1023,
+        answer: WIDE_RECORD,
+    };
+    let batch = Item::Batch {
+        answer: BatchRecord {
+            status: Status::BatchFailed,
+            completed: 3,
+        },
+    };
+    let job_line =
+        "job 1023 status 7d result 2 completed 4294967295 fault 18446744073709551615 delta 20\n";
+    expect_line(&rt, rt.alloc(), &job, job_line)?;
+    expect_line(&rt, rt.alloc(), &batch, "batch status 05 completed 3\n")?;
+    let show = shown(rt.alloc())?;
+    expect_line(&rt, rt.alloc(), &show, "show 4088 00--9aff\n")?;
+    Ok(())
+}
+
+/// Compares the fields of a job.
+fn expect_fields(
+    rt: &impl Abort,
+    alloc: Global,
+    name: &str,
+    job: &Job,
+    line: &str,
+) -> Result<(), TextError> {
+    let text = job_text(alloc, job)?;
+    expect_same(rt, &name, &text.as_str(), &line);
     Ok(())
 }
 
@@ -82,7 +103,7 @@ fn fields_of_jobs(rt: HostRuntime) -> Result<(), Fail> {
              expected 255",
         ),
     ] {
-        assert_eq!(rt; job_text(rt.alloc(), &job)?.as_str(), line, "at {name}");
+        expect_fields(&rt, rt.alloc(), name, &job, line)?;
     }
     Ok(())
 }
@@ -94,6 +115,18 @@ fn bytes_in_hexadecimal(rt: HostRuntime) -> Result<(), Fail> {
         push_byte(&mut text, byte)?;
     }
     assert_eq!(rt; text.as_str(), "000a7df0ff");
+    Ok(())
+}
+
+/// Compares the text of an error.
+fn expect_text(
+    rt: &impl Abort,
+    alloc: Global,
+    error: &impl Display,
+    text: &str,
+) -> Result<(), AllocError> {
+    let shown = format!(in alloc; "{error}")?;
+    expect_same(rt, &"an error", &shown.as_str(), &text);
     Ok(())
 }
 
@@ -111,12 +144,8 @@ fn error_texts(rt: HostRuntime) -> Result<(), Fail> {
         (RunFault::NoMemory, "out of memory"),
         (RunFault::Write, "cannot write the answer"),
     ] {
-        assert_eq!(rt; format!(in rt.alloc(); "{error}")?.as_str(), text);
+        expect_text(&rt, rt.alloc(), &error, text)?;
     }
-    let error = TextError::NoMemory;
-    assert_eq!(rt;
-        format!(in rt.alloc(); "{error}")?.as_str(),
-        "out of memory"
-    );
+    expect_text(&rt, rt.alloc(), &TextError::NoMemory, "out of memory")?;
     Ok(())
 }

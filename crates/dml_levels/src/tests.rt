@@ -3,7 +3,7 @@ ghost use Rattle.dml_types.specs.Refusal.{need};
 
 mod growths;
 
-use crate::{LevelError, conflict, levels, task_count, touches, waves};
+use crate::{LevelError, Wave, conflict, levels, task_count, touches, waves};
 use dml_desc::{Checked, check, check_in_batch};
 use dml_types::{Job, Span, Status};
 use std::alloc::Global;
@@ -34,13 +34,28 @@ fn four_jobs() -> [Job; 4] {
     ]
 }
 
+/// Checks levels, or places.
+fn expect_numbers(rt: &impl Abort, found: &[u32], want: &[u32]) {
+    assert_eq!(rt; found, want);
+}
+
+/// Checks the levels of jobs that are checked, unless memory is wanting.
+fn expect_found(
+    rt: &impl Abort,
+    alloc: Global,
+    jobs: &[Checked],
+    want: &[u32],
+) -> Result<(), LevelError> {
+    assert!(rt; jobs.len() <= 1024);
+    let found = levels(alloc, jobs)?;
+    expect_numbers(rt, found.as_slice(), want);
+    Ok(())
+}
+
 /// Checks the levels of a list of jobs.
 fn expect_levels(rt: &impl Abort, alloc: Global, jobs: &[Job], want: &[u32]) -> Option<()> {
     let jobs = checked(alloc, STAGING, jobs)?;
-    assert!(rt; jobs.len() <= 1024);
-    let list = levels(alloc, jobs.as_slice()).ok()?;
-    assert_eq!(rt; list.as_slice(), want);
-    Some(())
+    expect_found(rt, alloc, &jobs, want).ok()
 }
 
 #[test]
@@ -77,6 +92,11 @@ fn levels_of_fills_in_turn(rt: HostRuntime) -> Result<(), Fail> {
     Ok(())
 }
 
+/// A job, checked.
+fn accepted(job: &Job) -> Result<Checked, &'static str> {
+    check(job, STAGING).ok().ok_or("refused")
+}
+
 #[test]
 fn chunk_task_counts(rt: HostRuntime) -> Result<(), Fail> {
     let rows = [
@@ -88,23 +108,23 @@ fn chunk_task_counts(rt: HostRuntime) -> Result<(), Fail> {
         (Job::move_bytes(0, 0, 1_048_576), 8, 131_072),
     ];
     for (job, chunk, want) in rows {
-        let job = check(&job, STAGING).map_err(|_| "refused")?;
+        let job = accepted(&job)?;
         assert!(rt; chunk >= 8 && chunk <= 1_048_576 && chunk % 8 == 0);
         assert_eq!(rt; task_count(&job, chunk), want);
     }
     Ok(())
 }
 
+/// The 100 bytes from an address on.
+fn span(start: u64) -> Span {
+    Span { start, len: 100 }
+}
+
 #[test]
 fn touched_ranges(rt: HostRuntime) -> Result<(), Fail> {
-    let job = check(&Job::dualcast(0, 4096, 8192, 100), STAGING).map_err(|_| "refused")?;
-    let touched = touches(&job);
-    let span = |start| Span { start, len: 100 };
-    assert_eq!(rt; touched.reads.list.as_slice(), [span(0)].as_slice());
-    assert_eq!(rt;
-        touched.writes.list.as_slice(),
-        [span(4096), span(8192)].as_slice()
-    );
+    let touched = touches(&accepted(&Job::dualcast(0, 4096, 8192, 100))?);
+    assert!(rt; touched.reads.list.as_slice() == [span(0)].as_slice());
+    assert!(rt; touched.writes.list.as_slice() == [span(4096), span(8192)].as_slice());
     Ok(())
 }
 
@@ -119,29 +139,32 @@ fn conflicts(rt: HostRuntime) -> Result<(), Fail> {
         (Job::fill(1, 8, 8), Job::no_op(), false),
     ];
     for (a, b, want) in rows {
-        let first = check(&a, STAGING).map_err(|_| "refused")?;
-        let second = check(&b, STAGING).map_err(|_| "refused")?;
-        assert_eq!(rt; conflict(&first, &second), want, "{a:?} and {b:?}");
-        assert_eq!(rt; conflict(&second, &first), want, "{b:?} and {a:?}");
+        let (first, second) = (accepted(&a)?, accepted(&b)?);
+        let both = [conflict(&first, &second), conflict(&second, &first)];
+        assert!(rt; both == [want, want], "{a:?} and {b:?}");
     }
     Ok(())
 }
 
-/// Checks the levels of fills of 8 bytes at these addresses, each fenced or not.
+/// Fills of 8 bytes at these addresses, each fenced or not, checked; none where one is refused or memory is wanting.
+fn checked_fills(alloc: Global, fills: &[(u64, bool)]) -> Option<Vec<Checked>> {
+    let mut jobs = Vec::with_capacity(alloc, fills.len()).ok()?;
+    for (address, fenced) in fills {
+        let job = Job::fill(1, *address, 8).with_flags(u32::from(*fenced));
+        jobs.push(check_in_batch(&job, STAGING).ok()?).ok()?;
+    }
+    Some(jobs)
+}
+
+/// Checks the levels of such fills.
 fn expect_fenced_levels(
     rt: &impl Abort,
     alloc: Global,
     fills: &[(u64, bool)],
     want: &[u32],
 ) -> Result<(), Fail> {
-    let mut jobs = Vec::new(alloc);
-    for (address, fenced) in fills {
-        let job = Job::fill(1, *address, 8).with_flags(u32::from(*fenced));
-        jobs.push(check_in_batch(&job, STAGING).map_err(|_| "refused")?)?;
-    }
-    assert!(rt; jobs.len() <= 1024);
-    let found = levels(alloc, jobs.as_slice())?;
-    assert_eq!(rt; found.as_slice(), want);
+    let jobs = checked_fills(alloc, fills).ok_or("a fill is refused, or no memory")?;
+    expect_found(rt, alloc, &jobs, want)?;
     Ok(())
 }
 
@@ -181,18 +204,23 @@ fn two_moves(alloc: Global) -> Option<Vec<Checked>>
     checked(alloc, 64, &jobs)
 }
 
+/// Checks that there are two waves, of the first job and of the second.
+fn expect_one_each(rt: &impl Abort, list: &[Wave]) {
+    assert_eq!(rt; list.len(), 2);
+    for (wave, place) in list.iter().zip(0..2) {
+        expect_numbers(rt, wave.list.as_slice(), &[place]);
+    }
+}
+
 /// Checks that two jobs of one level, which need 64 bytes of staging each, are two waves; or memory is wanting.
 fn expect_two_waves(rt: &impl Abort, alloc: Global, jobs: &[Checked]) -> Result<(), LevelError>
     requires { All (λ job. need job ≤ 64) jobs.now }
 {
     assert!(rt; jobs.len() <= 1024);
     let found = levels(alloc, jobs)?;
-    assert_eq!(rt; found.as_slice(), [0, 0].as_slice());
+    expect_numbers(rt, found.as_slice(), &[0, 0]);
     let list = waves(alloc, jobs, found.as_slice(), 64, 4096)?;
-    assert_eq!(rt; list.len(), 2);
-    for (wave, place) in list.iter().zip(0..2) {
-        assert_eq!(rt; wave.list.as_slice(), [place].as_slice());
-    }
+    expect_one_each(rt, list.as_slice());
     Ok(())
 }
 
@@ -203,6 +231,13 @@ fn staging_refusal_and_two_waves(rt: HostRuntime) -> Result<(), Fail> {
     let jobs = two_moves(rt.alloc()).ok_or("no memory")?;
     expect_two_waves(&rt, rt.alloc(), jobs.as_slice())?;
     Ok(())
+}
+
+/// The right levels, or want of memory.
+fn levels_or_refused(rt: &impl Abort, alloc: Global, jobs: &[Checked], want: &[u32]) {
+    if let Err(error) = expect_found(rt, alloc, jobs, want) {
+        assert_eq!(rt; error, LevelError::NoMemory);
+    }
 }
 
 /// What is made before the call of `refused_levels`.
@@ -217,11 +252,7 @@ fn refused_levels(rt: HostRuntime) {
     let Some(jobs) = checked(rt.alloc(), STAGING, &four_jobs()) else {
         return;
     };
-    assert!(rt; jobs.len() <= 1024);
-    match levels(rt.alloc(), jobs.as_slice()) {
-        Ok(list) => assert_eq!(rt; list.as_slice(), [0, 1, 0, 2].as_slice()),
-        Err(error) => assert_eq!(rt; error, LevelError::NoMemory),
-    }
+    levels_or_refused(&rt, rt.alloc(), &jobs, &[0, 1, 0, 2]);
 }
 
 /// What is made before the call of `waves` in `refused_waves`: the jobs and their levels.

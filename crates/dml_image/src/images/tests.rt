@@ -14,57 +14,102 @@ use std::test::Fail;
 fn image_with(alloc: Global, pages: u32, brought: &[u32]) -> Result<Image<'static>, ImageError> {
     let mut image = Image::new(alloc, pages)?;
     for page in brought {
-        image.bring(*page, &[0; 4096])?;
+        bring_full(&mut image, *page, 0)?;
     }
     Ok(image)
 }
 
-/// Byte `i` of a pattern that is repeated from its low byte on.
-fn pattern_byte(pattern: u64, i: u32) -> u8 {
-    ((pattern >> (8 * (i % 8))) & 0xff) as u8
+/// Brings a page full of one byte.
+fn bring_full(image: &mut Image, page: u32, byte: u8) -> Result<(), ImageError>
+    ensures home { image.new.home ≡ image.old.home }
+{
+    match image.bring(page, &[byte; 4096]) {
+        Ok(()) => Ok(()),
+        Err(error) => Err(error),
+    }
+}
+
+/// Brings a page full of one byte, and checks the answer.
+fn expect_bring(
+    rt: &impl Abort,
+    image: &mut Image,
+    page: u32,
+    byte: u8,
+    answer: Result<(), ImageError>,
+)
+    ensures home { image.new.home ≡ image.old.home }
+{
+    assert_eq!(rt; bring_full(image, page, byte), answer, "page {page}");
+}
+
+/// Checks the number of pages.
+fn expect_pages(rt: &impl Abort, image: &Image, pages: u32) {
+    assert_eq!(rt; image.pages(), pages);
+}
+
+/// Checks bytes that were read.
+fn expect_bytes(rt: &impl Abort, bytes: &[u8], want: &[u8]) {
+    assert_eq!(rt; bytes, want);
+}
+
+/// Checks the byte at an address.
+fn expect_byte(rt: &impl Abort, image: &Image, addr: u64, value: Option<u8>) {
+    assert_eq!(rt; image.byte(addr), value, "byte {addr}");
+}
+
+/// Checks how many of `len` bytes come before the first absent one.
+fn expect_first_absent(
+    rt: &impl Abort,
+    image: &Image,
+    (addr, len): (u64, u32),
+    direction: Direction,
+    count: Option<u32>,
+) {
+    assert!(rt; u128::from(addr) + u128::from(len) <= 1 << 64);
+    assert_eq!(rt;
+        image.first_absent(addr, len, direction),
+        count,
+        "{len} from {addr} on, {direction:?}"
+    );
 }
 
 #[test]
 fn new_image_is_absent(rt: HostRuntime) -> Result<(), Fail> {
     let image = Image::new(rt.alloc(), 1)?;
-    assert_eq!(rt; image.pages(), 1);
+    expect_pages(&rt, &image, 1);
     assert!(rt; !image.has(0));
-    assert_eq!(rt; image.byte(0), None);
-    assert_eq!(rt; image.first_absent(0, 1, Direction::Forward), Some(0));
+    expect_byte(&rt, &image, 0, None);
+    expect_first_absent(&rt, &image, (0, 1), Direction::Forward, Some(0));
     Ok(())
 }
 
 #[test]
 fn arguments_refused(rt: HostRuntime) -> Result<(), Fail> {
-    assert_eq!(rt; Image::new(rt.alloc(), 0).err(), Some(ImageError::BadPages));
-    assert_eq!(rt;
-        Image::new(rt.alloc(), 4097).err(),
-        Some(ImageError::BadPages)
-    );
+    for pages in [0, 4097] {
+        let refused = matches!(Image::new(rt.alloc(), pages), Err(ImageError::BadPages));
+        assert!(rt; refused, "{pages} pages");
+    }
     let mut image = Image::new(rt.alloc(), 1)?;
-    assert_eq!(rt; image.bring(1, &[7; 4096]), Err(ImageError::NoSuchPage));
-    assert!(rt;
-        matches!(
-            image.bring(u32::MAX, &[7; 4096]),
-            Err(ImageError::NoSuchPage)
-        )
-    );
+    for page in [1, u32::MAX] {
+        expect_bring(&rt, &mut image, page, 7, Err(ImageError::NoSuchPage));
+    }
     assert!(rt; !image.has(0));
     Ok(())
+}
+
+/// Checks the ends of an image's last page, which is full of 0x5a: it alone is present of itself and its neighbours.
+fn expect_last_page(rt: &impl Abort, image: &Image, first: u64, last: u64) {
+    assert!(rt; first > 0 && last < u64::MAX);
+    assert!(rt; image.has(last) && !image.has(first - 1) && !image.has(last + 1));
+    expect_byte(rt, image, last, Some(0x5a));
+    expect_first_absent(rt, image, (first, 4097), Direction::Forward, Some(4096));
 }
 
 #[test]
 fn last_page(rt: HostRuntime) -> Result<(), Fail> {
     let mut image = Image::new(rt.alloc(), 4096)?;
-    image.bring(4095, &[0x5a; 4096])?;
-    assert!(rt; image.has(16_777_215));
-    assert_eq!(rt; image.byte(16_777_215), Some(0x5a));
-    assert!(rt; !image.has(16_773_119));
-    assert!(rt; !image.has(16_777_216));
-    assert_eq!(rt;
-        image.first_absent(16_773_120, 4097, Direction::Forward),
-        Some(4096)
-    );
+    bring_full(&mut image, 4095, 0x5a)?;
+    expect_last_page(&rt, &image, 16_773_120, 16_777_215);
     Ok(())
 }
 
@@ -74,26 +119,33 @@ fn part_ends_with_its_page(rt: HostRuntime) -> Result<(), Fail> {
     assert!(rt; image.first_absent(4093, 4, Direction::Forward).is_none());
     image.write(4093, &[1, 2, 3, 4]);
     assert!(rt; image.has(4093));
-    assert_eq!(rt; image.part(4093, 4), [1, 2, 3].as_slice());
-    assert_eq!(rt; image.part(4093, 2), [1, 2].as_slice());
+    expect_bytes(&rt, image.part(4093, 4), &[1, 2, 3]);
+    expect_bytes(&rt, image.part(4093, 2), &[1, 2]);
     assert!(rt; image.part(4093, 0).is_empty());
     Ok(())
 }
 
-#[test]
-fn write_over_page_edge(rt: HostRuntime) -> Result<(), Fail> {
-    let mut image = image_with(rt.alloc(), 2, &[0, 1])?;
+/// Writes over the edge of the first two pages, and checks what is written and the byte on each side of it.
+fn write_over_edge(rt: &impl Abort, image: &mut Image, beside: u8)
+    ensures home { image.new.home ≡ image.old.home }
+{
     assert!(rt; image.first_absent(4094, 4, Direction::Forward).is_none());
     image.write(4094, &[1, 2, 3, 4]);
     let mut read = [9; 6];
     assert!(rt; image.first_absent(4093, 6, Direction::Forward).is_none());
     image.read_into(4093, &mut read);
-    assert_eq!(rt; read, [0, 1, 2, 3, 4, 0]);
-    image.bring(0, &[0; 4096])?;
+    expect_bytes(rt, &read, &[beside, 1, 2, 3, 4, beside]);
+}
+
+#[test]
+fn write_over_page_edge(rt: HostRuntime) -> Result<(), Fail> {
+    let mut image = image_with(rt.alloc(), 2, &[0, 1])?;
+    write_over_edge(&rt, &mut image, 0);
+    bring_full(&mut image, 0, 0)?;
     assert!(rt; image.first_absent(4094, 4, Direction::Forward).is_none());
     let mut read = [9; 4];
     image.read_into(4094, &mut read);
-    assert_eq!(rt; read, [0, 0, 3, 4]);
+    expect_bytes(&rt, &read, &[0, 0, 3, 4]);
     Ok(())
 }
 
@@ -127,41 +179,40 @@ const RANGES: [(u64, u32, Option<u32>, Option<u32>); 21] = [
 fn first_absent_both_ways(rt: HostRuntime) -> Result<(), Fail> {
     let image = image_with(rt.alloc(), 4, &[0, 2, 3])?;
     for (addr, len, forward, backward) in RANGES {
-        assert!(rt; addr as u128 + len as u128 <= 1 << 64);
-        assert_eq!(rt;
-            image.first_absent(addr, len, Direction::Forward),
-            forward,
-            "{len} from {addr} on"
-        );
-        assert_eq!(rt;
-            image.first_absent(addr, len, Direction::Backward),
-            backward,
-            "{len} from {addr} on, backward"
-        );
+        let range = (addr, len);
+        expect_first_absent(&rt, &image, range, Direction::Forward, forward);
+        expect_first_absent(&rt, &image, range, Direction::Backward, backward);
     }
     Ok(())
+}
+
+/// Byte `i` of a pattern that is repeated from its low byte on.
+fn pattern_byte(pattern: u64, i: u32) -> u8 {
+    pattern.to_le_bytes()[i as usize % 8]
+}
+
+/// Fills a range of two pages full of 0xee, and checks its bytes and one on each side of it.
+fn expect_filled(rt: &impl Abort, image: &mut Image, addr: u64, len: u32) {
+    let pattern = 0x8877_6655_4433_2211;
+    assert!(rt; 0 < addr && addr < 4096);
+    assert!(rt; image.first_absent(addr, len, Direction::Forward).is_none());
+    image.fill(addr, len, pattern);
+    expect_byte(rt, image, addr - 1, Some(0xee));
+    for i in 0..len {
+        let byte = pattern_byte(pattern, i);
+        expect_byte(rt, image, addr + u64::from(i), Some(byte));
+    }
+    expect_byte(rt, image, addr + u64::from(len), Some(0xee));
 }
 
 #[test]
 fn fills_over_a_page_edge(rt: HostRuntime) -> Result<(), Fail> {
     let mut image = image_with(rt.alloc(), 2, &[0, 1])?;
-    let pattern = 0x8877_6655_4433_2211;
-    for shift in 0..8u64 {
-        for len in 0..40u32 {
-            image.bring(0, &[0xee; 4096])?;
-            image.bring(1, &[0xee; 4096])?;
-            let addr = 4072 + shift;
-            assert!(rt; image.first_absent(addr, len, Direction::Forward).is_none());
-            image.fill(addr, len, pattern);
-            assert_eq!(rt; image.byte(addr - 1), Some(0xee));
-            for i in 0..len {
-                assert_eq!(rt;
-                    image.byte(addr + i as u64),
-                    Some(pattern_byte(pattern, i)),
-                    "byte {i} of {len} at {addr}"
-                );
-            }
-            assert_eq!(rt; image.byte(addr + len as u64), Some(0xee));
+    for addr in 4072..4080 {
+        for len in 0..40 {
+            bring_full(&mut image, 0, 0xee)?;
+            bring_full(&mut image, 1, 0xee)?;
+            expect_filled(&rt, &mut image, addr, len);
         }
     }
     Ok(())
@@ -183,7 +234,7 @@ fn empty_ranges_past_the_end(rt: HostRuntime) -> Result<(), Fail> {
 /// Whether each byte of page 0 has this value, looked at from both ends.
 fn check_page(rt: &impl Abort, image: &Image, value: Option<u8>) {
     for addr in [0, 1, 4094, 4095] {
-        assert_eq!(rt; image.byte(addr), value, "byte {addr}");
+        expect_byte(rt, image, addr, value);
     }
 }
 
@@ -271,17 +322,23 @@ fn move_inside(rt: &impl Abort, image: &mut Image, row: (u64, u64, u32))
     image.move_within(source, target, len);
 }
 
+/// Moves bytes inside an image of three pages, and checks all bytes.
+fn expect_moved(rt: &impl Abort, image: &mut Image, row: (u64, u64, u32)) {
+    let before = some_bytes();
+    assert!(rt; image.first_absent(0, 12_288, Direction::Forward).is_none());
+    image.write(0, &before);
+    move_inside(rt, image, row);
+    let mut after = [0; 12_288];
+    assert!(rt; image.first_absent(0, 12_288, Direction::Forward).is_none());
+    image.read_into(0, &mut after);
+    assert!(rt; after == moved(rt, &before, row), "{row:?}");
+}
+
 #[test]
 fn moves_inside_own_pages(rt: HostRuntime) -> Result<(), Fail> {
     let mut image = image_with(rt.alloc(), 3, &[0, 1, 2])?;
     for row in MOVES {
-        assert!(rt; image.first_absent(0, 12_288, Direction::Forward).is_none());
-        image.write(0, &some_bytes());
-        move_inside(&rt, &mut image, row);
-        let mut after = [0; 12_288];
-        assert!(rt; image.first_absent(0, 12_288, Direction::Forward).is_none());
-        image.read_into(0, &mut after);
-        assert!(rt; after == moved(&rt, &some_bytes(), row), "{row:?}");
+        expect_moved(&rt, &mut image, row);
     }
     Ok(())
 }
@@ -315,38 +372,35 @@ fn moves_inside_lent_memory(rt: HostRuntime) {
     }
 }
 
+/// What a write over the first edge, a first page of 0, and a fill over the second edge leave of pages full of 0x11.
+fn edges_written() -> [u8; 12_288] {
+    let mut content = [0x11; 12_288];
+    content[..4096].fill(0);
+    content[4096..4098].copy_from_slice(&[3, 4]);
+    content[8190..8195].copy_from_slice(&[0x11, 0x22, 0x33, 0x44, 0x55]);
+    content
+}
+
 #[test]
 fn write_over_page_edge_of_lent_memory(rt: HostRuntime) {
     let mut content = [0x11; 12_288];
     let mut lent = three_pages(&mut content);
     let mut image = lent.take();
-    assert_eq!(rt; image.pages(), 3);
-    assert!(rt; image.first_absent(4094, 4, Direction::Forward).is_none());
-    image.write(4094, &[1, 2, 3, 4]);
-    let mut read = [9; 6];
-    assert!(rt; image.first_absent(4093, 6, Direction::Forward).is_none());
-    image.read_into(4093, &mut read);
-    assert_eq!(rt; read, [0x11, 1, 2, 3, 4, 0x11]);
-    assert_eq!(rt; bring_full(&mut image, 0, 0), Ok(()));
+    expect_pages(&rt, &image, 3);
+    write_over_edge(&rt, &mut image, 0x11);
+    expect_bring(&rt, &mut image, 0, 0, Ok(()));
     assert!(rt; image.first_absent(8190, 5, Direction::Forward).is_none());
     image.fill(8190, 5, 0x8877_6655_4433_2211);
     lent.put(image);
     drop(lent);
-    let mut expected = [0x11; 12_288];
-    expected[..4096].fill(0);
-    expected[4096..4098].copy_from_slice(&[3, 4]);
-    expected[8190..8195].copy_from_slice(&[0x11, 0x22, 0x33, 0x44, 0x55]);
-    assert!(rt; content == expected);
+    assert!(rt; content == edges_written());
 }
 
-/// Brings a page full of one byte.
-fn bring_full(image: &mut Image, page: u32, byte: u8) -> Result<(), ImageError>
-    ensures home { image.new.home ≡ image.old.home }
-{
-    match image.bring(page, &[byte; 4096]) {
-        Ok(()) => Ok(()),
-        Err(error) => Err(error),
-    }
+/// Two pages full of 0, and one of 0x5a.
+fn last_page_brought() -> [u8; 12_288] {
+    let mut content = [0; 12_288];
+    content[8192..].fill(0x5a);
+    content
 }
 
 #[test]
@@ -354,21 +408,12 @@ fn last_page_of_lent_memory(rt: HostRuntime) {
     let mut content = [0; 12_288];
     let mut lent = last_of_three(&mut content);
     let mut image = lent.take();
-    assert_eq!(rt; bring_full(&mut image, 3, 7), Err(ImageError::NoSuchPage));
-    assert_eq!(rt; bring_full(&mut image, 2, 0x5a), Ok(()));
-    assert!(rt; image.has(12_287));
-    assert_eq!(rt; image.byte(12_287), Some(0x5a));
-    assert!(rt; !image.has(8191));
-    assert!(rt; !image.has(12_288));
-    assert_eq!(rt;
-        image.first_absent(8192, 4097, Direction::Forward),
-        Some(4096)
-    );
+    expect_bring(&rt, &mut image, 3, 7, Err(ImageError::NoSuchPage));
+    expect_bring(&rt, &mut image, 2, 0x5a, Ok(()));
+    expect_last_page(&rt, &image, 8192, 12_287);
     lent.put(image);
     drop(lent);
-    let mut expected = [0; 12_288];
-    expected[8192..].fill(0x5a);
-    assert!(rt; content == expected);
+    assert!(rt; content == last_page_brought());
 }
 
 /// No growth is refused here: lent memory has no room for a page that is absent.
@@ -377,20 +422,17 @@ fn absent_page_of_lent_memory(rt: HostRuntime) {
     let mut content = [0; 12_288];
     let mut lent = last_of_three(&mut content);
     let mut image = lent.take();
-    assert_eq!(rt; bring_full(&mut image, 1, 0x5a), Err(ImageError::NoMemory));
+    expect_bring(&rt, &mut image, 1, 0x5a, Err(ImageError::NoMemory));
     assert!(rt; !image.has(4096) && !image.has(8191) && image.has(8192));
-    assert_eq!(rt; image.byte(8191), None);
-    for (addr, len, forward, backward) in [
-        (8190, 4, Some(0), Some(2)),
-        (8192, 4096, None, None),
-        (8192, 4097, Some(4096), Some(0)),
-        (0, 12_288, Some(0), Some(4096)),
+    expect_byte(&rt, &image, 8191, None);
+    for (range, forward, backward) in [
+        ((8190, 4), Some(0), Some(2)),
+        ((8192, 4096), None, None),
+        ((8192, 4097), Some(4096), Some(0)),
+        ((0, 12_288), Some(0), Some(4096)),
     ] {
-        assert_eq!(rt; image.first_absent(addr, len, Direction::Forward), forward);
-        assert_eq!(rt;
-            image.first_absent(addr, len, Direction::Backward),
-            backward
-        );
+        expect_first_absent(&rt, &image, range, Direction::Forward, forward);
+        expect_first_absent(&rt, &image, range, Direction::Backward, backward);
     }
     lent.put(image);
     drop(lent);
@@ -400,14 +442,19 @@ fn absent_page_of_lent_memory(rt: HostRuntime) {
 // The refused_* below take either answer: they are also run with each growth refused in turn, from the first one behind
 // those that their set-up takes.
 
+/// Checks that memory was wanting.
+fn expect_no_memory(rt: &impl Abort, error: ImageError) {
+    assert_eq!(rt; error, ImageError::NoMemory);
+}
+
 #[test]
 fn refused_new(rt: HostRuntime) {
     match Image::new(rt.alloc(), 3) {
         Ok(image) => {
-            assert_eq!(rt; image.pages(), 3);
+            expect_pages(&rt, &image, 3);
             check_page(&rt, &image, None);
         }
-        Err(error) => assert_eq!(rt; error, ImageError::NoMemory),
+        Err(error) => expect_no_memory(&rt, error),
     }
 }
 
@@ -422,10 +469,10 @@ fn set_up_of_bring(rt: HostRuntime) -> Result<(), Fail> {
 #[test]
 fn refused_bring(rt: HostRuntime) -> Result<(), Fail> {
     let mut image = Image::new(rt.alloc(), 3)?;
-    match image.bring(0, &[0x5a; 4096]) {
+    match bring_full(&mut image, 0, 0x5a) {
         Ok(()) => check_page(&rt, &image, Some(0x5a)),
         Err(error) => {
-            assert_eq!(rt; error, ImageError::NoMemory);
+            expect_no_memory(&rt, error);
             check_page(&rt, &image, None);
         }
     }
@@ -443,7 +490,7 @@ fn set_up_of_second_bring(rt: HostRuntime) -> Result<(), Fail> {
 #[test]
 fn refused_second_bring(rt: HostRuntime) -> Result<(), Fail> {
     let mut image = image_with(rt.alloc(), 3, &[0])?;
-    assert_eq!(rt; image.bring(0, &[0x5a; 4096]), Ok(()));
+    expect_bring(&rt, &mut image, 0, 0x5a, Ok(()));
     check_page(&rt, &image, Some(0x5a));
     Ok(())
 }
@@ -452,7 +499,7 @@ fn refused_second_bring(rt: HostRuntime) -> Result<(), Fail> {
 fn hold(alloc: Global, present: u32) -> Result<(), Fail> {
     let mut image = Image::new(alloc, 4096)?;
     for page in 0..present {
-        image.bring(page, &[0x5a; 4096])?;
+        bring_full(&mut image, page, 0x5a)?;
     }
     Ok(())
 }

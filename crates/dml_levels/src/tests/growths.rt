@@ -1,11 +1,9 @@
 //! More calls whose growths of memory are refused: levels that are found by cells, and those behind fences.
 
-use super::{STAGING, fills_in_turn};
-use crate::{LevelError, levels};
+use super::{STAGING, fills_in_turn, levels_or_refused};
 use dml_desc::{Checked, check_in_batch};
 use dml_types::Job;
 use std::alloc::Global;
-use std::process::Abort;
 
 // The refused_* below hold whichever growth is refused: they are also run with each refused in turn, from the first one
 // behind those that their set-up takes.
@@ -22,15 +20,6 @@ fn checked_batch(alloc: Global, jobs: &[Job]) -> Option<Vec<Checked>> {
 /// Twenty fills of five places in turn.
 fn many_fills(alloc: Global) -> Option<Vec<Checked>> {
     checked_batch(alloc, &fills_in_turn(alloc)?)
-}
-
-/// The right levels, or want of memory.
-fn levels_or_refused(rt: &impl Abort, alloc: Global, jobs: &[Checked], want: &[u32]) {
-    assert!(rt; jobs.len() <= 1024);
-    match levels(alloc, jobs) {
-        Ok(list) => assert_eq!(rt; list.as_slice(), want),
-        Err(error) => assert_eq!(rt; error, LevelError::NoMemory),
-    }
 }
 
 #[test]

@@ -179,9 +179,7 @@ fn abandon(records: &mut [Record], from: usize)
     requires { from ≤ length records.old }
     ensures { records.new ≡ take from records.old ++ replicate (length records.old - from) (ended Abandoned 0 0 0) }
 {
-    for i in from..records.len() {
-        records[i] = Record::refused(Status::Abandoned);
-    }
+    records[from..].fill(Record::refused(Status::Abandoned));
 }
 
 /// The first place from `start` on whose job is fenced, or the end of the list.

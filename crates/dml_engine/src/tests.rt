@@ -10,11 +10,14 @@ mod refusals;
 mod resuming;
 mod rows;
 
-use crate::{Engine, EngineError};
+use crate::{Engine, EngineError, SubmitError};
 use dml_image::Image;
-use dml_types::{Job, Record, Settings, Status};
-use std::alloc::Global;
+use dml_types::{Direction, Job, Record, Settings, Status};
+use std::alloc::{AllocError, Global};
+use std::process::Abort;
+use std::sync::Wait;
 use std::test::Fail;
+use std::thread::Threads;
 
 const USUAL: Settings = Settings {
     staging: 1_048_576,
@@ -22,11 +25,44 @@ const USUAL: Settings = Settings {
     workers: 4,
 };
 
-/// An engine over an image of two pages, of which the first is present; none where memory is wanting.
-fn engine(alloc: Global) -> Option<Engine> {
-    let mut image = Image::new(alloc, 2).ok()?;
+/// Puts bytes at the front of a page or of a part of it.
+fn put(part: &mut [u8], bytes: &[u8]) {
+    for (byte, first) in part.iter_mut().zip(bytes) {
+        *byte = *first;
+    }
+}
+
+/// A page that begins with these bytes, the others being 0.
+fn page_of(opening: &[u8]) -> [u8; 4096] {
+    let mut page = [0; 4096];
+    put(&mut page, opening);
+    page
+}
+
+/// An image of so many pages, of which the first is present; none where memory is wanting.
+fn image_of(alloc: Global, pages: u32) -> Option<Image<'static>> {
+    let mut image = Image::new(alloc, pages).ok()?;
     image.bring(0, &[0; 4096]).ok()?;
-    Engine::new(alloc, image, USUAL).ok()
+    Some(image)
+}
+
+/// An image of so many pages, all full of the same byte.
+fn full_image(alloc: Global, pages: u32, byte: u8) -> Option<Image<'static>> {
+    let mut image = Image::new(alloc, pages).ok()?;
+    for page in 0..pages {
+        image.bring(page, &[byte; 4096]).ok()?;
+    }
+    Some(image)
+}
+
+/// An engine over an image of so many pages, of which the first is present.
+fn engine_with(alloc: Global, pages: u32, settings: Settings) -> Option<Engine> {
+    Engine::new(alloc, image_of(alloc, pages)?, settings).ok()
+}
+
+/// An engine over an image of two pages, of which the first is present.
+fn engine(alloc: Global) -> Option<Engine> {
+    engine_with(alloc, 2, USUAL)
 }
 
 /// A record by its five values.
@@ -38,6 +74,38 @@ fn answer(status: Status, outcome: u8, completed: u32, fault: u64) -> Record {
         fault,
         delta_size: 0,
     }
+}
+
+/// Expects that an engine was made, and the byte at an address, and drops it.
+fn expect_made(rt: &impl Abort, made: Option<Engine>, addr: u64, byte: u8) -> Result<(), Fail> {
+    let engine = made.ok_or("no memory")?;
+    assert_eq!(rt; engine.image().byte(addr), Some(byte));
+    Ok(())
+}
+
+/// Makes the engine and drops it.
+fn made_and_dropped(rt: &impl Abort, alloc: Global) -> Result<(), Fail> {
+    expect_made(rt, engine(alloc), 8, 0)
+}
+
+/// Expects bytes at some addresses.
+fn expect_at(rt: &impl Abort, engine: &Engine, bytes: &[(u64, u8)]) {
+    for (addr, byte) in bytes {
+        assert_eq!(rt; engine.image().byte(*addr), Some(*byte), "{addr}");
+    }
+}
+
+/// The list of records found no memory, and nothing was done.
+fn expect_nothing(rt: &impl Abort, engine: &Engine, error: SubmitError) {
+    assert_eq!(rt; error, SubmitError::NoMemory);
+    expect_at(rt, engine, &[(0, 0), (8, 0), (64, 0), (128, 0)]);
+}
+
+/// A list of records as a call takes it first.
+fn no_records(rt: &impl Abort, alloc: Global, room: usize) -> Result<(), AllocError> {
+    let records = Vec::<Record>::with_capacity(alloc, room)?;
+    assert!(rt; records.is_empty());
+    Ok(())
 }
 
 #[test]
@@ -54,35 +122,40 @@ fn settings_out_of_range(rt: HostRuntime) -> Result<(), Fail> {
     }
 }
 
+/// Writes bytes into the page that is present.
+fn write_bytes(rt: &impl Abort, engine: &mut Engine) {
+    let absent = engine.image().first_absent(8, 3, Direction::Forward);
+    assert!(rt; absent.is_none());
+    engine.write(8, &[1, 2, 3]);
+}
+
+/// Submits jobs one by one.
+fn submit_each<R: Abort + Threads + Wait + Sync>(rt: &R, alloc: Global, engine: &mut Engine) {
+    let table = [
+        (Job::no_op(), answer(Status::Success, 0, 0, 0)),
+        (
+            Job::no_op().with_flags(0x10),
+            answer(Status::BadFlags, 0, 0, 0),
+        ),
+        (Job::move_bytes(8, 10, 3), answer(Status::Success, 1, 3, 0)),
+        (
+            Job::dualcast(10, 4096, 8192, 3),
+            answer(Status::WriteFault, 0, 0, 4096),
+        ),
+    ];
+    for (job, want) in table {
+        assert_eq!(rt; engine.submit(rt, alloc, job), want);
+    }
+}
+
 #[test]
 fn each_call(rt: HostRuntime) -> Result<(), Fail> {
     let mut engine = engine(rt.alloc()).ok_or("no memory")?;
-    assert!(rt;
-        engine
-            .image()
-            .first_absent(8, 3, dml_types::Direction::Forward)
-            .is_none()
-    );
-    engine.write(8, &[1, 2, 3]);
-    assert_eq!(rt;
-        engine.submit(&rt, rt.alloc(), Job::no_op()),
-        answer(Status::Success, 0, 0, 0)
-    );
-    assert_eq!(rt;
-        engine.submit(&rt, rt.alloc(), Job::no_op().with_flags(0x10)),
-        answer(Status::BadFlags, 0, 0, 0)
-    );
-    assert_eq!(rt;
-        engine.submit(&rt, rt.alloc(), Job::move_bytes(8, 10, 3)),
-        answer(Status::Success, 1, 3, 0)
-    );
-    assert_eq!(rt;
-        engine.submit(&rt, rt.alloc(), Job::dualcast(10, 4096, 8192, 3)),
-        answer(Status::WriteFault, 0, 0, 4096)
-    );
+    write_bytes(&rt, &mut engine);
+    submit_each(&rt, rt.alloc(), &mut engine);
     let image = engine.into_image();
-    assert_eq!(rt; image.byte(10), Some(1));
-    assert_eq!(rt; image.byte(12), Some(3));
-    assert_eq!(rt; image.byte(13), Some(0));
+    for (addr, byte) in [(10, 1), (12, 3), (13, 0)] {
+        assert_eq!(rt; image.byte(addr), Some(byte));
+    }
     Ok(())
 }

@@ -1,27 +1,17 @@
 //! Fences in batches, at many settings with the same answers. In a list, and in a job by itself, a fence is refused.
 
-use super::rows::{self, expect_as_list, plain_row, settings};
-use super::{USUAL, answer};
+use super::rows::{
+    self, expect_as_list, expect_bytes, expect_own, expect_records, plain_row, settings, with_given,
+};
+use super::{USUAL, answer, engine_with};
 use crate::Engine;
-use dml_image::Image;
-use dml_pool::{Free, Gate};
+use dml_pool::Free;
 use dml_types::{Job, Record, Status};
 use std::alloc::Global;
 use std::process::Abort;
 use std::sync::Wait;
 use std::test::Fail;
 use std::thread::Threads;
-
-/// An image of one page that begins with these bytes, the others being 0.
-fn image(alloc: Global, opening: &[u8]) -> Option<Image<'static>> {
-    let mut page = [0; 4096];
-    for (byte, first) in page.iter_mut().zip(opening) {
-        *byte = *first;
-    }
-    let mut image = Image::new(alloc, 1).ok()?;
-    image.bring(0, &page).ok()?;
-    Some(image)
-}
 
 /// A batch on a page of zeros, what its jobs answer, its own status, how many jobs are carried out, and the first bytes
 /// that it leaves.
@@ -31,7 +21,7 @@ struct Row<'a> {
     jobs: &'a [Job],
     records: &'a [Record],
     status: Status,
-    completed: u32,
+    completed: usize,
     left: &'a [u8],
 }
 
@@ -53,43 +43,37 @@ fn abandoned() -> Record {
 }
 
 /// Submits a row's batch to an engine.
-fn expect_row<R: Abort + Threads + Wait + Sync, G: Gate + Sync>(
+fn expect_row<R: Abort + Threads + Wait + Sync>(
     rt: &R,
     alloc: Global,
     row: &Row,
-    engine: &mut Engine<G>,
+    engine: &mut Engine,
 ) -> Option<()> {
     let (own, records) = engine.submit_batch(rt, alloc, row.jobs).ok()?;
-    assert_eq!(rt; records.as_slice(), row.records, "{}", row.name);
-    assert_eq!(rt;
-        (own.status, own.completed),
-        (row.status, row.completed),
-        "{}",
-        row.name
-    );
-    for (place, byte) in row.left.iter().enumerate() {
-        assert_eq!(rt;
-            engine.image().byte(place as u64),
-            Some(*byte),
-            "{}",
-            row.name
-        );
-    }
+    expect_records(rt, row.name, &records, row.records);
+    expect_own(rt, row.name, own, row.status, row.completed);
+    expect_bytes(rt, row.name, engine.image(), 0, row.left);
     Some(())
 }
 
 /// Expects a row's answers at all settings, with the engine's own gate and with one given.
-fn expect<R: Abort + Threads + Wait + Sync>(rt: &R, alloc: Global, row: &Row) -> Result<(), Fail> {
+fn expect_everywhere<R: Abort + Threads + Wait + Sync>(
+    rt: &R,
+    alloc: Global,
+    row: &Row,
+) -> Option<()> {
     for settings in settings(USUAL.staging) {
-        let Ok(mut own) = Engine::new(alloc, image(alloc, &[]).ok_or("no memory")?, settings) else {
-            return Err("no memory".into());
-        };
-        expect_row(rt, alloc, row, &mut own).ok_or("no memory")?;
-        let Ok(given) = Engine::new(alloc, image(alloc, &[]).ok_or("no memory")?, settings) else {
-            return Err("no memory".into());
-        };
-        expect_row(rt, alloc, row, &mut given.with_gate(Free)).ok_or("no memory")?;
+        for given in [false, true] {
+            let mut engine = with_given(engine_with(alloc, 1, settings)?, given);
+            expect_row(rt, alloc, row, &mut engine)?;
+        }
     }
+    Some(())
+}
+
+/// The same, as the end of a test.
+fn expect<R: Abort + Threads + Wait + Sync>(rt: &R, alloc: Global, row: &Row) -> Result<(), Fail> {
+    expect_everywhere(rt, alloc, row).ok_or("no memory")?;
     Ok(())
 }
 
@@ -273,20 +257,19 @@ fn fence_in_list(rt: HostRuntime) -> Result<(), Fail> {
     expect_as_list(&rt, rt.alloc(), &row)
 }
 
-/// A job by itself leaves the image as it was.
+/// Submits it by itself, and expects that it is refused and leaves the image as it was.
+fn expect_refused<R: Abort + Threads + Wait + Sync>(rt: &R, alloc: Global, engine: &mut Engine) {
+    let refused = engine.submit(rt, alloc, FENCED_FILL);
+    assert_eq!(rt; refused, answer(Status::BadFlags, 0, 0, 0));
+    assert_eq!(rt; engine.image().byte(0), Some(0));
+}
+
 #[test]
 fn fence_in_a_job(rt: HostRuntime) -> Result<(), Fail> {
-    let alloc = rt.alloc();
-    let refused = answer(Status::BadFlags, 0, 0, 0);
     for settings in settings(USUAL.staging) {
-        let Ok(mut own) = Engine::new(alloc, image(alloc, &[]).ok_or("no memory")?, settings) else {
-            return Err("no memory".into());
-        };
-        assert_eq!(rt; own.submit(&rt, alloc, FENCED_FILL), refused);
-        assert_eq!(rt; own.image().byte(0), Some(0));
-        let mut given = own.with_gate(Free);
-        assert_eq!(rt; given.submit(&rt, alloc, FENCED_FILL), refused);
-        assert_eq!(rt; given.image().byte(0), Some(0));
+        let mut own = engine_with(rt.alloc(), 1, settings).ok_or("no memory")?;
+        expect_refused(&rt, rt.alloc(), &mut own);
+        expect_refused(&rt, rt.alloc(), &mut own.with_gate(Free));
     }
     Ok(())
 }

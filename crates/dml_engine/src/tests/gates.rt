@@ -1,8 +1,7 @@
 //! Gates that hold the workers of an engine.
 
-use super::{USUAL, answer};
+use super::{USUAL, answer, engine_with, expect_made, full_image};
 use crate::{Engine, SubmitError};
-use dml_image::Image;
 use dml_pool::Gate;
 use dml_types::{Job, Record, Settings, Status};
 use std::alloc::Global;
@@ -34,6 +33,15 @@ impl Counts {
         Counts {
             entered: AtomicU64::new(0),
             given_up: AtomicU64::new(0),
+        }
+    }
+
+    /// A gate that counts here.
+    fn gate<'c, C>(&'c self, clock: &'c C, wanted: u64) -> Meeting<'c, C> {
+        Meeting {
+            clock,
+            counts: self,
+            wanted,
         }
     }
 
@@ -80,14 +88,21 @@ pub(super) fn small_jobs() -> [Job; 3] {
 
 /// An engine with one present page whose jobs are cut in chunks of 8 bytes.
 fn engine_of_eight(alloc: Global, workers: u32) -> Option<Engine> {
-    let mut image = Image::new(alloc, 1).ok()?;
-    image.bring(0, &[0; 4096]).ok()?;
     let settings = Settings {
         chunk: 8,
         workers,
         ..USUAL
     };
-    Engine::new(alloc, image, settings).ok()
+    engine_with(alloc, 1, settings)
+}
+
+/// The same with a gate.
+fn gated_engine<'c, C: Clock>(
+    alloc: Global,
+    workers: u32,
+    gate: Meeting<'c, C>,
+) -> Option<Engine<Meeting<'c, C>>> {
+    Some(engine_of_eight(alloc, workers)?.with_gate(gate))
 }
 
 /// The records of two fills.
@@ -107,6 +122,19 @@ enum Call {
     Batch,
 }
 
+/// Carries out two fills with their records in a list of its own.
+fn expect_into<R: Abort + Threads + Wait + Sync, G: Gate + Sync>(
+    rt: &R,
+    alloc: Global,
+    engine: &mut Engine<G>,
+    jobs: &[Job; 2],
+) -> Option<()> {
+    let mut records = Vec::with_capacity(alloc, 2).ok()?;
+    engine.submit_into(rt, alloc, jobs, &mut records);
+    assert_eq!(rt; records.as_slice(), filled().as_slice());
+    Some(())
+}
+
 /// Makes the call with jobs of three tasks, and expects its records.
 fn expect_call<R: Abort + Threads + Wait + Sync, G: Gate + Sync>(
     rt: &R,
@@ -121,9 +149,7 @@ fn expect_call<R: Abort + Threads + Wait + Sync, G: Gate + Sync>(
             assert_eq!(rt; filled, answer(Status::Success, 0, 24, 0));
         }
         Call::Into => {
-            let mut records = Vec::with_capacity(alloc, 2).map_err(|_| SubmitError::NoMemory)?;
-            engine.submit_into(rt, alloc, &jobs, &mut records);
-            assert_eq!(rt; records.as_slice(), filled().as_slice());
+            expect_into(rt, alloc, engine, &jobs).ok_or(SubmitError::NoMemory)?;
         }
         Call::List => {
             let records = engine.submit_list(rt, alloc, &jobs)?;
@@ -143,18 +169,31 @@ fn every_submit_runs_at_once(rt: HostRuntime) -> Result<(), Fail> {
     for turn in 0..10 {
         for call in [Call::Submit, Call::Into, Call::List, Call::Batch] {
             let counts = Counts::new();
-            let gate = Meeting {
-                clock: &rt,
-                counts: &counts,
-                wanted: ALL_ONCE,
-            };
-            let mut engine = engine_of_eight(rt.alloc(), 3)
-                .ok_or("no memory")?
-                .with_gate(gate);
+            let gate = counts.gate(&rt, ALL_ONCE);
+            let mut engine = gated_engine(rt.alloc(), 3, gate).ok_or("no memory")?;
             expect_call(&rt, rt.alloc(), &mut engine, call)?;
             assert_eq!(rt; counts.both(), (ALL_ONCE, 0), "turn {turn}: {call:?}");
         }
     }
+    Ok(())
+}
+
+/// Submits a job, and two fills at and behind a fence.
+fn expect_fenced<R: Abort + Threads + Wait + Sync, G: Gate + Sync>(
+    rt: &R,
+    alloc: Global,
+    engine: &mut Engine<G>,
+) -> Result<(), SubmitError> {
+    let jobs = [
+        Job::no_op(),
+        Job::fill(1, 0, 16).with_flags(1),
+        Job::fill(2, 64, 8),
+    ];
+    let (batch, records) = engine.submit_batch(rt, alloc, &jobs)?;
+    assert_eq!(rt; (batch.status, batch.completed), (Status::Success, 3));
+    let [first, second] = filled();
+    let want = [answer(Status::Success, 0, 0, 0), first, second];
+    assert_eq!(rt; records.as_slice(), want.as_slice());
     Ok(())
 }
 
@@ -163,29 +202,24 @@ fn every_submit_runs_at_once(rt: HostRuntime) -> Result<(), Fail> {
 fn fenced_jobs_enter_at_once(rt: HostRuntime) -> Result<(), Fail> {
     for turn in 0..10 {
         let counts = Counts::new();
-        let gate = Meeting {
-            clock: &rt,
-            counts: &counts,
-            wanted: ALL_ONCE,
-        };
-        let mut engine = engine_of_eight(rt.alloc(), 3)
-            .ok_or("no memory")?
-            .with_gate(gate);
-        let jobs = [
-            Job::no_op(),
-            Job::fill(1, 0, 16).with_flags(1),
-            Job::fill(2, 64, 8),
-        ];
-        let (batch, records) = engine.submit_batch(&rt, rt.alloc(), &jobs)?;
-        assert_eq!(rt;
-            (batch.status, batch.completed),
-            (Status::Success, 3),
-            "turn {turn}"
-        );
-        assert_eq!(rt; records[0], answer(Status::Success, 0, 0, 0), "turn {turn}");
-        assert_eq!(rt; &records[1..], filled().as_slice(), "turn {turn}");
+        let gate = counts.gate(&rt, ALL_ONCE);
+        let mut engine = gated_engine(rt.alloc(), 3, gate).ok_or("no memory")?;
+        expect_fenced(&rt, rt.alloc(), &mut engine)?;
         assert_eq!(rt; counts.both(), (ALL_ONCE, 0), "turn {turn}");
     }
+    Ok(())
+}
+
+/// Submits two fills of a task each.
+fn expect_two_tasks<R: Abort + Threads + Wait + Sync, G: Gate + Sync>(
+    rt: &R,
+    alloc: Global,
+    engine: &mut Engine<G>,
+) -> Result<(), SubmitError> {
+    let jobs = [Job::fill(1, 0, 8), Job::fill(2, 8, 8)];
+    let records = engine.submit_list(rt, alloc, &jobs)?;
+    let want = [answer(Status::Success, 0, 8, 0); 2];
+    assert_eq!(rt; records.as_slice(), want.as_slice());
     Ok(())
 }
 
@@ -193,54 +227,41 @@ fn fenced_jobs_enter_at_once(rt: HostRuntime) -> Result<(), Fail> {
 fn two_tasks_at_once(rt: HostRuntime) -> Result<(), Fail> {
     for turn in 0..10 {
         let counts = Counts::new();
-        let gate = Meeting {
-            clock: &rt,
-            counts: &counts,
-            wanted: 0x101,
-        };
-        let mut engine = engine_of_eight(rt.alloc(), 2)
-            .ok_or("no memory")?
-            .with_gate(gate);
-        let jobs = [Job::fill(1, 0, 8), Job::fill(2, 8, 8)];
-        let records = engine.submit_list(&rt, rt.alloc(), &jobs)?;
-        let filled = answer(Status::Success, 0, 8, 0);
-        assert_eq!(rt; records.as_slice(), [filled; 2].as_slice(), "turn {turn}");
+        let gate = counts.gate(&rt, 0x101);
+        let mut engine = gated_engine(rt.alloc(), 2, gate).ok_or("no memory")?;
+        expect_two_tasks(&rt, rt.alloc(), &mut engine)?;
         assert_eq!(rt; counts.both(), (0x101, 0), "turn {turn}");
     }
     Ok(())
 }
 
+/// What a gate that holds no task counts of a list that two workers carry out.
+fn entered<R: Clock + Threads + Wait + Sync>(
+    rt: &R,
+    alloc: Global,
+    jobs: &[Job],
+) -> Result<(u64, u64), Fail> {
+    let counts = Counts::new();
+    let gate = counts.gate(rt, 0);
+    let mut engine = gated_engine(alloc, 2, gate).ok_or("no memory")?;
+    engine.submit_list(rt, alloc, jobs)?;
+    Ok(counts.both())
+}
+
 /// The jobs of a list of two levels enter the gate wave by wave, the first of each wave as its task 0.
 #[test]
 fn waves_enter_one_after_another(rt: HostRuntime) -> Result<(), Fail> {
-    let counts = Counts::new();
-    let gate = Meeting {
-        clock: &rt,
-        counts: &counts,
-        wanted: 0,
-    };
-    let mut engine = engine_of_eight(rt.alloc(), 2)
-        .ok_or("no memory")?
-        .with_gate(gate);
-    engine.submit_list(&rt, rt.alloc(), &small_jobs())?;
-    assert_eq!(rt; counts.both(), (0x1_0202, 0));
+    let entered = entered(&rt, rt.alloc(), &small_jobs())?;
+    assert_eq!(rt; entered, (0x1_0202, 0));
     Ok(())
 }
 
 /// A gate that was given sees each wave of a list of two tasks, also one of a single task.
 #[test]
 fn waves_of_one_task_enter(rt: HostRuntime) -> Result<(), Fail> {
-    let counts = Counts::new();
-    let gate = Meeting {
-        clock: &rt,
-        counts: &counts,
-        wanted: 0,
-    };
-    let mut engine = engine_of_eight(rt.alloc(), 2)
-        .ok_or("no memory")?
-        .with_gate(gate);
-    engine.submit_list(&rt, rt.alloc(), &[Job::fill(1, 0, 8), Job::fill(2, 0, 8)])?;
-    assert_eq!(rt; counts.both(), (0x2, 0));
+    let jobs = [Job::fill(1, 0, 8), Job::fill(2, 0, 8)];
+    let entered = entered(&rt, rt.alloc(), &jobs)?;
+    assert_eq!(rt; entered, (0x2, 0));
     Ok(())
 }
 
@@ -249,10 +270,7 @@ fn quiet_engine<'c, C: Clock>(
     alloc: Global,
     gate: Meeting<'c, C>,
 ) -> Option<Engine<Meeting<'c, C>>> {
-    let mut image = Image::new(alloc, 256).ok()?;
-    for page in 0..256 {
-        image.bring(page, &[0; 4096]).ok()?;
-    }
+    let image = full_image(alloc, 256, 0)?;
     let settings = Settings {
         chunk: 1_048_576,
         ..USUAL
@@ -265,11 +283,7 @@ fn quiet_engine<'c, C: Clock>(
 #[test]
 fn large_compares_start_workers(rt: HostRuntime) -> Result<(), Fail> {
     let counts = Counts::new();
-    let gate = Meeting {
-        clock: &rt,
-        counts: &counts,
-        wanted: ALL_ONCE,
-    };
+    let gate = counts.gate(&rt, ALL_ONCE);
     let mut engine = quiet_engine(rt.alloc(), gate).ok_or("no memory")?;
     let records = engine.submit_list(&rt, rt.alloc(), &[Job::compare(0, 0, 1_048_576); 3])?;
     let done = answer(Status::Success, 0, 1_048_576, 0);
@@ -282,11 +296,7 @@ fn large_compares_start_workers(rt: HostRuntime) -> Result<(), Fail> {
 #[test]
 fn small_jobs_start_no_worker(rt: HostRuntime) -> Result<(), Fail> {
     let counts = Counts::new();
-    let gate = Meeting {
-        clock: &rt,
-        counts: &counts,
-        wanted: 0,
-    };
+    let gate = counts.gate(&rt, 0);
     let mut engine = quiet_engine(rt.alloc(), gate).ok_or("no memory")?;
     engine.submit_list(&rt, rt.alloc(), &small_jobs())?;
     assert_eq!(rt; counts.both(), (0, 0));
@@ -295,38 +305,36 @@ fn small_jobs_start_no_worker(rt: HostRuntime) -> Result<(), Fail> {
 
 /// Makes the engine and drops it.
 fn made_and_dropped(rt: &impl Abort, alloc: Global) -> Result<(), Fail> {
-    let engine = engine_of_eight(alloc, 2).ok_or("no memory")?;
-    assert_eq!(rt; engine.image().byte(0), Some(0));
-    Ok(())
+    expect_made(rt, engine_of_eight(alloc, 2), 0, 0)
 }
 
-/// Submits two waves, of one task and of three, as a list or as a batch whose second job is fenced. Once memory is
-/// refused to a wave, neither it nor a later one goes to the workers: tasks enter of both waves, of the first alone, or
-/// of none.
-fn expect_waves<R: Abort + Clock + Threads + Wait + Sync>(
+/// Submits two waves, of one task and of three, as a list or as a batch whose second job is fenced.
+fn two_waves<R: Threads + Wait + Sync, G: Gate + Sync>(
     rt: &R,
     alloc: Global,
+    engine: &mut Engine<G>,
     fenced: bool,
-) -> Result<(), Fail> {
-    let counts = Counts::new();
-    let gate = Meeting {
-        clock: rt,
-        counts: &counts,
-        wanted: 0,
-    };
-    let mut engine = engine_of_eight(alloc, 2)
-        .ok_or("no memory")?
-        .with_gate(gate);
+) -> Result<Vec<Record>, SubmitError> {
     let jobs = [
         Job::fill(1, 0, 8),
         Job::fill(2, 0, 24).with_flags(u32::from(fenced)),
     ];
-    let answered = if fenced {
-        engine.submit_batch(rt, alloc, &jobs).map(|done| done.1)
+    if fenced {
+        let (_, records) = engine.submit_batch(rt, alloc, &jobs)?;
+        Ok(records)
     } else {
         engine.submit_list(rt, alloc, &jobs)
-    };
-    match answered {
+    }
+}
+
+/// The waves were carried out, or the list of records found no memory.
+fn expect_two_waves<R: Abort + Threads + Wait + Sync, G: Gate + Sync>(
+    rt: &R,
+    alloc: Global,
+    engine: &mut Engine<G>,
+    fenced: bool,
+) {
+    match two_waves(rt, alloc, engine, fenced) {
         Ok(records) => {
             let last = answer(Status::Success, 0, 24, 0);
             assert_eq!(rt; records.last().copied(), Some(last));
@@ -334,6 +342,19 @@ fn expect_waves<R: Abort + Clock + Threads + Wait + Sync>(
         }
         Err(error) => assert_eq!(rt; error, SubmitError::NoMemory),
     }
+}
+
+/// Once memory is refused to a wave, neither it nor a later one goes to the workers: tasks enter of both waves, of the
+/// first alone, or of none.
+fn expect_waves<R: Abort + Clock + Threads + Wait + Sync>(
+    rt: &R,
+    alloc: Global,
+    fenced: bool,
+) -> Result<(), Fail> {
+    let counts = Counts::new();
+    let gate = counts.gate(rt, 0);
+    let mut engine = gated_engine(alloc, 2, gate).ok_or("no memory")?;
+    expect_two_waves(rt, alloc, &mut engine, fenced);
     let (entered, _) = counts.both();
     assert!(rt; [0, 0x1, 0x1_0102].contains(&entered), "{entered:x}");
     Ok(())

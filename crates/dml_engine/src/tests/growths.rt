@@ -1,34 +1,28 @@
 //! More calls whose growths of memory are refused: a page brought, lists that one worker carries out, lists whose
 //! levels are found by cells, and batches with fences.
 
-use super::{USUAL, answer, engine};
-use crate::{Engine, SubmitError};
-use dml_image::{Image, ImageError};
+use super::{
+    USUAL, answer, engine, engine_with, expect_at, expect_made, expect_nothing, made_and_dropped,
+    no_records, page_of,
+};
+use crate::Engine;
+use dml_image::ImageError;
 use dml_pool::Free;
 use dml_types::{Job, Record, Settings, Status};
-use std::alloc::{AllocError, Global};
+use std::alloc::Global;
 use std::process::Abort;
 use std::test::Fail;
 
 // The refused_* below hold whichever growth is refused: they are also run with each refused in turn, from the first one
 // behind those that their set-up takes.
 
-/// Makes the engine and drops it.
-fn made_and_dropped(rt: &impl Abort, alloc: Global) -> Result<(), Fail> {
-    let engine = engine(alloc).ok_or("no memory")?;
-    assert_eq!(rt; engine.image().byte(8), Some(0));
-    Ok(())
-}
-
 #[test]
 fn set_up_of_bring(rt: HostRuntime) -> Result<(), Fail> {
     made_and_dropped(&rt, rt.alloc())
 }
 
-/// The page is there, or absent as before; the other page stays.
-#[test]
-fn refused_bring(rt: HostRuntime) -> Result<(), Fail> {
-    let mut engine = engine(rt.alloc()).ok_or("no memory")?;
+/// Brings the second page, which is there then, or absent as before; the other page stays.
+fn expect_brought(rt: &impl Abort, engine: &mut Engine) {
     let byte = match engine.bring(1, &[7; 4096]) {
         Ok(()) => Some(7),
         Err(error) => {
@@ -39,6 +33,12 @@ fn refused_bring(rt: HostRuntime) -> Result<(), Fail> {
     for (addr, want) in [(0, Some(0)), (4095, Some(0)), (4096, byte), (8191, byte)] {
         assert_eq!(rt; engine.image().byte(addr), want, "{addr}");
     }
+}
+
+#[test]
+fn refused_bring(rt: HostRuntime) -> Result<(), Fail> {
+    let mut engine = engine(rt.alloc()).ok_or("no memory")?;
+    expect_brought(&rt, &mut engine);
     Ok(())
 }
 
@@ -52,7 +52,7 @@ fn set_up_of_second_bring(rt: HostRuntime) -> Result<(), Fail> {
 fn refused_second_bring(rt: HostRuntime) -> Result<(), Fail> {
     let mut engine = engine(rt.alloc()).ok_or("no memory")?;
     assert_eq!(rt; engine.bring(0, &[7; 4096]), Ok(()));
-    assert_eq!(rt; engine.image().byte(4095), Some(7));
+    expect_at(&rt, &engine, &[(4095, 7)]);
     Ok(())
 }
 
@@ -61,20 +61,11 @@ fn two_fills(flags: u32) -> [Job; 2] {
     [Job::fill(1, 0, 8), Job::fill(2, 0, 8).with_flags(flags)]
 }
 
-/// The fills were done, or the list of records found no memory and nothing was.
-fn expect_two_fills(rt: &impl Abort, engine: &Engine, answered: Result<Vec<Record>, SubmitError>) {
-    let byte = match answered {
-        Ok(records) => {
-            let want = [answer(Status::Success, 0, 8, 0); 2];
-            assert_eq!(rt; records.as_slice(), want.as_slice());
-            2
-        }
-        Err(error) => {
-            assert_eq!(rt; error, SubmitError::NoMemory);
-            0
-        }
-    };
-    assert_eq!(rt; engine.image().byte(0), Some(byte));
+/// The fills were done.
+fn expect_two_fills(rt: &impl Abort, engine: &Engine, records: &[Record]) {
+    let want = [answer(Status::Success, 0, 8, 0); 2];
+    assert_eq!(rt; records, want.as_slice());
+    expect_at(rt, engine, &[(0, 2)]);
 }
 
 #[test]
@@ -86,8 +77,10 @@ fn set_up_of_list_alone(rt: HostRuntime) -> Result<(), Fail> {
 #[test]
 fn refused_list_alone(rt: HostRuntime) -> Result<(), Fail> {
     let mut engine = engine(rt.alloc()).ok_or("no memory")?;
-    let answered = engine.submit_list(&rt, rt.alloc(), &two_fills(0));
-    expect_two_fills(&rt, &engine, answered);
+    match engine.submit_list(&rt, rt.alloc(), &two_fills(0)) {
+        Ok(records) => expect_two_fills(&rt, &engine, &records),
+        Err(error) => expect_nothing(&rt, &engine, error),
+    }
     Ok(())
 }
 
@@ -100,25 +93,24 @@ fn set_up_of_batch_alone(rt: HostRuntime) -> Result<(), Fail> {
 #[test]
 fn refused_batch_alone(rt: HostRuntime) -> Result<(), Fail> {
     let mut engine = engine(rt.alloc()).ok_or("no memory")?;
-    let answered = engine.submit_batch(&rt, rt.alloc(), &two_fills(1));
-    let answered = answered.map(|(batch, records)| {
-        assert_eq!(rt; (batch.status, batch.completed), (Status::Success, 2));
-        records
-    });
-    expect_two_fills(&rt, &engine, answered);
+    match engine.submit_batch(&rt, rt.alloc(), &two_fills(1)) {
+        Ok((batch, records)) => {
+            assert_eq!(rt; (batch.status, batch.completed), (Status::Success, 2));
+            expect_two_fills(&rt, &engine, &records);
+        }
+        Err(error) => expect_nothing(&rt, &engine, error),
+    }
     Ok(())
 }
 
 /// An engine whose lists go to three workers in chunks of 8 bytes.
 fn watched_engine(alloc: Global) -> Option<Engine> {
-    let mut image = Image::new(alloc, 1).ok()?;
-    image.bring(0, &[0; 4096]).ok()?;
     let settings = Settings {
         chunk: 8,
         workers: 3,
         ..USUAL
     };
-    Some(Engine::new(alloc, image, settings).ok()?.with_gate(Free))
+    Some(engine_with(alloc, 1, settings)?.with_gate(Free))
 }
 
 /// Eighteen fills of three places in turn, more than are looked at by pairs: six waves of three tasks.
@@ -135,17 +127,18 @@ fn fills_in_turn() -> [Job; 18] {
 fn expect_fills_in_turn(rt: &impl Abort, engine: &Engine, records: &[Record]) {
     let want = [answer(Status::Success, 0, 8, 0); 18];
     assert_eq!(rt; records, want.as_slice());
-    for (addr, byte) in [(0, 16), (8, 17), (16, 18), (23, 18), (24, 0)] {
-        assert_eq!(rt; engine.image().byte(addr), Some(byte), "{addr}");
-    }
+    expect_at(rt, engine, &[(0, 16), (8, 17), (16, 18), (23, 18), (24, 0)]);
+}
+
+/// What the tests of a watched engine do before.
+fn watched_set_up(rt: &impl Abort, alloc: Global) -> Result<(), Fail> {
+    expect_made(rt, watched_engine(alloc), 8, 0)
 }
 
 #[test]
 fn set_up_of_list_by_cells(rt: HostRuntime) -> Result<(), Fail> {
-    let engine = watched_engine(rt.alloc()).ok_or("no memory")?;
-    assert_eq!(rt; engine.image().byte(8), Some(0));
-    let records = Vec::<Record>::with_capacity(rt.alloc(), 18)?;
-    assert!(rt; records.is_empty());
+    watched_set_up(&rt, rt.alloc())?;
+    no_records(&rt, rt.alloc(), 18)?;
     Ok(())
 }
 
@@ -177,16 +170,8 @@ fn expect_fenced_jobs(rt: &impl Abort, engine: &Engine, records: &[Record]) {
         answer(Status::Success, 0, 8, 0),
     ];
     assert_eq!(rt; records, want.as_slice());
-    for (addr, byte) in [(0, 3), (8, 1), (64, 2), (128, 1), (143, 1), (144, 0)] {
-        assert_eq!(rt; engine.image().byte(addr), Some(byte), "{addr}");
-    }
-}
-
-/// What both tests of a fenced batch do before.
-fn watched_set_up(rt: &impl Abort, alloc: Global) -> Result<(), Fail> {
-    let engine = watched_engine(alloc).ok_or("no memory")?;
-    assert_eq!(rt; engine.image().byte(8), Some(0));
-    Ok(())
+    let left = [(0, 3), (8, 1), (64, 2), (128, 1), (143, 1), (144, 0)];
+    expect_at(rt, engine, &left);
 }
 
 #[test]
@@ -203,12 +188,7 @@ fn refused_fenced_batch(rt: HostRuntime) -> Result<(), Fail> {
             assert_eq!(rt; (batch.status, batch.completed), (Status::Success, 4));
             expect_fenced_jobs(&rt, &engine, &records);
         }
-        Err(error) => {
-            assert_eq!(rt; error, SubmitError::NoMemory);
-            for addr in [0, 8, 64, 128] {
-                assert_eq!(rt; engine.image().byte(addr), Some(0), "{addr}");
-            }
-        }
+        Err(error) => expect_nothing(&rt, &engine, error),
     }
     Ok(())
 }
@@ -216,8 +196,7 @@ fn refused_fenced_batch(rt: HostRuntime) -> Result<(), Fail> {
 #[test]
 fn set_up_of_later_growths_of_a_fenced_batch(rt: HostRuntime) -> Result<(), Fail> {
     watched_set_up(&rt, rt.alloc())?;
-    let records = Vec::<Record>::with_capacity(rt.alloc(), fenced_jobs().len())?;
-    assert!(rt; records.is_empty());
+    no_records(&rt, rt.alloc(), fenced_jobs().len())?;
     Ok(())
 }
 
@@ -233,42 +212,36 @@ fn refused_later_growths_of_a_fenced_batch(rt: HostRuntime) -> Result<(), Fail> 
 
 /// An engine over a page that begins with 1 to 8, whose lists go to sixteen workers.
 fn crowded_engine(alloc: Global) -> Option<Engine> {
-    let mut page = [0; 4096];
-    for (byte, number) in page.iter_mut().zip([1, 2, 3, 4, 5, 6, 7, 8]) {
-        *byte = number;
-    }
-    let mut image = Image::new(alloc, 1).ok()?;
-    image.bring(0, &page).ok()?;
     let settings = Settings {
         chunk: 8,
         workers: 16,
         ..USUAL
     };
-    Some(Engine::new(alloc, image, settings).ok()?.with_gate(Free))
+    let mut engine = engine_with(alloc, 1, settings)?;
+    engine.bring(0, &page_of(&[1, 2, 3, 4, 5, 6, 7, 8])).ok()?;
+    Some(engine.with_gate(Free))
 }
 
 #[test]
 fn set_up_of_conflict_chain(rt: HostRuntime) -> Result<(), Fail> {
-    let engine = crowded_engine(rt.alloc()).ok_or("no memory")?;
-    assert_eq!(rt; engine.image().byte(7), Some(8));
-    let records = Vec::<Record>::with_capacity(rt.alloc(), 3)?;
-    assert!(rt; records.is_empty());
+    expect_made(&rt, crowded_engine(rt.alloc()), 7, 8)?;
+    no_records(&rt, rt.alloc(), 3)?;
     Ok(())
 }
 
-/// A move, a move of what it wrote, and a fill of what it read: behind the list of records no refusal changes the
-/// answer.
-#[test]
-fn refused_conflict_chain(rt: HostRuntime) -> Result<(), Fail> {
-    let mut engine = crowded_engine(rt.alloc()).ok_or("no memory")?;
-    let jobs = [
+/// A move, a move of what it wrote, and a fill of what it read.
+fn conflict_chain() -> [Job; 3] {
+    [
         Job::move_bytes(0, 64, 16),
         Job::move_bytes(64, 128, 16),
         Job::fill(0xffff_ffff_ffff_ffff, 0, 16),
-    ];
-    let records = engine.submit_list(&rt, rt.alloc(), &jobs)?;
+    ]
+}
+
+/// The chain was carried out.
+fn expect_conflict_chain(rt: &impl Abort, engine: &Engine, records: &[Record]) {
     let want = [answer(Status::Success, 0, 16, 0); 3];
-    assert_eq!(rt; records.as_slice(), want.as_slice());
+    assert_eq!(rt; records, want.as_slice());
     let left = [
         (0, 0xff),
         (15, 0xff),
@@ -279,8 +252,14 @@ fn refused_conflict_chain(rt: HostRuntime) -> Result<(), Fail> {
         (135, 8),
         (136, 0),
     ];
-    for (addr, byte) in left {
-        assert_eq!(rt; engine.image().byte(addr), Some(byte), "{addr}");
-    }
+    expect_at(rt, engine, &left);
+}
+
+/// Behind the list of records no refusal changes the answer.
+#[test]
+fn refused_conflict_chain(rt: HostRuntime) -> Result<(), Fail> {
+    let mut engine = crowded_engine(rt.alloc()).ok_or("no memory")?;
+    let records = engine.submit_list(&rt, rt.alloc(), &conflict_chain())?;
+    expect_conflict_chain(&rt, &engine, &records);
     Ok(())
 }

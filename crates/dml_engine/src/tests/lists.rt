@@ -1,11 +1,15 @@
 //! Lists and batches at many settings, all with the same answers.
 
 use super::rows::{Row, expect, expect_as_list, plain_row};
-use super::{USUAL, answer, engine};
+use super::{USUAL, answer, engine, full_image};
 use crate::{Engine, SubmitError};
 use dml_image::Image;
-use dml_types::{Job, Settings, Status};
+use dml_types::{Job, Record, Settings, Status};
+use std::alloc::Global;
+use std::process::Abort;
+use std::sync::Wait;
 use std::test::Fail;
+use std::thread::Threads;
 
 /// An opcode that no job has.
 const BAD_OPCODE: Job = Job {
@@ -148,74 +152,105 @@ fn stopped_jobs(rt: HostRuntime) -> Result<(), Fail> {
     expect(&rt, rt.alloc(), &row)
 }
 
+/// A list and a batch that are refused, and leave the image as it was.
+fn expect_too_many<R: Abort + Threads + Wait + Sync>(
+    rt: &R,
+    alloc: Global,
+    engine: &mut Engine,
+    jobs: &[Job],
+) {
+    let list = engine.submit_list(rt, alloc, jobs).err();
+    assert_eq!(rt; list, Some(SubmitError::TooMany));
+    let batch = engine.submit_batch(rt, alloc, jobs).err();
+    assert_eq!(rt; batch, Some(SubmitError::TooMany));
+    assert_eq!(rt; engine.image().byte(0), Some(7));
+}
+
 #[test]
 fn too_many_jobs(rt: HostRuntime) -> Result<(), Fail> {
     let jobs = [Job::fill(1, 0, 8); 1025];
     let mut engine = engine(rt.alloc()).ok_or("no memory")?;
     engine.bring(0, &[7; 4096])?;
-    let refused = engine.submit_list(&rt, rt.alloc(), &jobs);
-    assert_eq!(rt; refused.err(), Some(SubmitError::TooMany));
-    let refused = engine.submit_batch(&rt, rt.alloc(), &jobs);
-    assert_eq!(rt; refused.err(), Some(SubmitError::TooMany));
-    assert_eq!(rt; engine.image().byte(0), Some(7));
+    expect_too_many(&rt, rt.alloc(), &mut engine, &jobs);
     let records = engine.submit_list(&rt, rt.alloc(), &jobs[1..])?;
     assert_eq!(rt; records.len(), 1024);
     assert_eq!(rt; engine.image().byte(0), Some(1));
     Ok(())
 }
 
-/// Moves of a mebibyte, and a compare of what they left.
-#[test]
-fn large_moves(rt: HostRuntime) -> Result<(), Fail> {
-    let mut image = Image::new(rt.alloc(), 1024)?;
+const MEBIBYTE: u32 = 1_048_576;
+
+/// An engine over four mebibytes, each page full of the last byte of its number.
+fn engine_of_numbers(alloc: Global) -> Option<Engine> {
+    let mut image = Image::new(alloc, 1024).ok()?;
     for page in 0..1024 {
-        image.bring(page, &[(page % 256) as u8; 4096])?;
+        image.bring(page, &[(page % 256) as u8; 4096]).ok()?;
     }
-    let Ok(mut engine) = Engine::new(rt.alloc(), image, USUAL) else {
-        return Err("no memory".into());
-    };
-    let mebibyte = 1_048_576;
-    let jobs = [
-        Job::move_bytes(0, 2 * u64::from(mebibyte), mebibyte),
-        Job::move_bytes(u64::from(mebibyte), 3 * u64::from(mebibyte), mebibyte),
-        Job::compare(0, 2 * u64::from(mebibyte), mebibyte),
-    ];
-    let records = engine.submit_list(&rt, rt.alloc(), &jobs)?;
-    let done = answer(Status::Success, 0, mebibyte, 0);
-    assert_eq!(rt; records.as_slice(), [done; 3].as_slice());
+    Engine::new(alloc, image, USUAL).ok()
+}
+
+/// Moves of a mebibyte, and a compare of what they left.
+fn moves_of_a_mebibyte() -> [Job; 3] {
+    let mebibyte = u64::from(MEBIBYTE);
+    [
+        Job::move_bytes(0, 2 * mebibyte, MEBIBYTE),
+        Job::move_bytes(mebibyte, 3 * mebibyte, MEBIBYTE),
+        Job::compare(0, 2 * mebibyte, MEBIBYTE),
+    ]
+}
+
+/// The moves were carried out.
+fn expect_moved(rt: &impl Abort, engine: &Engine, records: &[Record]) {
+    let want = [answer(Status::Success, 0, MEBIBYTE, 0); 3];
+    assert_eq!(rt; records, want.as_slice());
     for page in 0..512 {
         let byte = engine.image().byte(4096 * (512 + page));
         assert_eq!(rt; byte, Some((page % 256) as u8));
     }
+}
+
+#[test]
+fn large_moves(rt: HostRuntime) -> Result<(), Fail> {
+    let mut engine = engine_of_numbers(rt.alloc()).ok_or("no memory")?;
+    let records = engine.submit_list(&rt, rt.alloc(), &moves_of_a_mebibyte())?;
+    expect_moved(&rt, &engine, &records);
     Ok(())
 }
 
-/// Compares of more than four mebibytes in all go to several workers without a gate that was given. Half of them meet a
-/// byte that differs.
-#[test]
-fn large_compares(rt: HostRuntime) -> Result<(), Fail> {
-    let mut image = Image::new(rt.alloc(), 512)?;
-    for page in 0..512 {
-        image.bring(page, &[5; 4096])?;
-    }
-    image.bring(300, &[6; 4096])?;
+/// An engine over two mebibytes full of 5, but for one page.
+fn engine_of_fives(alloc: Global) -> Option<Engine> {
+    let mut image = full_image(alloc, 512, 5)?;
+    image.bring(300, &[6; 4096]).ok()?;
     let settings = Settings {
         chunk: 65_536,
         ..USUAL
     };
-    let Ok(mut engine) = Engine::new(rt.alloc(), image, settings) else {
-        return Err("no memory".into());
-    };
-    let mebibyte = 1_048_576;
-    let equal = Job::compare(0, 0, mebibyte);
-    let other = Job::compare(0, u64::from(mebibyte), mebibyte);
-    let same = answer(Status::Success, 0, mebibyte, 0);
+    Engine::new(alloc, image, settings).ok()
+}
+
+/// Compares of more than four mebibytes in all. Half of them meet a byte that differs.
+fn expect_compares<R: Abort + Threads + Wait + Sync>(
+    rt: &R,
+    alloc: Global,
+    engine: &mut Engine,
+) -> Result<(), SubmitError> {
+    let equal = Job::compare(0, 0, MEBIBYTE);
+    let other = Job::compare(0, u64::from(MEBIBYTE), MEBIBYTE);
+    let jobs = [equal, other, other, equal, equal, other, equal, other];
+    let records = engine.submit_list(rt, alloc, &jobs)?;
+    let same = answer(Status::Success, 0, MEBIBYTE, 0);
     let differs = answer(Status::Success, 1, 44 * 4096, 0);
+    let want = [same, differs, differs, same, same, differs, same, differs];
+    assert_eq!(rt; records.as_slice(), want.as_slice());
+    Ok(())
+}
+
+/// They go to several workers without a gate that was given.
+#[test]
+fn large_compares(rt: HostRuntime) -> Result<(), Fail> {
+    let mut engine = engine_of_fives(rt.alloc()).ok_or("no memory")?;
     for _ in 0..10 {
-        let jobs = [equal, other, other, equal, equal, other, equal, other];
-        let records = engine.submit_list(&rt, rt.alloc(), &jobs)?;
-        let want = [same, differs, differs, same, same, differs, same, differs];
-        assert_eq!(rt; records.as_slice(), want.as_slice());
+        expect_compares(&rt, rt.alloc(), &mut engine)?;
     }
     Ok(())
 }

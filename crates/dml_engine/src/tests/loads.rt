@@ -36,9 +36,9 @@ fn load_of(rt: &impl Abort, job: &Job, jobs: u32, settings: Settings) -> Load {
     load
 }
 
-/// Expects what a row says of a list, and of a wave.
-fn expect_workers(rt: &impl Abort, row: &Row) {
-    let (job, jobs, chunk, watched, workers, want) = *row;
+/// How many workers a row's list is given, and how many a wave of its jobs.
+fn workers_of(rt: &impl Abort, row: &Row) -> (u32, u32) {
+    let (job, jobs, chunk, watched, workers, _) = *row;
     let settings = valid(
         rt,
         Settings {
@@ -48,10 +48,17 @@ fn expect_workers(rt: &impl Abort, row: &Row) {
         },
     );
     let load = load_of(rt, &job, jobs, settings);
-    let list = load.list_workers(watched, settings.workers);
-    let wave = load.wave_workers(watched, settings.workers);
+    (
+        load.list_workers(watched, settings.workers),
+        load.wave_workers(watched, settings.workers),
+    )
+}
+
+/// Expects what a row says of a list, and of a wave.
+fn expect_workers(rt: &impl Abort, row: &Row) {
+    let (job, jobs, chunk, watched, workers, want) = *row;
     assert_eq!(rt;
-        (list, wave),
+        workers_of(rt, row),
         want,
         "{jobs} of {job:?}, chunk {chunk}, {watched}, {workers}"
     );
@@ -136,7 +143,7 @@ fn workers_of_mixed_waves(rt: HostRuntime) {
             staged: 1024 * kibibytes,
             ..compares
         };
-        assert_eq!(rt; load.list_workers(false, 16), 16, "{kibibytes} KiB");
-        assert_eq!(rt; load.wave_workers(false, 16), wave, "{kibibytes} KiB");
+        let workers = (load.list_workers(false, 16), load.wave_workers(false, 16));
+        assert_eq!(rt; workers, (16, wave), "{kibibytes} KiB");
     }
 }

@@ -1,9 +1,11 @@
 //! Calls whose growths of memory are refused.
 
 use super::gates::small_jobs;
-use super::{USUAL, answer, engine};
-use crate::{Engine, EngineError, SubmitError};
-use dml_image::{Image, ImageError};
+use super::{
+    USUAL, answer, engine, engine_with, expect_at, expect_nothing, full_image, made_and_dropped,
+    no_records,
+};
+use crate::{Engine, EngineError};
 use dml_pool::Free;
 use dml_types::{Job, Record, Settings, Status};
 use std::alloc::Global;
@@ -13,23 +15,19 @@ use std::test::Fail;
 // The refused_* below hold whichever growth is refused: they are also run with each refused in turn, from the first one
 // behind those that their set-up takes.
 
-fn image_of_a_page(alloc: Global) -> Result<Image<'static>, ImageError> {
-    let mut image = Image::new(alloc, 1)?;
-    image.bring(0, &[7; 4096])?;
-    Ok(image)
-}
-
 /// What `refused_new` does before its call.
 #[test]
 fn set_up_of_new(rt: HostRuntime) -> Result<(), Fail> {
-    assert_eq!(rt; image_of_a_page(rt.alloc())?.byte(4095), Some(7));
+    let image = full_image(rt.alloc(), 1, 7).ok_or("no memory")?;
+    assert_eq!(rt; image.byte(4095), Some(7));
     Ok(())
 }
 
 /// The engine, or the image as it was.
 #[test]
 fn refused_new(rt: HostRuntime) -> Result<(), Fail> {
-    let image = match Engine::new(rt.alloc(), image_of_a_page(rt.alloc())?, USUAL) {
+    let image = full_image(rt.alloc(), 1, 7).ok_or("no memory")?;
+    let image = match Engine::new(rt.alloc(), image, USUAL) {
         Ok(engine) => engine.into_image(),
         Err((image, error)) => {
             assert_eq!(rt; error, EngineError::NoMemory);
@@ -44,9 +42,7 @@ fn refused_new(rt: HostRuntime) -> Result<(), Fail> {
 /// What `refused_submit` does before its calls.
 #[test]
 fn set_up_of_submit(rt: HostRuntime) -> Result<(), Fail> {
-    let engine = engine(rt.alloc()).ok_or("no memory")?;
-    assert_eq!(rt; engine.image().byte(8), Some(0));
-    Ok(())
+    made_and_dropped(&rt, rt.alloc())
 }
 
 /// A job that is submitted is carried out.
@@ -65,40 +61,25 @@ fn refused_submit(rt: HostRuntime) -> Result<(), Fail> {
 
 /// An engine whose lists all go to three workers, and a list for records.
 fn watched_engine(alloc: Global) -> Option<(Engine, Vec<Record>)> {
-    let mut image = Image::new(alloc, 2).ok()?;
-    image.bring(0, &[0; 4096]).ok()?;
     let settings = Settings {
         chunk: 8,
         workers: 3,
         ..USUAL
     };
-    let engine = Engine::new(alloc, image, settings).ok()?.with_gate(Free);
+    let engine = engine_with(alloc, 2, settings)?.with_gate(Free);
     let records = Vec::with_capacity(alloc, small_jobs().len()).ok()?;
     Some((engine, records))
 }
 
 /// The records of the small jobs, and what they leave.
 fn expect_small_jobs(rt: &impl Abort, engine: &Engine, records: &[Record]) {
-    assert_eq!(rt;
-        records,
-        [
-            answer(Status::Success, 0, 16, 0),
-            answer(Status::Success, 0, 8, 0),
-            answer(Status::Success, 0, 16, 0),
-        ]
-        .as_slice()
-    );
-    let image = engine.image();
-    for (addr, byte) in [(0, 1), (8, 1), (64, 2), (128, 1), (136, 1)] {
-        assert_eq!(rt; image.byte(addr), Some(byte), "{addr}");
-    }
-}
-
-/// Nothing of the small jobs was done.
-fn expect_untouched(rt: &impl Abort, engine: &Engine) {
-    for addr in [0, 8, 64, 128] {
-        assert_eq!(rt; engine.image().byte(addr), Some(0), "{addr}");
-    }
+    let want = [
+        answer(Status::Success, 0, 16, 0),
+        answer(Status::Success, 0, 8, 0),
+        answer(Status::Success, 0, 16, 0),
+    ];
+    assert_eq!(rt; records, want.as_slice());
+    expect_at(rt, engine, &[(0, 1), (8, 1), (64, 2), (128, 1), (136, 1)]);
 }
 
 /// What the calls on a watched engine do before.
@@ -120,7 +101,7 @@ fn refused_submit_on_workers(rt: HostRuntime) -> Result<(), Fail> {
     let (mut engine, _records) = watched_engine(rt.alloc()).ok_or("no memory")?;
     let filled = engine.submit(&rt, rt.alloc(), Job::fill(1, 4080, 24));
     assert_eq!(rt; filled, answer(Status::WriteFault, 0, 16, 4096));
-    assert_eq!(rt; engine.image().byte(4088), Some(1));
+    expect_at(&rt, &engine, &[(4088, 1)]);
     Ok(())
 }
 
@@ -151,10 +132,7 @@ fn refused_submit_list(rt: HostRuntime) -> Result<(), Fail> {
     let (mut engine, _records) = watched_engine(rt.alloc()).ok_or("no memory")?;
     match engine.submit_list(&rt, rt.alloc(), &small_jobs()) {
         Ok(records) => expect_small_jobs(&rt, &engine, &records),
-        Err(error) => {
-            assert_eq!(rt; error, SubmitError::NoMemory);
-            expect_untouched(&rt, &engine);
-        }
+        Err(error) => expect_nothing(&rt, &engine, error),
     }
     Ok(())
 }
@@ -173,10 +151,7 @@ fn refused_submit_batch(rt: HostRuntime) -> Result<(), Fail> {
             assert_eq!(rt; (batch.status, batch.completed), (Status::Success, 3));
             expect_small_jobs(&rt, &engine, &records);
         }
-        Err(error) => {
-            assert_eq!(rt; error, SubmitError::NoMemory);
-            expect_untouched(&rt, &engine);
-        }
+        Err(error) => expect_nothing(&rt, &engine, error),
     }
     Ok(())
 }
@@ -185,8 +160,7 @@ fn refused_submit_batch(rt: HostRuntime) -> Result<(), Fail> {
 #[test]
 fn set_up_of_later_growths(rt: HostRuntime) -> Result<(), Fail> {
     watched_set_up(&rt, rt.alloc())?;
-    let records = Vec::<Record>::with_capacity(rt.alloc(), small_jobs().len())?;
-    assert!(rt; records.is_empty());
+    no_records(&rt, rt.alloc(), small_jobs().len())?;
     Ok(())
 }
 
@@ -202,8 +176,7 @@ fn refused_later_growths(rt: HostRuntime) -> Result<(), Fail> {
 #[test]
 fn set_up_of_later_growths_of_a_batch(rt: HostRuntime) -> Result<(), Fail> {
     watched_set_up(&rt, rt.alloc())?;
-    let records = Vec::<Record>::with_capacity(rt.alloc(), small_jobs().len())?;
-    assert!(rt; records.is_empty());
+    no_records(&rt, rt.alloc(), small_jobs().len())?;
     Ok(())
 }
 

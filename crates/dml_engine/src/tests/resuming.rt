@@ -1,12 +1,11 @@
 //! Jobs that a page fault stops: submitted, the page brought, and the rest submitted, at many settings with the same
 //! answers. Beside each goes the whole job with the page there from the start. The expected values are the profile's.
 
-use super::rows::settings;
-use super::{USUAL, answer};
+use super::rows::{expect_bytes, settings, with_given};
+use super::{USUAL, answer, engine_with, expect_at, full_image, page_of};
 use crate::Engine;
 use dml_desc::rest;
 use dml_image::Image;
-use dml_pool::{Free, Gate};
 use dml_types::{Job, Record, Settings, Status};
 use std::alloc::Global;
 use std::process::Abort;
@@ -32,15 +31,6 @@ struct Row<'a> {
     shown: (u64, &'a [u8]),
 }
 
-/// A page that begins with these bytes, the others being 0.
-fn page_of(opening: &[u8]) -> [u8; 4096] {
-    let mut page = [0; 4096];
-    for (byte, first) in page.iter_mut().zip(opening) {
-        *byte = *first;
-    }
-    page
-}
-
 /// An engine over an image of so many pages, with those that are present.
 fn engine_of(
     alloc: Global,
@@ -56,60 +46,71 @@ fn engine_of(
 }
 
 /// Submits the row's job, brings the page, and submits the rest.
-fn go_on<R: Abort + Threads + Wait + Sync, G: Gate + Sync>(
+fn go_on<R: Abort + Threads + Wait + Sync>(
     rt: &R,
     alloc: Global,
     row: &Row,
-    engine: &mut Engine<G>,
-) -> Result<(), Fail> {
-    engine.law_resume(&row.job, row.brought.0, &page_of(row.brought.1)); // does nothing
+    engine: &mut Engine,
+) -> Option<()> {
     let stopped = engine.submit(rt, alloc, row.job);
     assert_eq!(rt; stopped, row.stopped, "{:?}", row.job);
-    engine.bring(row.brought.0, &page_of(row.brought.1))?;
-    let left = rest(&row.job, &stopped).ok_or("nothing is left")?;
-    assert_eq!(rt; left, row.left, "{:?}", row.job);
-    let resumed = engine.submit(rt, alloc, left);
-    assert_eq!(rt; resumed, row.resumed, "{left:?}");
-    Ok(())
+    let left = rest(&row.job, &stopped);
+    assert_eq!(rt; left, Some(row.left), "{:?}", row.job);
+    engine.bring(row.brought.0, &page_of(row.brought.1)).ok()?;
+    let resumed = engine.submit(rt, alloc, row.left);
+    assert_eq!(rt; resumed, row.resumed, "{:?}", row.left);
+    Some(())
 }
 
 /// Brings the page first, and submits the whole job.
-fn go_at_once<R: Abort + Threads + Wait + Sync, G: Gate + Sync>(
+fn go_at_once<R: Abort + Threads + Wait + Sync>(
     rt: &R,
     alloc: Global,
     row: &Row,
-    engine: &mut Engine<G>,
-) -> Result<(), Fail> {
-    engine.bring(row.brought.0, &page_of(row.brought.1))?;
+    engine: &mut Engine,
+) -> Option<()> {
+    engine.bring(row.brought.0, &page_of(row.brought.1)).ok()?;
     let whole = engine.submit(rt, alloc, row.job);
     assert_eq!(rt; whole, row.whole, "{:?}", row.job);
-    Ok(())
+    Some(())
 }
 
-/// Both engines hold the same image, and the row's bytes stand there.
-fn expect_left<G, H>(rt: &impl Abort, row: &Row, parts: &Engine<G>, whole: &Engine<H>) {
+/// Both images are the same, and the row's bytes stand there.
+fn expect_left(rt: &impl Abort, row: &Row, parts: &Image, whole: &Image) {
     for addr in 0..4096 * u64::from(row.pages) {
-        let (left, want) = (parts.image().byte(addr), whole.image().byte(addr));
+        let (left, want) = (parts.byte(addr), whole.byte(addr));
         assert_eq!(rt; left, want, "{:?} at {addr}", row.job);
     }
-    for (addr, byte) in (row.shown.0..u64::MAX).zip(row.shown.1) {
-        let left = parts.image().byte(addr);
-        assert_eq!(rt; left, Some(*byte), "{:?} at {addr}", row.job);
-    }
+    expect_bytes(rt, "what both leave", parts, row.shown.0, row.shown.1);
+}
+
+/// Cites the law on resuming, which says what the row's job and its rest do; it does nothing.
+fn cite_law(engine: &Engine, row: &Row) {
+    engine.law_resume(&row.job, row.brought.0, &page_of(row.brought.1));
+}
+
+/// Expects a row's answers with these settings.
+fn expect_with<R: Abort + Threads + Wait + Sync>(
+    rt: &R,
+    alloc: Global,
+    row: &Row,
+    settings: Settings,
+    given: bool,
+) -> Option<()> {
+    let mut parts = with_given(engine_of(alloc, row.pages, row.present, settings)?, given);
+    let mut whole = with_given(engine_of(alloc, row.pages, row.present, settings)?, given);
+    cite_law(&parts, row);
+    go_on(rt, alloc, row, &mut parts)?;
+    go_at_once(rt, alloc, row, &mut whole)?;
+    expect_left(rt, row, parts.image(), whole.image());
+    Some(())
 }
 
 /// Expects a row's answers at all settings, with the engine's own gate and with one given.
 fn expect<R: Abort + Threads + Wait + Sync>(rt: &R, alloc: Global, row: &Row) -> Result<(), Fail> {
     for settings in settings(USUAL.staging) {
-        let make = || engine_of(alloc, row.pages, row.present, settings).ok_or("no memory");
-        let (mut parts, mut whole) = (make()?, make()?);
-        go_on(rt, alloc, row, &mut parts)?;
-        go_at_once(rt, alloc, row, &mut whole)?;
-        expect_left(rt, row, &parts, &whole);
-        let (mut parts, mut whole) = (make()?.with_gate(Free), make()?.with_gate(Free));
-        go_on(rt, alloc, row, &mut parts)?;
-        go_at_once(rt, alloc, row, &mut whole)?;
-        expect_left(rt, row, &parts, &whole);
+        expect_with(rt, alloc, row, settings, false).ok_or("no memory")?;
+        expect_with(rt, alloc, row, settings, true).ok_or("no memory")?;
     }
     Ok(())
 }
@@ -192,9 +193,8 @@ fn rest_of_moves(rt: HostRuntime) -> Result<(), Fail> {
 }
 
 /// Nothing is left of a create, whose differing blocks are no more known, nor of a job that was done or refused.
-#[test]
-fn nothing_is_left(rt: HostRuntime) -> Result<(), Fail> {
-    let table = [
+fn table_of_nothing_left() -> [(Job, Record); 4] {
+    [
         (
             Job::create_delta(0, 4088, 64, 128, 80),
             answer(Status::ReadFault, 0, 8, 4096),
@@ -211,13 +211,28 @@ fn nothing_is_left(rt: HostRuntime) -> Result<(), Fail> {
             Job::move_bytes(0, 64, 50).with_flags(0x10),
             answer(Status::BadFlags, 0, 0, 0),
         ),
-    ];
+    ]
+}
+
+/// Submits a job, and expects its record and what is left of it.
+fn expect_rest<R: Abort + Threads + Wait + Sync>(
+    rt: &R,
+    alloc: Global,
+    engine: &mut Engine,
+    job: Job,
+    want: Record,
+    left: Option<Job>,
+) {
+    let answer = engine.submit(rt, alloc, job);
+    assert_eq!(rt; (answer, rest(&job, &answer)), (want, left), "{job:?}");
+}
+
+#[test]
+fn nothing_is_left(rt: HostRuntime) -> Result<(), Fail> {
     for settings in settings(USUAL.staging) {
-        let mut engine = engine_of(rt.alloc(), 2, &[(0, &[])], settings).ok_or("no memory")?;
-        for (job, want) in table {
-            let answer = engine.submit(&rt, rt.alloc(), job);
-            assert_eq!(rt; answer, want, "{job:?}");
-            assert_eq!(rt; rest(&job, &answer), None, "{job:?}");
+        let mut engine = engine_with(rt.alloc(), 2, settings).ok_or("no memory")?;
+        for (job, want) in table_of_nothing_left() {
+            expect_rest(&rt, rt.alloc(), &mut engine, job, want, None);
         }
     }
     Ok(())
@@ -246,15 +261,9 @@ fn absent_table() -> [(Job, Record, bool); 7] {
 }
 
 /// Submits them one by one.
-fn expect_absent<R: Abort + Threads + Wait + Sync, G: Gate + Sync>(
-    rt: &R,
-    alloc: Global,
-    engine: &mut Engine<G>,
-) {
+fn expect_absent<R: Abort + Threads + Wait + Sync>(rt: &R, alloc: Global, engine: &mut Engine) {
     for (job, want, goes_on) in absent_table() {
-        let answer = engine.submit(rt, alloc, job);
-        assert_eq!(rt; answer, want, "{job:?}");
-        assert_eq!(rt; rest(&job, &answer), goes_on.then_some(job), "{job:?}");
+        expect_rest(rt, alloc, engine, job, want, goes_on.then_some(job));
     }
     for addr in [0, 1, 16_777_215] {
         assert_eq!(rt; engine.image().byte(addr), None);
@@ -264,19 +273,38 @@ fn expect_absent<R: Abort + Threads + Wait + Sync, G: Gate + Sync>(
 #[test]
 fn every_page_absent(rt: HostRuntime) -> Result<(), Fail> {
     for settings in settings(USUAL.staging) {
-        let make = || engine_of(rt.alloc(), 4096, &[], settings).ok_or("no memory");
-        expect_absent(&rt, rt.alloc(), &mut make()?);
-        expect_absent(&rt, rt.alloc(), &mut make()?.with_gate(Free));
+        for given in [false, true] {
+            let engine = engine_of(rt.alloc(), 4096, &[], settings).ok_or("no memory")?;
+            expect_absent(&rt, rt.alloc(), &mut with_given(engine, given));
+        }
     }
     Ok(())
 }
 
-/// Submits a job on four absent pages, and then what is left of it, each time with the page of the fault brought: full
-/// of `Z`. Answers the sum of the bytes done.
-fn on_demand<R: Abort + Threads + Wait + Sync, G: Gate + Sync>(
+/// Submits a job, and brings the page of its fault, full of `Z`. Answers what is left.
+fn next_part<R: Abort + Threads + Wait + Sync>(
     rt: &R,
     alloc: Global,
-    engine: &mut Engine<G>,
+    engine: &mut Engine,
+    now: Job,
+    want: &Record,
+) -> Result<Option<Job>, Fail> {
+    let answer = engine.submit(rt, alloc, now);
+    assert_eq!(rt; answer, *want, "{now:?}");
+    let left = rest(&now, &answer);
+    if left.is_some() {
+        let page = u32::try_from(answer.fault / 4096).ok();
+        engine.bring(page.ok_or("no such page")?, &[0x5a; 4096])?;
+    }
+    Ok(left)
+}
+
+/// Submits a job on four absent pages, and then what is left of it, each time with the page of the fault brought.
+/// Answers the sum of the bytes done.
+fn on_demand<R: Abort + Threads + Wait + Sync>(
+    rt: &R,
+    alloc: Global,
+    engine: &mut Engine,
     job: Job,
     records: &[Record],
 ) -> Result<u64, Fail> {
@@ -284,40 +312,23 @@ fn on_demand<R: Abort + Threads + Wait + Sync, G: Gate + Sync>(
     let mut done = 0_u64;
     for want in records {
         let now = next.ok_or("nothing is left")?;
-        let answer = engine.submit(rt, alloc, now);
-        assert_eq!(rt; answer, *want, "{now:?}");
-        done = done.saturating_add(u64::from(answer.completed));
-        next = rest(&now, &answer);
-        if next.is_some() {
-            let page = u32::try_from(answer.fault / 4096).map_err(|_| "no such page")?;
-            engine.bring(page, &[0x5a; 4096])?;
-        }
+        next = next_part(rt, alloc, engine, now, want)?;
+        done = done.saturating_add(u64::from(want.completed));
     }
     assert_eq!(rt; next, None, "{job:?}");
     Ok(done)
 }
 
-/// An engine with four pages full of `Z`.
-fn engine_of_pages(alloc: Global, settings: Settings) -> Option<Engine> {
-    let mut image = Image::new(alloc, 4).ok()?;
-    for page in 0..4 {
-        image.bring(page, &[0x5a; 4096]).ok()?;
-    }
-    Engine::new(alloc, image, settings).ok()
-}
-
-/// A driver's loop: the page of each fault is brought, until the job is done. Beside it the other engine, which has all
-/// pages, carries out the whole job; both leave the same bytes, and no page that was not brought is touched.
-fn expect_parts<R: Abort + Threads + Wait + Sync, G: Gate + Sync>(
+/// Carries out the whole job on the engine that has all pages: its record is that of the last part, but for the bytes
+/// done, which are those of all parts.
+fn expect_whole<R: Abort + Threads + Wait + Sync>(
     rt: &R,
     alloc: Global,
-    parts: &mut Engine<G>,
-    whole: &mut Engine<G>,
+    whole: &mut Engine,
     job: Job,
-    records: &[Record],
-) -> Result<(), Fail> {
-    let done = on_demand(rt, alloc, parts, job, records)?;
-    let last = records.last().ok_or("no record")?;
+    last: &Record,
+    done: u64,
+) {
     let answer = whole.submit(rt, alloc, job);
     assert_eq!(rt; done, u64::from(answer.completed), "{job:?}");
     let want = Record {
@@ -325,10 +336,58 @@ fn expect_parts<R: Abort + Threads + Wait + Sync, G: Gate + Sync>(
         ..*last
     };
     assert_eq!(rt; answer, want, "{job:?}");
+}
+
+/// Both leave the same bytes, and no page that was not brought is touched.
+fn expect_same(rt: &impl Abort, parts: &Image, whole: &Image) {
     for addr in 0..16_384 {
-        let left = parts.image().byte(addr).unwrap_or(0x5a);
-        assert_eq!(rt; whole.image().byte(addr), Some(left), "{job:?} at {addr}");
+        let left = parts.byte(addr).unwrap_or(0x5a);
+        assert_eq!(rt; whole.byte(addr), Some(left), "{addr}");
     }
+}
+
+/// A driver's loop: the page of each fault is brought, until the job is done. Beside it the other engine, which has all
+/// pages, carries out the whole job.
+fn expect_parts<R: Abort + Threads + Wait + Sync>(
+    rt: &R,
+    alloc: Global,
+    parts: &mut Engine,
+    whole: &mut Engine,
+    job: Job,
+    records: &[Record],
+) -> Result<(), Fail> {
+    let done = on_demand(rt, alloc, parts, job, records)?;
+    let last = records.last().ok_or("no record")?;
+    expect_whole(rt, alloc, whole, job, last, done);
+    expect_same(rt, parts.image(), whole.image());
+    Ok(())
+}
+
+/// An engine with four pages, all absent or all full of `Z`.
+fn engine_of_four(alloc: Global, settings: Settings, full: bool, given: bool) -> Option<Engine> {
+    let image = if full {
+        full_image(alloc, 4, 0x5a)?
+    } else {
+        Image::new(alloc, 4).ok()?
+    };
+    let engine = Engine::new(alloc, image, settings).ok()?;
+    Some(with_given(engine, given))
+}
+
+/// The same with these settings.
+fn expect_on_demand_with<R: Abort + Threads + Wait + Sync>(
+    rt: &R,
+    alloc: Global,
+    job: Job,
+    records: &[Record],
+    shown: &[(u64, u8)],
+    settings: Settings,
+    given: bool,
+) -> Result<(), Fail> {
+    let mut parts = engine_of_four(alloc, settings, false, given).ok_or("no memory")?;
+    let mut whole = engine_of_four(alloc, settings, true, given).ok_or("no memory")?;
+    expect_parts(rt, alloc, &mut parts, &mut whole, job, records)?;
+    expect_at(rt, &parts, shown);
     Ok(())
 }
 
@@ -341,16 +400,9 @@ fn expect_on_demand<R: Abort + Threads + Wait + Sync>(
     shown: &[(u64, u8)],
 ) -> Result<(), Fail> {
     for settings in settings(USUAL.staging) {
-        let make = || engine_of(alloc, 4, &[], settings).ok_or("no memory");
-        let make_whole = || engine_of_pages(alloc, settings).ok_or("no memory");
-        let (mut parts, mut whole) = (make()?, make_whole()?);
-        expect_parts(rt, alloc, &mut parts, &mut whole, job, records)?;
-        for (addr, byte) in shown {
-            let left = parts.image().byte(*addr);
-            assert_eq!(rt; left, Some(*byte), "{job:?} at {addr}");
+        for given in [false, true] {
+            expect_on_demand_with(rt, alloc, job, records, shown, settings, given)?;
         }
-        let (mut parts, mut whole) = (make()?.with_gate(Free), make_whole()?.with_gate(Free));
-        expect_parts(rt, alloc, &mut parts, &mut whole, job, records)?;
     }
     Ok(())
 }

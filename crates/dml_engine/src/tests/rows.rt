@@ -1,11 +1,11 @@
 //! Rows: an image, jobs on it, what they answer and what they leave. Each is submitted as a list and as a batch, at
 //! many settings, all with the same answers.
 
-use super::{USUAL, answer};
-use crate::{Engine, SubmitError};
+use super::{USUAL, answer, put};
+use crate::Engine;
 use dml_image::Image;
-use dml_pool::{Free, Gate};
-use dml_types::{Job, Record, Settings, Status};
+use dml_pool::Free;
+use dml_types::{BatchRecord, Job, Record, Settings, Status};
 use std::alloc::Global;
 use std::process::Abort;
 use std::sync::Wait;
@@ -61,10 +61,7 @@ fn page_of(row: &Row, page: u32) -> [u8; 4096] {
     let mut content = [0; 4096];
     for (addr, bytes) in row.bytes {
         if *addr / 4096 == u64::from(page) {
-            let at = (*addr % 4096) as usize;
-            for (byte, first) in content[at..].iter_mut().zip(*bytes) {
-                *byte = *first;
-            }
+            put(&mut content[(*addr % 4096) as usize..], bytes);
         }
     }
     content
@@ -90,50 +87,79 @@ pub(super) fn settings(staging: u32) -> [Settings; 12] {
 }
 
 /// Submits the jobs as a list, and expects the row's answers.
-fn expect_list<R: Abort + Threads + Wait + Sync, G: Gate + Sync>(
+fn expect_list<R: Abort + Threads + Wait + Sync>(
     rt: &R,
     alloc: Global,
     row: &Row,
-    engine: &mut Engine<G>,
-) -> Result<(), SubmitError> {
-    let records = engine.submit_list(rt, alloc, row.jobs)?;
-    assert_eq!(rt; records.as_slice(), row.records, "{}", row.name);
+    engine: &mut Engine,
+) -> Option<()> {
+    let records = engine.submit_list(rt, alloc, row.jobs).ok()?;
+    expect_records(rt, row.name, &records, row.records);
     expect_left(rt, row, engine.image());
-    Ok(())
+    Some(())
 }
 
 /// Submits the jobs as a batch, and expects the same.
-fn expect_batch<R: Abort + Threads + Wait + Sync, G: Gate + Sync>(
+fn expect_batch<R: Abort + Threads + Wait + Sync>(
     rt: &R,
     alloc: Global,
     row: &Row,
-    engine: &mut Engine<G>,
-) -> Result<(), SubmitError> {
-    let (answer, records) = engine.submit_batch(rt, alloc, row.jobs)?;
-    assert_eq!(rt; records.as_slice(), row.records, "{}", row.name);
-    assert_eq!(rt;
-        (answer.status, answer.completed),
-        (row.status, row.jobs.len() as u32),
-        "{}",
-        row.name
-    );
+    engine: &mut Engine,
+) -> Option<()> {
+    let (own, records) = engine.submit_batch(rt, alloc, row.jobs).ok()?;
+    expect_records(rt, row.name, &records, row.records);
+    expect_own(rt, row.name, own, row.status, row.jobs.len());
     expect_left(rt, row, engine.image());
-    Ok(())
+    Some(())
+}
+
+/// Expects the records of a row's jobs.
+pub(super) fn expect_records(rt: &impl Abort, name: &str, records: &[Record], want: &[Record]) {
+    assert_eq!(rt; records, want, "{name}");
+}
+
+/// Expects the record of a row's batch: its status, and how many jobs are carried out.
+pub(super) fn expect_own(
+    rt: &impl Abort,
+    name: &str,
+    own: BatchRecord,
+    status: Status,
+    completed: usize,
+) {
+    assert_eq!(rt;
+        (own.status, own.completed as usize),
+        (status, completed),
+        "{name}"
+    );
 }
 
 /// Expects the bytes that a row leaves.
 fn expect_left(rt: &impl Abort, row: &Row, image: &Image) {
     for (addr, bytes) in row.left {
-        for (i, byte) in bytes.iter().enumerate() {
-            let at = addr.saturating_add(i as u64);
-            assert_eq!(rt; image.byte(at), Some(*byte), "{}: byte {at}", row.name);
-        }
+        expect_bytes(rt, row.name, image, *addr, bytes);
     }
 }
 
-/// An engine over a row's image.
-fn engine_of(alloc: Global, row: &Row, settings: Settings) -> Option<Engine> {
-    Engine::new(alloc, image_of(alloc, row)?, settings).ok()
+/// Expects bytes of an image, from an address on.
+pub(super) fn expect_bytes(rt: &impl Abort, name: &str, image: &Image, addr: u64, bytes: &[u8]) {
+    for (at, byte) in (addr..u64::MAX).zip(bytes) {
+        assert_eq!(rt; image.byte(at), Some(*byte), "{name}: byte {at}");
+    }
+}
+
+/// An engine over a row's image, with its own gate or with one given.
+fn engine_of(alloc: Global, row: &Row, settings: Settings, given: bool) -> Option<Engine> {
+    let engine = Engine::new(alloc, image_of(alloc, row)?, settings).ok()?;
+    Some(with_given(engine, given))
+}
+
+/// The engine with its own gate, or with one given.
+pub(super) fn with_given(engine: Engine, given: bool) -> Engine {
+    if given {
+        engine.with_gate(Free)
+    } else {
+        engine
+    }
 }
 
 /// Expects what a row's list answers at all settings, with its own gate and with one given.
@@ -143,10 +169,10 @@ fn lists_everywhere<R: Abort + Threads + Wait + Sync>(
     row: &Row,
 ) -> Option<()> {
     for settings in settings(row.staging) {
-        let mut own = engine_of(alloc, row, settings)?;
-        expect_list(rt, alloc, row, &mut own).ok()?;
-        let mut given = engine_of(alloc, row, settings)?.with_gate(Free);
-        expect_list(rt, alloc, row, &mut given).ok()?;
+        for given in [false, true] {
+            let mut engine = engine_of(alloc, row, settings, given)?;
+            expect_list(rt, alloc, row, &mut engine)?;
+        }
     }
     Some(())
 }
@@ -158,10 +184,10 @@ fn batches_everywhere<R: Abort + Threads + Wait + Sync>(
     row: &Row,
 ) -> Option<()> {
     for settings in settings(row.staging) {
-        let mut own = engine_of(alloc, row, settings)?;
-        expect_batch(rt, alloc, row, &mut own).ok()?;
-        let mut given = engine_of(alloc, row, settings)?.with_gate(Free);
-        expect_batch(rt, alloc, row, &mut given).ok()?;
+        for given in [false, true] {
+            let mut engine = engine_of(alloc, row, settings, given)?;
+            expect_batch(rt, alloc, row, &mut engine)?;
+        }
     }
     Some(())
 }

@@ -1,6 +1,9 @@
-use crate::tests::{carried_over, image_with, poke, record, shows, write_over};
+use crate::commit;
+use crate::tests::{
+    carried_over, expect_chunked, expect_record, expect_submitted, image_with, poke, record, shows,
+    write_over,
+};
 use crate::uses::{applied_in_none, applied_in_three};
-use crate::{commit, submit_to};
 use dml_arena::Arena;
 use dml_desc::check;
 use dml_image::{Image, ImageError};
@@ -109,8 +112,7 @@ fn empty_rows() -> [AppliedRow; 2] {
 fn expect_whole(rt: &impl Abort, alloc: Global, row: AppliedRow) -> Result<(), Fail> {
     let mut image = row.image(rt, alloc)?;
     let mut arena = Arena::new(alloc, 30)?;
-    let answer = submit_to(&mut image, &mut arena, &row.job, 30);
-    assert_eq!(rt; answer, row.answer);
+    expect_submitted(rt, &mut image, &mut arena, &row.job, row.answer);
     assert!(rt; row.is_shown_by(&image));
     Ok(())
 }
@@ -152,7 +154,7 @@ fn expect_in_chunks(rt: &impl Abort, alloc: Global, row: AppliedRow) -> Result<(
     for chunk in [8, 16, 32, 4096] {
         let mut image = row.image(rt, alloc)?;
         let answer = applied_in_chunks(rt, &mut image, &mut arena, &row.job, chunk / 8);
-        assert_eq!(rt; answer, row.answer);
+        expect_chunked(rt, &row.job, chunk, answer, row.answer);
         assert!(rt; row.is_shown_by(&image));
     }
     Ok(())
@@ -187,7 +189,7 @@ fn empty_ranges(rt: HostRuntime) -> Result<(), Fail> {
     let [_, row] = empty_rows();
     let mut image = row.image(&rt, rt.alloc())?;
     let answer = applied_in_no_chunk(&rt, &mut image, &row.job);
-    assert_eq!(rt; answer, row.answer);
+    expect_record(&rt, &row.job, answer, row.answer);
     assert!(rt; row.is_shown_by(&image));
     Ok(())
 }
@@ -206,10 +208,8 @@ fn applies_over_lent_pages(rt: HostRuntime) -> Result<(), Fail> {
         for (addr, byte) in row.blocks {
             write_over(&rt, &mut after, addr as usize, &[byte; 8]);
         }
-        assert_eq!(rt;
-            carried_over(&rt, &mut bytes, &mut arena, &row.job),
-            row.answer
-        );
+        let answer = carried_over(&rt, &mut bytes, &mut arena, &row.job);
+        expect_record(&rt, &row.job, answer, row.answer);
         assert!(rt; bytes == after);
     }
     Ok(())

@@ -1,6 +1,6 @@
-use crate::tests::{image_with, poke, record};
+use crate::commit;
+use crate::tests::{expect_chunked, expect_submitted, image_with, poke, record};
 use crate::uses::compared_in_chunks;
-use crate::{commit, submit_to};
 use dml_arena::Arena;
 use dml_desc::check;
 use dml_image::Image;
@@ -46,10 +46,10 @@ fn expect_answer(
     answer: Record,
 ) -> Result<(), Fail> {
     let mut arena = Arena::new(alloc, 0)?;
-    assert_eq!(rt; submit_to(image, &mut arena, job, 0), answer);
+    expect_submitted(rt, image, &mut arena, job, answer);
     for chunk in [8, 16, 32, 4096] {
         let chunked = carried_in_chunks(rt, alloc, image, &mut arena, job, chunk)?;
-        assert_eq!(rt; chunked, answer, "{job:?} in chunks of {chunk} bytes");
+        expect_chunked(rt, job, chunk, chunked, answer);
     }
     Ok(())
 }

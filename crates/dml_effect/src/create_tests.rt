@@ -1,4 +1,4 @@
-use crate::tests::{image_with, poke, shows};
+use crate::tests::{expect_chunked, image_with, poke, shows};
 use crate::uses::created_in_chunks;
 use crate::{commit, submit_to};
 use dml_arena::Arena;
@@ -99,7 +99,7 @@ fn expect_row(
     } else {
         carried_in_chunks(rt, alloc, &mut image, &mut arena, &row.job, chunk)?
     };
-    assert_eq!(rt; answer, row.answer, "in chunks of {chunk} blocks");
+    expect_chunked(rt, &row.job, chunk, answer, row.answer);
     let (at, bytes) = row.shown;
     assert!(rt; shows(&image, at, bytes), "in chunks of {chunk} blocks");
     Ok(())

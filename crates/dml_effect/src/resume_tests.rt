@@ -1,5 +1,4 @@
-use crate::submit_to;
-use crate::tests::{image_with, poke, record, shows};
+use crate::tests::{expect_byte, expect_submitted, image_with, poke, record, shows};
 use dml_arena::Arena;
 use dml_desc::rest;
 use dml_image::Image;
@@ -10,6 +9,11 @@ use std::test::Fail;
 
 /// The staging size of a run without options.
 const STAGING: u32 = 1_048_576;
+
+/// Checks what is left of a job.
+fn expect_rest(rt: &impl Abort, job: &Job, answer: &Record, want: Option<Job>) {
+    assert_eq!(rt; rest(job, answer), want, "{job:?}");
+}
 
 /// A job that a page fault stops, and what is left of it once the page is there.
 #[derive(Drop)]
@@ -53,12 +57,10 @@ impl Row<'_> {
     fn in_parts(&self, rt: &impl Abort, alloc: Global) -> Result<Image<'static>, Fail> {
         let mut arena = Arena::new(alloc, STAGING)?;
         let mut image = self.image(rt, alloc)?;
-        let stopped = submit_to(&mut image, &mut arena, &self.job, STAGING);
-        assert_eq!(rt; stopped, self.stopped, "{:?}", self.job);
+        let stopped = expect_submitted(rt, &mut image, &mut arena, &self.job, self.stopped);
         self.bring(&mut image)?;
-        assert_eq!(rt; rest(&self.job, &stopped), Some(self.left));
-        let resumed = submit_to(&mut image, &mut arena, &self.left, STAGING);
-        assert_eq!(rt; resumed, self.resumed, "{:?}", self.left);
+        expect_rest(rt, &self.job, &stopped, Some(self.left));
+        expect_submitted(rt, &mut image, &mut arena, &self.left, self.resumed);
         assert!(rt; shows(&image, self.shown.0, self.shown.1), "{:?}", self.job);
         Ok(image)
     }
@@ -68,8 +70,7 @@ impl Row<'_> {
         let mut arena = Arena::new(alloc, STAGING)?;
         let mut image = self.image(rt, alloc)?;
         self.bring(&mut image)?;
-        let whole = submit_to(&mut image, &mut arena, &self.job, STAGING);
-        assert_eq!(rt; whole, self.whole, "{:?}", self.job);
+        expect_submitted(rt, &mut image, &mut arena, &self.job, self.whole);
         Ok(image)
     }
 }
@@ -79,12 +80,7 @@ fn expect_row(rt: &impl Abort, alloc: Global, row: &Row) -> Result<(), Fail> {
     let parts = row.in_parts(rt, alloc)?;
     let whole = row.at_once(rt, alloc)?;
     for addr in 0..4096 * u64::from(row.pages) {
-        assert_eq!(rt;
-            parts.byte(addr),
-            whole.byte(addr),
-            "{:?} at {addr}",
-            row.job
-        );
+        expect_byte(rt, &parts, addr, whole.byte(addr));
     }
     Ok(())
 }
@@ -162,8 +158,8 @@ fn front_that_turns_round(rt: HostRuntime) -> Result<(), Fail> {
     };
     let parts = row.in_parts(&rt, rt.alloc())?;
     let whole = row.at_once(&rt, rt.alloc())?;
-    assert_eq!(rt; parts.byte(8192), Some(9));
-    assert_eq!(rt; whole.byte(8192), Some(0));
+    expect_byte(&rt, &parts, 8192, Some(9));
+    expect_byte(&rt, &whole, 8192, Some(0));
     Ok(())
 }
 
@@ -191,10 +187,8 @@ fn every_page_absent(rt: HostRuntime) -> Result<(), Fail> {
         (Job::no_op(), record(Status::Success, 0, 0, 0), false),
     ];
     for (job, want, goes_on) in table {
-        let staging = arena.size();
-        let answer = submit_to(&mut image, &mut arena, &job, staging);
-        assert_eq!(rt; answer, want, "{job:?}");
-        assert_eq!(rt; rest(&job, &answer), goes_on.then_some(job), "{job:?}");
+        let answer = expect_submitted(&rt, &mut image, &mut arena, &job, want);
+        expect_rest(&rt, &job, &answer, goes_on.then_some(job));
     }
     assert!(rt; (0..2).all(|addr| image.byte(addr).is_none()));
     Ok(())

@@ -31,10 +31,10 @@ pub fn image_with(
 
 /// Writes bytes, which must be present.
 pub fn poke(rt: &impl Abort, image: &mut Image, addr: u64, bytes: &[u8]) {
-    for (place, byte) in (addr..u64::MAX).zip(bytes) {
-        assert!(rt; image.first_absent(place, 1, Direction::Forward).is_none());
-        image.write(place, &[*byte]);
-    }
+    assert!(rt; addr < 1 << 32 && bytes.len() <= 4096);
+    let len = bytes.len() as u32;
+    assert!(rt; image.first_absent(addr, len, Direction::Forward).is_none());
+    image.write(addr, bytes);
 }
 
 /// Whether the bytes from `addr` on are present and these.
@@ -55,12 +55,41 @@ pub fn record(status: Status, outcome: u8, completed: u32, fault: u64) -> Record
     }
 }
 
+/// Checks a job's record.
+pub fn expect_record(rt: &impl Abort, job: &Job, answer: Record, want: Record) {
+    assert_eq!(rt; answer, want, "{job:?}");
+}
+
+/// Checks the record of a job in chunks of so many bytes, blocks or entries.
+pub fn expect_chunked(rt: &impl Abort, job: &Job, chunk: u32, answer: Record, want: Record) {
+    assert_eq!(rt; answer, want, "{job:?} in chunks of {chunk}");
+}
+
+/// Checks the byte at an address.
+pub fn expect_byte(rt: &impl Abort, image: &Image, addr: u64, value: Option<u8>) {
+    assert_eq!(rt; image.byte(addr), value, "byte {addr}");
+}
+
+/// Carries out a job with all the staging of an arena, and checks its record.
+pub fn expect_submitted(
+    rt: &impl Abort,
+    image: &mut Image,
+    arena: &mut Arena,
+    job: &Job,
+    want: Record,
+) -> Record {
+    let staging = arena.size();
+    let answer = submit_to(image, arena, job, staging);
+    expect_record(rt, job, answer, want);
+    answer
+}
+
 #[test]
 fn no_op(rt: HostRuntime) -> Result<(), Fail> {
     let mut image = image_with(rt.alloc(), 1, &[])?;
     let mut arena = Arena::new(rt.alloc(), 0)?;
-    let answer = submit_to(&mut image, &mut arena, &Job::no_op(), 0);
-    assert_eq!(rt; answer, record(Status::Success, 0, 0, 0));
+    let want = record(Status::Success, 0, 0, 0);
+    expect_submitted(&rt, &mut image, &mut arena, &Job::no_op(), want);
     Ok(())
 }
 
@@ -73,8 +102,9 @@ fn forward_move_over_itself(rt: HostRuntime) -> Result<(), Fail> {
     ];
     poke(&rt, &mut image, 0, &low);
     poke(&rt, &mut image, 100, &[0xd0, 0xd1, 0xd2, 0xd3, 0xd4, 0xd5]);
-    let answer = submit_to(&mut image, &mut arena, &Job::move_bytes(4, 0, 100), 100);
-    assert_eq!(rt; answer, record(Status::Success, 0, 100, 0));
+    let job = Job::move_bytes(4, 0, 100);
+    let want = record(Status::Success, 0, 100, 0);
+    expect_submitted(&rt, &mut image, &mut arena, &job, want);
     assert!(rt;
         shows(
             &image,
@@ -99,8 +129,9 @@ fn backward_move_into_absent_page(rt: HostRuntime) -> Result<(), Fail> {
     let mut image = image_with(rt.alloc(), 2, &[0])?;
     let mut arena = Arena::new(rt.alloc(), 4096)?;
     poke(&rt, &mut image, 0, &[1, 2, 3, 4, 5]);
-    let answer = submit_to(&mut image, &mut arena, &Job::move_bytes(0, 4, 4096), 4096);
-    assert_eq!(rt; answer, record(Status::WriteFault, 1, 0, 4099));
+    let job = Job::move_bytes(0, 4, 4096);
+    let want = record(Status::WriteFault, 1, 0, 4099);
+    expect_submitted(&rt, &mut image, &mut arena, &job, want);
     assert!(rt; shows(&image, 0, &[1, 2, 3, 4, 5, 0, 0, 0]));
     Ok(())
 }
@@ -110,13 +141,9 @@ fn backward_move_stops_at_page_edge(rt: HostRuntime) -> Result<(), Fail> {
     let mut image = image_with(rt.alloc(), 3, &[0, 2])?;
     let mut arena = Arena::new(rt.alloc(), 12_272)?;
     poke(&rt, &mut image, 8192, &[1, 2]);
-    let answer = submit_to(
-        &mut image,
-        &mut arena,
-        &Job::move_bytes(0, 8, 12_272),
-        12_272,
-    );
-    assert_eq!(rt; answer, record(Status::ReadFault, 1, 4080, 8191));
+    let job = Job::move_bytes(0, 8, 12_272);
+    let want = record(Status::ReadFault, 1, 4080, 8191);
+    expect_submitted(&rt, &mut image, &mut arena, &job, want);
     assert!(rt; shows(&image, 8192, &[1, 2, 0, 0, 0, 0, 0, 0, 1, 2, 0, 0]));
     Ok(())
 }
@@ -126,13 +153,9 @@ fn dualcast_write_fault(rt: HostRuntime) -> Result<(), Fail> {
     let mut image = image_with(rt.alloc(), 4, &[0, 1, 3])?;
     let mut arena = Arena::new(rt.alloc(), 5)?;
     poke(&rt, &mut image, 0, &[1, 2, 3, 4, 5]);
-    let answer = submit_to(
-        &mut image,
-        &mut arena,
-        &Job::dualcast(0, 8190, 16_382, 5),
-        5,
-    );
-    assert_eq!(rt; answer, record(Status::WriteFault, 0, 2, 8192));
+    let job = Job::dualcast(0, 8190, 16_382, 5);
+    let want = record(Status::WriteFault, 0, 2, 8192);
+    expect_submitted(&rt, &mut image, &mut arena, &job, want);
     assert!(rt; shows(&image, 8190, &[1, 2]));
     assert!(rt; shows(&image, 16_382, &[1, 2]));
     Ok(())
@@ -142,27 +165,22 @@ fn dualcast_write_fault(rt: HostRuntime) -> Result<(), Fail> {
 fn dualcast_refusals(rt: HostRuntime) -> Result<(), Fail> {
     let mut image = image_with(rt.alloc(), 4, &[0])?;
     let mut arena = Arena::new(rt.alloc(), STAGING)?;
-    let bits = submit_to(
-        &mut image,
-        &mut arena,
-        &Job::dualcast(0, 8, 16, 100),
-        STAGING,
-    );
-    assert_eq!(rt; bits, record(Status::DualcastBits, 0, 0, 0));
-    let overlap = submit_to(
-        &mut image,
-        &mut arena,
-        &Job::dualcast(0, 4096, 8192, 4097),
-        STAGING,
-    );
-    assert_eq!(rt; overlap, record(Status::Overlap, 0, 0, 0));
-    let absent = submit_to(
-        &mut image,
-        &mut arena,
-        &Job::dualcast(0, 4096, 8192, 4),
-        STAGING,
-    );
-    assert_eq!(rt; absent, record(Status::WriteFault, 0, 0, 4096));
+    for (job, want) in [
+        (
+            Job::dualcast(0, 8, 16, 100),
+            record(Status::DualcastBits, 0, 0, 0),
+        ),
+        (
+            Job::dualcast(0, 4096, 8192, 4097),
+            record(Status::Overlap, 0, 0, 0),
+        ),
+        (
+            Job::dualcast(0, 4096, 8192, 4),
+            record(Status::WriteFault, 0, 0, 4096),
+        ),
+    ] {
+        expect_submitted(&rt, &mut image, &mut arena, &job, want);
+    }
     Ok(())
 }
 
@@ -170,15 +188,18 @@ fn dualcast_refusals(rt: HostRuntime) -> Result<(), Fail> {
 fn end_of_address_space(rt: HostRuntime) -> Result<(), Fail> {
     let mut image = image_with(rt.alloc(), 1, &[0])?;
     let mut arena = Arena::new(rt.alloc(), STAGING)?;
-    let past = Job::move_bytes(0xffff_ffff_ffff_fff0, 0, 17);
-    let answer = submit_to(&mut image, &mut arena, &past, STAGING);
-    assert_eq!(rt; answer, record(Status::RangePast, 0, 0, 0));
-    let last = Job::move_bytes(0xffff_ffff_ffff_fff0, 0, 16);
-    let answer = submit_to(&mut image, &mut arena, &last, STAGING);
-    assert_eq!(rt;
-        answer,
-        record(Status::ReadFault, 0, 0, 18_446_744_073_709_551_600)
-    );
+    for (job, want) in [
+        (
+            Job::move_bytes(0xffff_ffff_ffff_fff0, 0, 17),
+            record(Status::RangePast, 0, 0, 0),
+        ),
+        (
+            Job::move_bytes(0xffff_ffff_ffff_fff0, 0, 16),
+            record(Status::ReadFault, 0, 0, 18_446_744_073_709_551_600),
+        ),
+    ] {
+        expect_submitted(&rt, &mut image, &mut arena, &job, want);
+    }
     Ok(())
 }
 
@@ -187,10 +208,10 @@ fn fill_into_absent_page(rt: HostRuntime) -> Result<(), Fail> {
     let mut image = image_with(rt.alloc(), 2, &[0])?;
     let mut arena = Arena::new(rt.alloc(), 0)?;
     let job = Job::fill(0x0807_0605_0403_0201, 4090, 12);
-    let answer = submit_to(&mut image, &mut arena, &job, 0);
-    assert_eq!(rt; answer, record(Status::WriteFault, 0, 6, 4096));
+    let want = record(Status::WriteFault, 0, 6, 4096);
+    expect_submitted(&rt, &mut image, &mut arena, &job, want);
     assert!(rt; shows(&image, 4088, &[0, 0, 1, 2, 3, 4, 5, 6]));
-    assert_eq!(rt; image.byte(4096), None);
+    expect_byte(&rt, &image, 4096, None);
     Ok(())
 }
 
@@ -222,7 +243,8 @@ fn moves_in_two_chunks(rt: HostRuntime) -> Result<(), Fail> {
         poke(&rt, &mut image, 8192, &[1, 2]);
         let job = Job::move_bytes(0, 8, 12_272);
         let answer = carried_in_two(&rt, &mut image, &mut arena, &job, edge);
-        assert_eq!(rt; answer, record(Status::ReadFault, 1, 4080, 8191));
+        let want = record(Status::ReadFault, 1, 4080, 8191);
+        expect_chunked(&rt, &job, edge, answer, want);
         assert!(rt; shows(&image, 8192, &[1, 2, 0, 0, 0, 0, 0, 0, 1, 2, 0, 0]));
     }
     Ok(())
@@ -284,11 +306,8 @@ impl LentRow {
             write_over(rt, &mut after, place as usize, &shown);
         }
         let job = self.job;
-        assert_eq!(rt;
-            carried_over(rt, &mut bytes, arena, &job),
-            self.answer,
-            "{job:?}"
-        );
+        let answer = carried_over(rt, &mut bytes, arena, &job);
+        expect_record(rt, &job, answer, self.answer);
         assert!(rt; bytes == after, "{job:?}");
         Ok(())
     }
@@ -485,8 +504,8 @@ fn backward_move_stops_at_page_edge_of_lent_memory(rt: HostRuntime) {
     let answer = submitted_at_home(&mut image, &job);
     lent.put(image);
     drop(lent);
-    assert_eq!(rt; filled, record(Status::Success, 0, 2, 0));
-    assert_eq!(rt; answer, record(Status::ReadFault, 1, 4080, 8191));
+    expect_record(&rt, &fill, filled, record(Status::Success, 0, 2, 0));
+    expect_record(&rt, &job, answer, record(Status::ReadFault, 1, 4080, 8191));
     let mut expected = [0; 12_288];
     expected[8192..8194].copy_from_slice(&[1, 2]);
     expected[8200..8202].copy_from_slice(&[1, 2]);

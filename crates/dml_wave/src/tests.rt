@@ -45,6 +45,11 @@ fn operation_need(rt: &impl Abort, job: &Checked) -> u64
     count
 }
 
+/// A job, checked.
+fn accepted(job: &Job) -> Result<Checked, &'static str> {
+    check(job, STAGING).ok().ok_or("refused")
+}
+
 /// The tasks of a wave of one job.
 fn tasks_of<'a>(
     rt: &impl Abort,
@@ -53,7 +58,7 @@ fn tasks_of<'a>(
     chunk: u32,
     arena: &'a mut Arena,
 ) -> Result<Vec<Task<'a>>, Fail> {
-    let job = check(job, STAGING).map_err(|_| "refused")?;
+    let job = accepted(job)?;
     let chunk = valid_chunk(rt, chunk);
     let room = arena.open();
     assert!(rt; operation_need(rt, &job) <= u64::from(room.room()));
@@ -113,9 +118,9 @@ fn chunk_task_counts(rt: HostRuntime) -> Result<(), Fail> {
 /// A wave names its jobs in an order of its own; the regions of its chunks lie side by side from the room's first byte.
 #[test]
 fn chunks_side_by_side(rt: HostRuntime) -> Result<(), Fail> {
-    let create = check(&Job::create_delta(0, 64, 24, 128, 30), STAGING).map_err(|_| "refused")?;
-    let compare = check(&Job::compare(0, 512, 20), STAGING).map_err(|_| "refused")?;
-    let cast = check(&Job::dualcast(0, 4096, 8192, 20), STAGING).map_err(|_| "refused")?;
+    let create = accepted(&Job::create_delta(0, 64, 24, 128, 30))?;
+    let compare = accepted(&Job::compare(0, 512, 20))?;
+    let cast = accepted(&Job::dualcast(0, 4096, 8192, 20))?;
     let mut arena = Arena::new(rt.alloc(), 50)?;
     let room = arena.open();
     let needs = operation_need(&rt, &cast)
@@ -216,33 +221,43 @@ fn carried_together<R: Abort + Threads + Wait + Sync>(
 }
 
 /// A move, a compare, and a fill that runs into the absent page.
-fn three_jobs() -> Result<(Checked, Checked, Checked), Status> {
+fn three_jobs() -> Result<(Checked, Checked, Checked), &'static str> {
     Ok((
-        check(&Job::move_bytes(0, 4096, 20), STAGING)?,
-        check(&Job::compare(0, 256, 20), STAGING)?,
-        check(&Job::fill(0x0706_0504_0302_0100, 8184, 16), STAGING)?,
+        accepted(&Job::move_bytes(0, 4096, 20))?,
+        accepted(&Job::compare(0, 256, 20))?,
+        accepted(&Job::fill(0x0706_0504_0302_0100, 8184, 16))?,
     ))
+}
+
+/// Checks a record.
+fn expect_record(rt: &impl Abort, found: Record, want: Record) {
+    assert_eq!(rt; found, want);
+}
+
+/// Checks the byte at an address.
+fn expect_byte(rt: &impl Abort, image: &Image, addr: u64, value: u8) {
+    assert_eq!(rt; image.byte(addr), Some(value), "byte {addr}");
 }
 
 /// Checks what the three jobs leave.
 fn expect_three(rt: &impl Abort, image: &Image, records: &[Record; 3]) {
-    assert_eq!(rt; records[0], record(Status::Success, 20, 0));
-    assert_eq!(rt; records[1], record(Status::Success, 20, 0));
-    assert_eq!(rt; records[2], record(Status::WriteFault, 8, 8192));
+    expect_record(rt, records[0], record(Status::Success, 20, 0));
+    expect_record(rt, records[1], record(Status::Success, 20, 0));
+    expect_record(rt, records[2], record(Status::WriteFault, 8, 8192));
     for i in 0..20 {
-        assert_eq!(rt; image.byte(4096 + i), Some(i as u8));
+        expect_byte(rt, image, 4096 + u64::from(i), i);
     }
-    assert_eq!(rt; image.byte(4116), Some(0));
-    assert_eq!(rt; image.byte(8183), Some(0));
+    expect_byte(rt, image, 4116, 0);
+    expect_byte(rt, image, 8183, 0);
     for i in 0..8 {
-        assert_eq!(rt; image.byte(8184 + i), Some(i as u8));
+        expect_byte(rt, image, 8184 + u64::from(i), i);
     }
 }
 
 #[test]
 fn wave_of_three(rt: HostRuntime) -> Result<(), Fail> {
     for (chunk, workers) in [(8, 1), (8, 2), (8, 16), (16, 3), (4096, 1), (4096, 16)] {
-        let jobs = three_jobs().map_err(|_| "refused")?;
+        let jobs = three_jobs()?;
         let mut image = image(rt.alloc())?;
         let mut arena = Arena::new(rt.alloc(), 20)?;
         let mut records = [BLANK; 3];
@@ -268,8 +283,8 @@ fn wave_of_three(rt: HostRuntime) -> Result<(), Fail> {
 /// The record at a no-op's place stays as it is.
 #[test]
 fn no_op_in_a_wave(rt: HostRuntime) -> Result<(), Fail> {
-    let (copy, _, fill) = three_jobs().map_err(|_| "refused")?;
-    let no_op = check(&Job::no_op(), STAGING).map_err(|_| "refused")?;
+    let (copy, _, fill) = three_jobs()?;
+    let no_op = accepted(&Job::no_op())?;
     let mut image = image(rt.alloc())?;
     let mut arena = Arena::new(rt.alloc(), 20)?;
     let mut records = [BLANK; 3];
@@ -287,7 +302,7 @@ fn no_op_in_a_wave(rt: HostRuntime) -> Result<(), Fail> {
         (copy, no_op, fill),
         &mut records,
     )?;
-    assert_eq!(rt; records[1], BLANK);
+    expect_record(&rt, records[1], BLANK);
     records[1] = record(Status::Success, 20, 0);
     expect_three(&rt, &image, &records);
     Ok(())

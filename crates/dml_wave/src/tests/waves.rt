@@ -122,7 +122,9 @@ fn carried_past<R: Abort + Threads + Wait + Sync, G: Gate + Sync>(
     wave: &[u32],
     records: &mut [Record],
 ) -> Result<(), WaveError> {
-    let mut arena = Arena::new(alloc, settings.staging).map_err(|_| WaveError::NoMemory)?;
+    let mut arena = Arena::new(alloc, settings.staging)
+        .ok()
+        .ok_or(WaveError::NoMemory)?;
     assert!(rt; settings.is_valid() && arena.size() == settings.staging);
     assert!(rt; records.len() == jobs.len() && is_within(jobs.len(), wave));
     assert!(rt; are_apart(jobs, wave) && fits(jobs, wave, settings));
@@ -230,10 +232,10 @@ fn staging_refusal_and_two_waves(rt: HostRuntime) -> Result<(), Fail> {
             done(Status::StagingRefused, 0),
             done(Status::Success, 64),
         ];
-        assert_eq!(rt; records.as_slice(), want.as_slice());
+        expect_records(&rt, &records, &want);
         for place in 0..64 {
-            assert_eq!(rt; image.byte(256 + place), image.byte(place));
-            assert_eq!(rt; image.byte(1024 + place), image.byte(place));
+            expect_byte(&rt, &image, 256 + place, image.byte(place));
+            expect_byte(&rt, &image, 1024 + place, image.byte(place));
         }
     }
     Ok(())
@@ -304,10 +306,20 @@ fn byte_left(opening: &Image, addr: u64) -> Option<u8> {
     }
 }
 
+/// Checks the byte at an address.
+fn expect_byte(rt: &impl Abort, image: &Image, addr: u64, value: Option<u8>) {
+    assert_eq!(rt; image.byte(addr), value, "byte {addr}");
+}
+
+/// Checks records.
+fn expect_records(rt: &impl Abort, found: &[Record], want: &[Record]) {
+    assert_eq!(rt; found, want);
+}
+
 /// Checks that an image is what the mixed jobs leave.
 fn expect_done(rt: &impl Abort, image: &Image, opening: &Image) {
     for addr in 0..32_768 {
-        assert_eq!(rt; image.byte(addr), byte_left(opening, addr), "byte {addr}");
+        expect_byte(rt, image, addr, byte_left(opening, addr));
     }
 }
 
@@ -400,14 +412,14 @@ fn wave_or_refused<R: Abort + Threads + Wait + Sync>(rt: &R, alloc: Global, work
     match done {
         Ok(()) => {
             assert!(rt; gate.count() > 0);
-            assert_eq!(rt; records.as_slice(), mixed_records().as_slice());
+            expect_records(rt, &records, &mixed_records());
             expect_done(rt, &image, &untouched);
         }
         Err(WaveError::NoMemory) => {
             assert_eq!(rt; gate.count(), 0);
             assert!(rt; records.iter().all(|record| *record == BLANK));
             for addr in 0..32_768 {
-                assert_eq!(rt; image.byte(addr), untouched.byte(addr), "byte {addr}");
+                expect_byte(rt, &image, addr, untouched.byte(addr));
             }
         }
     }

@@ -49,7 +49,8 @@ have_succeeded records = list_all (λ r. nat_eq (code_of r.status) 0x01) records
 
 -- whether a batch ends before the job at a place: it is fenced, and an earlier one has another status
 abbrev pub ends_before : List Job → List Record → ℕ → Bool
-ends_before jobs records i = is_fenced (slice_index_or jobs i no_op_job) && not (have_succeeded (take i records))
+ends_before jobs records i =
+    is_fenced (slice_index_or jobs i no_op_job) && not (have_succeeded (take i records))
 
 -- the jobs of a batch that are carried out, without their fences: those before the first place where it ends
 abbrev pub batch_jobs : Memory → List Job → ℕ → List Job
@@ -65,7 +66,7 @@ batch_answer records =
       completed = length records;
     }
 
--- a batch is the fold of the jobs that are carried out; the records of all others, which are abandoned, are zeros
+-- a batch is the fold of the jobs that are carried out; all others are abandoned, and their records are zeros
 abbrev pub batch : Memory → List Job → ℕ → Memory × BatchRecord × List Record
 batch memory jobs staging =
     let done = batch_jobs memory jobs staging in

@@ -1,8 +1,9 @@
 #!/bin/sh
-# Programs over dml_arena that must not compile, and one that must. Each file tests/no-compile/NAME.rt.txt says
-# on its first line the error that is wanted, as `// borrow-e0499: why`, and on its second what the error says, or
-# begins with `// compiles:`. Each becomes the one file of a crate over a throw-away copy of dml_arena, and the check
-# has to refuse it with that very error. Last, an arena whose block is not given back must not compile.
+# Programs over dml_arena that must not compile, one of them for a lock that is waited for without Wait, and one
+# program that must compile. Each file tests/no-compile/NAME.rt.txt says on its first line the error that is wanted,
+# as `// borrow-e0499: why`, and on its second what the error says, or begins with `// compiles:`. Each becomes the
+# one file of a crate over a throw-away copy of dml_arena, and the check has to refuse it with that very error.
+# Last, an arena whose block is not given back must not compile.
 # Usage, from anywhere: sh tests/no_compile.sh. Status 0 where each did as wanted.
 top=$(cd "$(dirname "$0")/.." && pwd) || exit 2
 room=$(mktemp -d) || exit 2
@@ -17,7 +18,7 @@ failed=0
 wrong=0
 right=0
 for name in control region_after_cut region_after_join region_after_joining_next region_after_reopening \
-    region_outlives_arena; do
+    region_outlives_arena lock_without_wait; do
     case=$top/tests/no-compile/$name.rt.txt
     [ -f "$case" ] || { failed=1; echo "$name: there is no such case"; continue; }
     says=$(sed -n '2s,^// says: ,,p' "$case")
@@ -36,7 +37,7 @@ for name in control region_after_cut region_after_join region_after_joining_next
             continue
         fi
         ;;
-    borrow-*)
+    borrow-* | unsatisfied-bound)
         if [ "$status" -ne 0 ] && [ -n "$says" ] && grep "^src/lib.rt:.*error\[$wanted\]" "$room/log" | grep -qF "$says"; then
             wrong=$((wrong + 1))
             echo "$name: refused with $wanted, as it must be"

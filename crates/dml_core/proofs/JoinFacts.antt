@@ -29,8 +29,8 @@ use Rattle.dml_levels.specs.Tasks.{task_count, task_count_by}
 use Rattle.dml_levels.specs.Waves.{job_at}
 use Rattle.dml_core.specs.Types.{Job, Settings, Op, NoOp, CreateDelta, ApplyDelta, Fetched, Task}
 use Rattle.dml_core.specs.Plan.{entry_at, jobs_of, is_refused, task_for, chunks_of}
-use Rattle.dml_core.specs.World.{Value, Nothing, Scanned, Created, Applied, value_by, value_of, World}
-use Rattle.dml_core.specs.Laws.{Keeps, kept_with, job_tasks}
+use Rattle.dml_core.specs.World.{Value, Nothing, Scanned, Created, Applied, operation_value, task_value, World}
+use Rattle.dml_core.specs.Laws.{Keeps, kept_value, job_tasks}
 use Rattle.dml_core.specs.Joins.{CarriesScan, CarriesCreate, CarriesApply, AreNeighbours, KeptMeetJoins, CommitsAreSteps}
 use Rattle.dml_core.proofs.FoldLemmas.{job_entry}
 use Rattle.dml_core.proofs.KeepsLemmas.{core_keeps, each_has_its_values, kept_join_to_step}
@@ -130,11 +130,11 @@ by_kept Fits f g (task ∷ tasks) (piece ∷ pieces) same all = (
 )
 
 by_place : (fetched : List Fetched) (memory : Memory) (i size last : ℕ) (ks : List ℕ)
-    → map (λ task. Some (value_of fetched memory task)) (map (task_for i size last) ks)
-    ≡ map (λ (task : Task). Some (value_by (operation_of (entry_at fetched i).job) memory (entry_at fetched i).job task.from task.to)) (map (task_for i size last) ks)
+    → map (λ task. Some (task_value fetched memory task)) (map (task_for i size last) ks)
+    ≡ map (λ (task : Task). Some (operation_value (operation_of (entry_at fetched i).job) memory (entry_at fetched i).job task.from task.to)) (map (task_for i size last) ks)
 by_place fetched memory i size last [] = refl
 by_place fetched memory i size last (k ∷ ks) =
-    ap (λ (list : List (Option Value)). Some (value_of fetched memory (task_for i size last k)) ∷ list) (by_place fetched memory i size last ks)
+    ap (λ (list : List (Option Value)). Some (task_value fetched memory (task_for i size last k)) ∷ list) (by_place fetched memory i size last ks)
 
 abbrev OfChunk : {P : Type 0} → (P → ℕ) → (P → ℕ) → (P → Value) → Option Value → Task → P → Type 0
 OfChunk from to carried value task piece = (from piece ≡ task.from) × (to piece ≡ task.to) × (value ≡ Some (carried piece))
@@ -142,11 +142,11 @@ OfChunk from to carried value task piece = (from piece ≡ task.from) × (to pie
 -- the tasks of an accepted job, and what is kept with each, by its operation
 module _ {P : Type 0} (from to : P → ℕ) (carried : P → Value) (region : P → Piece) (op : Op) (IsValueFrom : Memory → Job → ℕ → P → Type 0)
     (is_value : (memory : Memory) (job : Job) (task : Task) (piece : P) → task.from ≤ task.to
-    → OfChunk from to carried (Some (value_by op memory job task.from task.to)) task piece → IsValueFrom memory job task.from piece) where
+    → OfChunk from to carried (Some (operation_value op memory job task.from task.to)) task piece → IsValueFrom memory job task.from piece) where
   kept_chunks : (w : World) (i : ℕ) (pieces : List P) → IsValid w.settings → is_refused (jobs_of w.fetched) w.settings.staging i ≡ false
       → op_of (entry_at w.fetched i).job ≡ Some op
-      → map (kept_with w) (job_tasks w i) ≡ map (λ task. Some (value_of w.fetched w.image task)) (job_tasks w i)
-      → AllZip (λ task piece. OfChunk from to carried (kept_with w task) task piece) (job_tasks w i) pieces → AreNeighbours region pieces
+      → map (kept_value w) (job_tasks w i) ≡ map (λ task. Some (task_value w.fetched w.image task)) (job_tasks w i)
+      → AllZip (λ task piece. OfChunk from to carried (kept_value w task) task piece) (job_tasks w i) pieces → AreNeighbours region pieces
       → AreChunksFrom (IsValueFrom w.image (entry_at w.fetched i).job) to region (units op (entry_at w.fetched i).job) 0 pieces
   kept_chunks w i pieces valid accepted operation same all near =
       let job = (entry_at w.fetched i).job in
@@ -163,13 +163,13 @@ module _ {P : Type 0} (from to : P → ℕ) (carried : P → Value) (region : P 
       ap (λ b. cond b [] (chunks_of (operation_of (job_at (jobs_of w.fetched) i)) (job_at (jobs_of w.fetched) i) chunk i)) accepted
       ∙ (ap (λ (j : Job). chunks_of (operation_of j) j chunk i) is_job
       ∙ ap (λ (o : Op). map (task_for i (chunk_units o chunk) (units o job)) list) known) in
-      let values = subst (λ (ts : List Task). map (kept_with w) ts ≡ map (λ task. Some (value_of w.fetched w.image task)) ts) is_tasks same
+      let values = subst (λ (ts : List Task). map (kept_value w) ts ≡ map (λ task. Some (task_value w.fetched w.image task)) ts) is_tasks same
       ∙ (by_place w.fetched w.image i (chunk_units op chunk) (units op job) list
-      ∙ ap (λ (o : Op). map (λ (task : Task). Some (value_by o w.image job task.from task.to)) tasks) known) in
-      let carried_on = by_kept (OfChunk from to carried) (kept_with w) (λ task. Some (value_by op w.image job task.from task.to)) tasks pieces values
-      (subst (λ (ts : List Task). AllZip (λ task piece. OfChunk from to carried (kept_with w task) task piece) ts pieces) is_tasks all) in
+      ∙ ap (λ (o : Op). map (λ (task : Task). Some (operation_value o w.image job task.from task.to)) tasks) known) in
+      let carried_on = by_kept (OfChunk from to carried) (kept_value w) (λ task. Some (operation_value op w.image job task.from task.to)) tasks pieces values
+      (subst (λ (ts : List Task). AllZip (λ task piece. OfChunk from to carried (kept_value w task) task piece) ts pieces) is_tasks all) in
       all_chunks (IsValueFrom w.image job) to region
-      (λ task piece. OfChunk from to carried (Some (value_by op w.image job task.from task.to)) task piece)
+      (λ task piece. OfChunk from to carried (Some (operation_value op w.image job task.from task.to)) task piece)
       (λ task piece order fits. (is_value w.image job task piece order fits, fits.1))
       op job chunk i pieces operation rules valid.chunk carried_on near
     where
@@ -209,7 +209,7 @@ last_in (Some (Applied bad first last staged)) = last
 last_in other = None
 
 is_scan : (op : Op) → op ≢ CreateDelta → op ≢ ApplyDelta → (memory : Memory) (job : Job) (from to : ℕ) (value : Value)
-    → Some (value_by op memory job from to) ≡ Some value → is_scanned (Some value) ≡ true
+    → Some (operation_value op memory job from to) ≡ Some value → is_scanned (Some value) ≡ true
     → value ≡ Scanned (scan_found op memory job from to) (scan_staged op memory job from to)
 is_scan NoOp create apply memory job from to value same scanned = absurd (false≢true (ap is_scanned same ∙ scanned))
 is_scan Move create apply memory job from to value same scanned = sym (ap (λ (v : Option Value). unwrap_or v Nothing) same)
@@ -241,7 +241,7 @@ apply_of piece = Applied (option_map bad_of piece.bad) piece.first piece.last pi
 
 kept_scans : (w : World) (i : ℕ) (op : Op) (pieces : List ScanPiece) → IsValid w.settings → is_refused (jobs_of w.fetched) w.settings.staging i ≡ false
     → op_of (entry_at w.fetched i).job ≡ Some op → GoesByOffsets (entry_at w.fetched i).job
-    → map (kept_with w) (job_tasks w i) ≡ map (λ task. Some (value_of w.fetched w.image task)) (job_tasks w i)
+    → map (kept_value w) (job_tasks w i) ≡ map (λ task. Some (task_value w.fetched w.image task)) (job_tasks w i)
     → AllZip (CarriesScan w) (job_tasks w i) pieces → AreNeighbours (λ piece. piece.staged) pieces
     → AreScans op w.image (entry_at w.fetched i).job pieces
 kept_scans w i op pieces valid accepted operation goes same all near =
@@ -260,7 +260,7 @@ kept_scans w i op pieces valid accepted operation goes same all near =
 
 kept_creates : (w : World) (i : ℕ) (pieces : List CreatePiece) → IsValid w.settings → is_refused (jobs_of w.fetched) w.settings.staging i ≡ false
     → op_of (entry_at w.fetched i).job ≡ Some CreateDelta
-    → map (kept_with w) (job_tasks w i) ≡ map (λ task. Some (value_of w.fetched w.image task)) (job_tasks w i)
+    → map (kept_value w) (job_tasks w i) ≡ map (λ task. Some (task_value w.fetched w.image task)) (job_tasks w i)
     → AllZip (CarriesCreate w) (job_tasks w i) pieces → AreNeighbours (λ piece. piece.staged) pieces
     → AreChunksFrom (IsCreateFrom w.image (entry_at w.fetched i).job) (λ piece. piece.to) (λ piece. piece.staged) ((entry_at w.fetched i).job.size / 8) 0 pieces
 kept_creates w i pieces valid accepted operation same all near =
@@ -275,7 +275,7 @@ kept_creates w i pieces valid accepted operation same all near =
 
 kept_applies : (w : World) (i : ℕ) (pieces : List ApplyPiece) → IsValid w.settings → is_refused (jobs_of w.fetched) w.settings.staging i ≡ false
     → op_of (entry_at w.fetched i).job ≡ Some ApplyDelta
-    → map (kept_with w) (job_tasks w i) ≡ map (λ task. Some (value_of w.fetched w.image task)) (job_tasks w i)
+    → map (kept_value w) (job_tasks w i) ≡ map (λ task. Some (task_value w.fetched w.image task)) (job_tasks w i)
     → AllZip (CarriesApply w) (job_tasks w i) pieces → AreNeighbours (λ piece. piece.staged) pieces
     → AreChunksFrom (IsApplyFrom w.image (entry_at w.fetched i).job) (λ piece. piece.to) (λ piece. piece.staged) ((entry_at w.fetched i).job.delta_size / 10) 0 pieces
 kept_applies w i pieces valid accepted operation same all near =

@@ -11,9 +11,9 @@ use Rattle.dml_types.specs.Step.{memory_after, records_of}
 use Rattle.dml_order.specs.Order.{run_all, is_in}
 use Rattle.dml_order.specs.Waves.{joined}
 use Rattle.dml_core.specs.Types.{Job, Settings, Fetched, Task, Step, Submit, Fetch, Take, Finish, Commit}
-use Rattle.dml_core.specs.Plan.{no_entry, entry_at, is_refused, jobs_of, tasks_at}
-use Rattle.dml_core.specs.World.{Kept, Value, value_of, World, new_world, sent_by, part_of, next_job, in_hand, no_hand, is_empty, is_allowed, carry_out, world_progress, wave_at, wave_tasks, entry_for, kept_by, kept_now, after, run, Reaches}
-use Rattle.dml_core.specs.Laws.{committed, held, how_many, CoreKeeps, submitted, SentIsSubmitted, OnlyCommitWrites, is_task, kept_with, job_tasks, EachHasItsValues, KeptJoinToStep}
+use Rattle.dml_core.specs.Plan.{no_entry, entry_at, is_refused, jobs_of, chunk_tasks}
+use Rattle.dml_core.specs.World.{Kept, Value, task_value, World, new_world, sent_by, part_of, next_job, in_hand, no_hand, is_empty, is_allowed, carry_out, world_progress, wave_at, wave_tasks, new_entry, kept_task, kept_now, after, run, Reaches}
+use Rattle.dml_core.specs.Laws.{committed, held, how_many, CoreKeeps, submitted, SentIsSubmitted, OnlyCommitWrites, is_task, kept_value, job_tasks, EachHasItsValues, KeptJoinToStep}
 use Rattle.dml_core.proofs.FoldLemmas.{blank, blanks_stay}
 use Rattle.dml_core.proofs.ImageLemmas.{carried_kept}
 use Rattle.dml_core.proofs.OrderedLemmas.{IsOrdered, ordered_at_first, ordered_after_wave, ordered_after_fetch, ordered_image, ordered_answers}
@@ -29,7 +29,7 @@ first_and_others (wave ∷ waves) = refl
 order_after : (start : Memory) (w : World) (s : Step) → OrderStands start w → OrderStands start (after w s)
 order_after start w (Submit client job) o = record { done = o.done; planned = o.planned; reached = o.reached }
 order_after start w (Fetch client) o =
-    ordered_after_fetch w.settings.staging w.settings.chunk start w.image w.fetched w.waves (entry_for client (next_job w client)) refl o
+    ordered_after_fetch w.settings.staging w.settings.chunk start w.image w.fetched w.waves (new_entry client (next_job w client)) refl o
 order_after start w (Take worker) o = record { done = o.done; planned = o.planned; reached = o.reached }
 order_after start w (Finish worker) o = record { done = o.done; planned = o.planned; reached = o.reached }
 order_after start w Commit o =
@@ -106,7 +106,7 @@ parts_after w (Submit sender job) parts allowed client =
 parts_after w (Fetch sender) parts allowed client =
     let old = parts client in
     let front = jobs_of (part_of client w.fetched) in
-    let entry = entry_for sender (next_job w sender) in
+    let entry = new_entry sender (next_job w sender) in
     let more = part_more client w.fetched entry in
     ⊎_elim (λ same.
     let size : length (part_of client w.fetched) ≡ length front = sym (length-map (part_of client w.fetched) (λ (e : Fetched). e.job)) in
@@ -211,24 +211,24 @@ tasks_after w Commit stand allowed test =
 
 -- the values
 abbrev pub ValuesStand : World → Type 0
-ValuesStand w = w.finished ≡ map (kept_by w.fetched w.image) (finished_tasks w)
+ValuesStand w = w.finished ≡ map (kept_task w.fetched w.image) (finished_tasks w)
 
 values_after : (w : World) (s : Step) → ValuesStand w → is_allowed w s ≡ true → ValuesStand (after w s)
 values_after w (Submit client job) stand allowed = stand
 values_after w (Fetch client) stand allowed =
     let next = after w (Fetch client) in
-    subst (λ (list : List Kept). list ≡ map (kept_by next.fetched next.image) (map (λ kept. kept.task) list)) (sym (fetch_none_finished w client allowed)) refl
+    subst (λ (list : List Kept). list ≡ map (kept_task next.fetched next.image) (map (λ kept. kept.task) list)) (sym (fetch_none_finished w client allowed)) refl
 values_after w (Take worker) stand allowed = stand
 values_after w (Finish worker) stand allowed =
     let one = in_hand w worker in
-    let kept = kept_by w.fetched w.image in
+    let kept = kept_task w.fetched w.image in
     let tasks : List Kept → List Task = map (λ k. k.task) in
     ap (λ (list : List Kept). list ++ kept_now w one) stand
     ∙ (ap (λ (list : List Kept). map kept (tasks w.finished) ++ list) (kept_one w one)
     ∙ (sym (map-append kept (tasks w.finished) (tasks (kept_now w one)))
     ∙ ap (map kept) (sym (map-append (λ (k : Kept). k.task) w.finished (kept_now w one)))))
   where
-    kept_one : (w : World) (hand : Option Task) → kept_now w hand ≡ map (kept_by w.fetched w.image) (map (λ k. k.task) (kept_now w hand))
+    kept_one : (w : World) (hand : Option Task) → kept_now w hand ≡ map (kept_task w.fetched w.image) (map (λ k. k.task) (kept_now w hand))
     kept_one w None = refl
     kept_one w (Some task) = refl
 values_after w Commit stand allowed = refl
@@ -421,13 +421,13 @@ same_task one other same =
     ∙ (ap (λ (k : ℕ). record one { place = other.place; from = k }) (eqb-true one.from other.from second.0)
     ∙ ap (λ (k : ℕ). record one { place = other.place; from = other.from; to = k }) (eqb-true one.to other.to second.1)))
 
-found_kept : (w : World) (task : Task) (finished : List Kept) → finished ≡ map (kept_by w.fetched w.image) (map (λ kept. kept.task) finished) → 1 ≤ how_many (is_task task) (map (λ kept. kept.task) finished) → option_map (λ kept. kept.value) (find (λ kept. is_task task kept.task) finished) ≡ Some (value_of w.fetched w.image task)
+found_kept : (w : World) (task : Task) (finished : List Kept) → finished ≡ map (kept_task w.fetched w.image) (map (λ kept. kept.task) finished) → 1 ≤ how_many (is_task task) (map (λ kept. kept.task) finished) → option_map (λ kept. kept.value) (find (λ kept. is_task task kept.task) finished) ≡ Some (task_value w.fetched w.image task)
 found_kept w task [] values some = absurd (omega (arith, some))
 found_kept w task (kept ∷ finished) values some =
-    let own : kept.value ≡ value_of w.fetched w.image kept.task = ap (λ (list : List Kept). first_value (kept_by w.fetched w.image task) list) values in
-    let rest : finished ≡ map (kept_by w.fetched w.image) (map (λ k. k.task) finished) = ap (drop 1) values in
-    elim (is_task task kept.task) as (λ b. is_task task kept.task ≡ b → 1 ≤ length (cond b (kept.task ∷ filter (is_task task) (map (λ k. k.task) finished)) (filter (is_task task) (map (λ k. k.task) finished))) → option_map (λ k. k.value) (cond b (Some kept) (find (λ k. is_task task k.task) finished)) ≡ Some (value_of w.fetched w.image task)) [
-      | true ↦ λ here more. ap Some (own ∙ ap (value_of w.fetched w.image) (same_task task kept.task here))
+    let own : kept.value ≡ task_value w.fetched w.image kept.task = ap (λ (list : List Kept). first_value (kept_task w.fetched w.image task) list) values in
+    let rest : finished ≡ map (kept_task w.fetched w.image) (map (λ k. k.task) finished) = ap (drop 1) values in
+    elim (is_task task kept.task) as (λ b. is_task task kept.task ≡ b → 1 ≤ length (cond b (kept.task ∷ filter (is_task task) (map (λ k. k.task) finished)) (filter (is_task task) (map (λ k. k.task) finished))) → option_map (λ k. k.value) (cond b (Some kept) (find (λ k. is_task task k.task) finished)) ≡ Some (task_value w.fetched w.image task)) [
+      | true ↦ λ here more. ap Some (own ∙ ap (task_value w.fetched w.image) (same_task task kept.task here))
       | false ↦ λ gone more. found_kept w task finished rest more
     ] refl some
   where
@@ -443,19 +443,19 @@ counted_part test tasks_for (k ∷ wave) i here =
     (λ later. (let rest = counted_part test tasks_for wave i later in omega (arith, cut, rest)))
     (or_cases (nat_eq i k) (is_in i wave) here)
 
-all_found : (w : World) (tasks : List Task) → ((task : Task) → 1 ≤ how_many (is_task task) tasks → kept_with w task ≡ Some (value_of w.fetched w.image task)) → map (kept_with w) tasks ≡ map (λ task. Some (value_of w.fetched w.image task)) tasks
+all_found : (w : World) (tasks : List Task) → ((task : Task) → 1 ≤ how_many (is_task task) tasks → kept_value w task ≡ Some (task_value w.fetched w.image task)) → map (kept_value w) tasks ≡ map (λ task. Some (task_value w.fetched w.image task)) tasks
 all_found w [] found = refl
 all_found w (task ∷ tasks) found =
     let here = ap (λ b. length (cond b (task ∷ filter (is_task task) tasks) (filter (is_task task) tasks))) (is_itself task) in
-    ap (λ (v : Option Value). v ∷ map (kept_with w) tasks) (found task (omega (arith, here)))
-    ∙ ap (λ (list : List (Option Value)). Some (value_of w.fetched w.image task) ∷ list)
+    ap (λ (v : Option Value). v ∷ map (kept_value w) tasks) (found task (omega (arith, here)))
+    ∙ ap (λ (list : List (Option Value)). Some (task_value w.fetched w.image task) ∷ list)
     (all_found w tasks (λ other some. found other (let cut = how_many_append (is_task other) (task ∷ []) tasks in omega (arith, cut, some))))
 
 pub each_has_its_values : EachHasItsValues
 each_has_its_values start given clients w keeps allowed i here =
     all_found w (job_tasks w i) (λ task some.
     let all = keeps.tasks (is_task task) in
-    let part = counted_part (is_task task) (tasks_at (jobs_of w.fetched) w.settings.staging w.settings.chunk) (wave_at w 0) i here in
+    let part = counted_part (is_task task) (chunk_tasks (jobs_of w.fetched) w.settings.staging w.settings.chunk) (wave_at w 0) i here in
     let none = ap (how_many (is_task task)) (commit_none_to_do w allowed) in
     let hands = ap (how_many (is_task task)) (none_held w.hands (commit_no_hand w allowed)) in
     let done : 1 ≤ how_many (is_task task) (finished_tasks w) = omega (arith, all, part, none, hands, some) in
@@ -465,7 +465,7 @@ pub kept_join_to_step : KeptJoinToStep
 kept_join_to_step start given clients w keeps memory valid allowed i here accepted join law some =
     let same = keeps.settings in
     ap (λ (list : List (Option Value)). join w.image (entry_at w.fetched i).job (filter_map (λ kept. kept) list)) (each_has_its_values start given clients w keeps allowed i here)
-    ∙ (ap (join w.image (entry_at w.fetched i).job) (all_there (value_of w.fetched w.image) (job_tasks w i))
+    ∙ (ap (join w.image (entry_at w.fetched i).job) (all_there (task_value w.fetched w.image) (job_tasks w i))
     ∙ law w.image w.settings w.fetched i (keeps.memory memory) (subst IsValid (sym same) valid)
     (ap (λ (s : Settings). is_refused (jobs_of w.fetched) s.staging i) same ∙ accepted) some)
   where

@@ -12,7 +12,7 @@ use Rattle.dml_order.proofs.LevelLemmas.{range_more}
 use Rattle.dml_levels.specs.Laws.{unless_refused}
 use Rattle.dml_levels.specs.Waves.{job_at}
 use Rattle.dml_core.specs.Types.{Job, Task}
-use Rattle.dml_core.specs.Plan.{chunks_of, task_for, tasks_at, tasks_of}
+use Rattle.dml_core.specs.Plan.{chunks_of, task_for, chunk_tasks, tasks_of}
 
 pub kept_more : (p : ℕ → Bool) (n : ℕ) → filter p (range_with_len 0 (n + 1)) ≡ filter p (range_with_len 0 n) ++ cond (p n) (n ∷ []) []
 kept_more p n = ap (filter p) (range_more n) ∙ filter-append p (range_with_len 0 n) (n ∷ [])
@@ -25,7 +25,7 @@ chunks_more list before place size last k is =
     (sym (ap (map (task_for place size last)) (range_more k) ∙ map-append (task_for place size last) (range_with_len 0 k) (k ∷ []))))
 
 -- a refused job has no chunk, as a no-op has none
-idle_chunks : (jobs : List Job) (staging chunk i : ℕ) → tasks_at jobs staging chunk i ≡ chunks_of (operation_of (unless_refused staging (job_at jobs i))) (unless_refused staging (job_at jobs i)) chunk i
+idle_chunks : (jobs : List Job) (staging chunk i : ℕ) → chunk_tasks jobs staging chunk i ≡ chunks_of (operation_of (unless_refused staging (job_at jobs i))) (unless_refused staging (job_at jobs i)) chunk i
 idle_chunks jobs staging chunk i =
     elim (is_some (refusal (job_at jobs i) staging)) as (λ b. cond b [] (chunks_of (operation_of (job_at jobs i)) (job_at jobs i) chunk i) ≡ chunks_of (operation_of (cond b no_op_job (job_at jobs i))) (cond b no_op_job (job_at jobs i)) chunk i) [
       | true ↦ refl
@@ -35,12 +35,12 @@ idle_chunks jobs staging chunk i =
 pub tasks_more : (list : List Task) (jobs : List Job) (staging chunk : ℕ) (wave : List ℕ) (index : ℕ) (job : Job) → index < length wave → list ≡ tasks_of jobs staging chunk (take index wave) → job ≡ unless_refused staging (job_at jobs (get_or wave index 0)) → list ++ chunks_of (operation_of job) job chunk (get_or wave index 0) ≡ tasks_of jobs staging chunk (take (index + 1) wave)
 tasks_more list jobs staging chunk wave index job below is same =
     let place = get_or wave index 0 in
-    let own : chunks_of (operation_of job) job chunk place ≡ tasks_at jobs staging chunk place =
+    let own : chunks_of (operation_of job) job chunk place ≡ chunk_tasks jobs staging chunk place =
     ap (λ (j : Job). chunks_of (operation_of j) j chunk place) same ∙ sym (idle_chunks jobs staging chunk place) in
     ap (λ (l : List Task). l ++ chunks_of (operation_of job) job chunk place) is
-    ∙ (ap (λ (l : List Task). tasks_of jobs staging chunk (take index wave) ++ l) (own ∙ sym (append-nil (tasks_at jobs staging chunk place)))
+    ∙ (ap (λ (l : List Task). tasks_of jobs staging chunk (take index wave) ++ l) (own ∙ sym (append-nil (chunk_tasks jobs staging chunk place)))
     ∙ sym (ap (tasks_of jobs staging chunk) (take_more wave index 0 below)
-    ∙ flat_map-append (tasks_at jobs staging chunk) (take index wave) (place ∷ [])))
+    ∙ flat_map-append (chunk_tasks jobs staging chunk) (take index wave) (place ∷ [])))
 
 pub jobs_more : (list : List Job) (f : ℕ → Job) (places : List ℕ) (index : ℕ) (job : Job) → index < length places → list ≡ map f (take index places) → job ≡ f (get_or places index 0) → list ++ job ∷ [] ≡ map f (take (index + 1) places)
 jobs_more list f places index job below is same =

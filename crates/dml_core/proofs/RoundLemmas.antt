@@ -13,9 +13,9 @@ use Rattle.dml_order.proofs.OrderLemmas.{left_after, range_split, filter_range_s
 use Rattle.dml_order.proofs.KeepsLemmas.{left_after_is}
 use Rattle.dml_core.specs.Types.{Job, Settings, Record, Fetched, Task, Step, Submit, Fetch, Take, Finish, Commit}
 use Rattle.dml_core.specs.Plan.{no_entry, entry_at, jobs_of, is_open, open_places, planned, plan_of, tasks_of}
-use Rattle.dml_core.specs.World.{World, new_world, sent_by, part_of, next_job, no_hand, is_empty, is_allowed, world_progress, wave_at, wave_tasks, entry_for, after, Reaches}
+use Rattle.dml_core.specs.World.{World, new_world, sent_by, part_of, next_job, no_hand, is_empty, is_allowed, world_progress, wave_at, wave_tasks, new_entry, after, Reaches}
 use Rattle.dml_core.specs.Laws.{committed}
-use Rattle.dml_core.specs.Rounds.{Sent, jobs_in, fetch_steps, work_steps, wave_steps, round_steps, rounds_steps, all_sent, answered, IsRound, HasRun, RoundHasRun, RoundsHaveRuns}
+use Rattle.dml_core.specs.Rounds.{Sent, sent_jobs, fetch_steps, work_steps, wave_steps, round_steps, rounds_steps, all_sent, answered, IsRound, HasRun, RoundHasRun, RoundsHaveRuns}
 use Rattle.dml_core.proofs.FoldLemmas.{blank, blanks_stay, jobs_stay}
 use Rattle.dml_core.proofs.OrderedLemmas.{committed_is, ordered_image, ordered_answers, jobs_of_blank}
 use Rattle.dml_core.proofs.KeepsLemmas.{Stands, stands_run, stands_at_first, same_part, none_held_first, same_all_over}
@@ -193,7 +193,7 @@ one_fetched w sent known few ready =
     ap (λ (list : List Job). slice_get list (length (part_of c w.fetched))) own ∙ get_behind (sent_by w c) sent.job (length (part_of c w.fetched)) (ready.caught c) in
     let allowed : is_allowed one (Fetch c) ≡ true =
     and_from _ _ (and_from _ _ (and_from _ _ (ap is_some next) ready.free) (ap is_empty ready.finished)) (lt-ltb (length (open_places w.fetched)) 1024 few) in
-    let same : two.fetched ≡ w.fetched ++ entry_of sent ∷ [] = ap (λ (n : Option Job). w.fetched ++ entry_for c n ∷ []) next in
+    let same : two.fetched ≡ w.fetched ++ entry_of sent ∷ [] = ap (λ (n : Option Job). w.fetched ++ new_entry c n ∷ []) next in
     record {
       end = two;
       reaches = reaches_first w (Submit c sent.job) (Fetch c ∷ []) two (lt-ltb c (length w.sent) known) (reaches_first one (Fetch c) [] two allowed refl);
@@ -207,7 +207,7 @@ one_fetched w sent known few ready =
         finished = ready.finished;
         free = ready.free;
         caught = λ client.
-            let more = part_length client w.fetched (entry_for c (next_job one c)) in
+            let more = part_length client w.fetched (new_entry c (next_job one c)) in
             let old = ready.caught client in
             ⊎_elim (λ is.
             let size : length (sent_by one client) ≡ length (sent_by w client) + 1 =
@@ -314,10 +314,10 @@ open_behind fetched list all =
     ap (is_open whole) at ∙ (ap (λ (e : Fetched). is_none e.answer) (get_or-append-add fetched (entries_of list) (i - n) no_entry) ∙ fresh_open list (i - n)))
     ∙ all_kept (range_with_len n m)))))
 
-blank_jobs : (fetched : List Fetched) (list : List Sent) → map blank fetched ≡ entries_of list → jobs_of fetched ≡ jobs_in list
+blank_jobs : (fetched : List Fetched) (list : List Sent) → map blank fetched ≡ entries_of list → jobs_of fetched ≡ sent_jobs list
 blank_jobs fetched list same = sym (jobs_of_blank fetched) ∙ (ap jobs_of same ∙ own list)
   where
-    own : (list : List Sent) → jobs_of (entries_of list) ≡ jobs_in list
+    own : (list : List Sent) → jobs_of (entries_of list) ≡ sent_jobs list
     own [] = refl
     own (sent ∷ list) = ap (λ (jobs : List Job). sent.job ∷ jobs) (own list)
 
@@ -346,7 +346,7 @@ same_parts client one other same =
     let b = length-map (part_of client other) (λ (e : Fetched). e.job) in
     omega (arith, jobs, a, b)
 
-round_runs : (start : Memory) (settings : Settings) (clients : ℕ) (earlier list : List Sent) (w : World) → IsRound clients list → IsQuiet start settings clients earlier w → RunsTo start settings clients w (round_steps settings (jobs_in earlier) list) (earlier ++ list)
+round_runs : (start : Memory) (settings : Settings) (clients : ℕ) (earlier list : List Sent) (w : World) → IsRound clients list → IsQuiet start settings clients earlier w → RunsTo start settings clients w (round_steps settings (sent_jobs earlier) list) (earlier ++ list)
 round_runs start settings clients earlier list w round q =
     let answers = all_answered start w q.stands q.done.waves in
     let known = subst (λ n. All (λ (s : Sent). s.client < n) list) (sym q.known) round.known in
@@ -357,18 +357,18 @@ round_runs start settings clients earlier list w round q =
     let set : v.settings ≡ settings = f.settings ∙ q.settled in
     let staging = settings.staging in
     let chunk = settings.chunk in
-    let jobs = jobs_in earlier ++ jobs_in list in
+    let jobs = sent_jobs earlier ++ sent_jobs list in
     let blanks : map blank v.fetched ≡ entries_of (earlier ++ list) =
     ap (map blank) f.fetched
     ∙ (map-append blank w.fetched (entries_of list)
     ∙ (ap (λ (front : List Fetched). front ++ map blank (entries_of list)) q.fetched
     ∙ (ap (λ (back : List Fetched). entries_of earlier ++ back) (blank_entries list) ∙ sym (map-append entry_of earlier list)))) in
     let own : jobs_of v.fetched ≡ jobs = blank_jobs v.fetched (earlier ++ list) blanks ∙ map-append (λ (s : Sent). s.job) earlier list in
-    let count : length w.fetched ≡ length (jobs_in earlier) =
+    let count : length w.fetched ≡ length (sent_jobs earlier) =
     (let a = ap length q.fetched in let b = length-map w.fetched blank in let c = length-map earlier entry_of in let d = length-map earlier (λ (s : Sent). s.job) in omega (arith, a, b, c, d)) in
-    let places : open_places v.fetched ≡ range_with_len (length (jobs_in earlier)) (length list) =
+    let places : open_places v.fetched ≡ range_with_len (length (sent_jobs earlier)) (length list) =
     ap open_places f.fetched ∙ (open_behind w.fetched list answers ∙ ap (λ n. range_with_len n (length list)) count) in
-    let plan = planned jobs staging chunk (range_with_len (length (jobs_in earlier)) (length list)) in
+    let plan = planned jobs staging chunk (range_with_len (length (sent_jobs earlier)) (length list)) in
     let cut : v.waves ≡ plan =
     f.ready.waves
     ∙ (ap (λ (s : Settings). plan_of v.fetched s.staging s.chunk) set
@@ -381,7 +381,7 @@ round_runs start settings clients earlier list w round q =
       end = e;
       reaches = all;
       quiet = record {
-        stands = stands_reaches start w (round_steps settings (jobs_in earlier) list) e q.stands all;
+        stands = stands_reaches start w (round_steps settings (sent_jobs earlier) list) e q.stands all;
         settled = c.same.settings ∙ set;
         fetched = c.same.fetched ∙ blanks;
         done = c.done;
@@ -394,17 +394,17 @@ round_runs start settings clients earlier list w round q =
       };
     }
 
-rounds_run : (start : Memory) (settings : Settings) (clients : ℕ) (rounds : List (List Sent)) (earlier : List Sent) (w : World) → All (IsRound clients) rounds → IsQuiet start settings clients earlier w → RunsTo start settings clients w (rounds_steps settings (jobs_in earlier) rounds) (earlier ++ all_sent rounds)
+rounds_run : (start : Memory) (settings : Settings) (clients : ℕ) (rounds : List (List Sent)) (earlier : List Sent) (w : World) → All (IsRound clients) rounds → IsQuiet start settings clients earlier w → RunsTo start settings clients w (rounds_steps settings (sent_jobs earlier) rounds) (earlier ++ all_sent rounds)
 rounds_run start settings clients [] earlier w each q =
     record { end = w; reaches = refl; quiet = subst (λ (list : List Sent). IsQuiet start settings clients list w) (sym (append-nil earlier)) q }
 rounds_run start settings clients (list ∷ rounds) earlier w each q =
     let one = round_runs start settings clients earlier list w (All-head (IsRound clients) list rounds each) q in
     let v = one.end in
-    let jobs : jobs_in (earlier ++ list) ≡ jobs_in earlier ++ jobs_in list = map-append (λ (s : Sent). s.job) earlier list in
+    let jobs : sent_jobs (earlier ++ list) ≡ sent_jobs earlier ++ sent_jobs list = map-append (λ (s : Sent). s.job) earlier list in
     let rest = rounds_run start settings clients rounds (earlier ++ list) v (All-tail (IsRound clients) list rounds each) one.quiet in
     record {
       end = rest.end;
-      reaches = reaches_append (round_steps settings (jobs_in earlier) list) (rounds_steps settings (jobs_in earlier ++ jobs_in list) rounds) w v rest.end one.reaches
+      reaches = reaches_append (round_steps settings (sent_jobs earlier) list) (rounds_steps settings (sent_jobs earlier ++ sent_jobs list) rounds) w v rest.end one.reaches
           (subst (λ (before : List Job). Reaches v (rounds_steps settings before rounds) rest.end) jobs rest.reaches);
       quiet = subst (λ (all : List Sent). IsQuiet start settings clients all rest.end) (append_assoc earlier list (all_sent rounds)) rest.quiet;
     }
@@ -464,7 +464,7 @@ rounds_have_runs settings clients rounds image some whole each =
     let q = ran.quiet in
     let o = q.stands.order in
     let answers = all_answered image end q.stands q.done.waves in
-    let jobs : jobs_of end.fetched ≡ jobs_in all = blank_jobs end.fetched all q.fetched in
+    let jobs : jobs_of end.fetched ≡ sent_jobs all = blank_jobs end.fetched all q.fetched in
     let staging : end.settings.staging ≡ settings.staging = ap (λ (s : Settings). s.staging) q.settled in
     record {
       end = end;
@@ -472,11 +472,11 @@ rounds_have_runs settings clients rounds image some whole each =
       image =
           ordered_image end.settings.staging image end.image end.fetched end.waves whole o
           ∙ (ap (λ (list : List Fetched). memory_after image (jobs_of list) end.settings.staging) (all_committed end.fetched answers)
-          ∙ (ap (λ (list : List Job). memory_after image list end.settings.staging) jobs ∙ ap (memory_after image (jobs_in all)) staging));
+          ∙ (ap (λ (list : List Job). memory_after image list end.settings.staging) jobs ∙ ap (memory_after image (sent_jobs all)) staging));
       fetched =
-          matches end.fetched all (records_of image (jobs_in all) settings.staging) q.fetched answers
+          matches end.fetched all (records_of image (sent_jobs all) settings.staging) q.fetched answers
           (λ i r is.
-          sym (ap (λ (list : List Job). slice_get (records_of image list end.settings.staging) i) jobs ∙ ap (λ n. slice_get (records_of image (jobs_in all) n) i) staging)
+          sym (ap (λ (list : List Job). slice_get (records_of image list end.settings.staging) i) jobs ∙ ap (λ n. slice_get (records_of image (sent_jobs all) n) i) staging)
           ∙ ordered_answers end.settings.staging image end.image end.fetched end.waves whole o i r is);
     }
   where
@@ -490,5 +490,5 @@ pub round_has_run : RoundHasRun
 round_has_run settings clients list image some whole round =
     let all = rounds_have_runs settings clients (list ∷ []) image some whole (All-cons (IsRound clients) list [] round (All-nil (IsRound clients))) in
     let given : List Sent → List Step → Type 0 =
-    λ these steps. HasRun settings clients image (memory_after image (jobs_in these) settings.staging) steps (answered these (records_of image (jobs_in these) settings.staging)) in
+    λ these steps. HasRun settings clients image (memory_after image (sent_jobs these) settings.staging) steps (answered these (records_of image (sent_jobs these) settings.staging)) in
     subst (given list) (append-nil (round_steps settings [] list)) (subst (λ (these : List Sent). given these (round_steps settings [] list ++ [])) (append-nil list) all)

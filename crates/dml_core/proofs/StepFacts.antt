@@ -10,7 +10,7 @@ use Rattle.dml_order.proofs.OrderLemmas.{filter_range_same}
 use Rattle.dml_types.specs.Memory.{Memory}
 use Rattle.dml_core.specs.Types.{Job, Settings, Fetched, Task, Fetch, Commit}
 use Rattle.dml_core.specs.Plan.{no_entry, jobs_of, is_open, open_places, plan_of, tasks_of}
-use Rattle.dml_core.specs.World.{Kept, World, Progress, after, carry_out, entry_for, is_empty, next_job, part_of, progress, wave_at}
+use Rattle.dml_core.specs.World.{Kept, World, Progress, after, carry_out, new_entry, is_empty, next_job, part_of, progress, wave_at}
 use Rattle.dml_core.proofs.FoldLemmas.{jobs_stay}
 use Rattle.dml_core.proofs.LoopLemmas.{kept_more}
 
@@ -92,7 +92,7 @@ commit_allowed waves committed tasks taken hands some none free =
 pub fetch_view : (settings : Settings) (image : Memory) (sent : List (List Job)) (fetched : List Fetched) (waves : List (List ℕ)) (to_do : List Task) (hands : List (Option Task)) (finished new_finished : List Kept) (client : ℕ) (job : Job) (plan : List (List ℕ)) (tasks : List Task) → next_job (world settings image sent fetched waves to_do hands finished) client ≡ Some job → new_finished ≡ finished → plan ≡ plan_of (fetched ++ record { client = client; job = job; answer = None } ∷ []) settings.staging settings.chunk → tasks ≡ tasks_of (jobs_of (fetched ++ record { client = client; job = job; answer = None } ∷ [])) settings.staging settings.chunk (get_or plan 0 []) → world settings image sent (fetched ++ record { client = client; job = job; answer = None } ∷ []) plan tasks hands new_finished ≡ after (world settings image sent fetched waves to_do hands finished) (Fetch client)
 fetch_view settings image sent fetched waves to_do hands finished new_finished client job plan tasks next same planned set =
     let old = world settings image sent fetched waves to_do hands finished in
-    let list : Option Job → List Fetched = λ n. fetched ++ entry_for client n ∷ [] in
+    let list : Option Job → List Fetched = λ n. fetched ++ new_entry client n ∷ [] in
     ap (λ (kept : List Kept). world settings image sent (list (Some job)) plan tasks hands kept) same
     ∙ (ap (λ (l : List Task). world settings image sent (list (Some job)) plan l hands finished) set
     ∙ (ap (λ (p : List (List ℕ)). world settings image sent (list (Some job)) p (tasks_of (jobs_of (list (Some job))) settings.staging settings.chunk (get_or p 0 [])) hands finished) planned

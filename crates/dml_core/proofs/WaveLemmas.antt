@@ -23,7 +23,7 @@ use Rattle.dml_levels.specs.Waves.{fits_wave, job_at, most_tasks, needs_of, task
 use Rattle.dml_levels.proofs.CommuteLemmas.{still_apart}
 use Rattle.dml_core.specs.Types.{Job, Settings, Step, Submit, Fetch, Take, Finish, Commit}
 use Rattle.dml_core.specs.Plan.{entry_at, jobs_of, is_open, open_places, is_refused, accepted_places, accepted_waves, first_wave, with_refused, planned}
-use Rattle.dml_core.specs.World.{World, new_world, wave_at, world_progress, entry_for, next_job, after, run}
+use Rattle.dml_core.specs.World.{World, new_world, wave_at, world_progress, new_entry, next_job, after, run}
 use Rattle.dml_core.specs.Waves.{accepted_jobs, AreWaves, WavesStand, OneWave}
 use Rattle.dml_core.proofs.PlaceLemmas.{Climbs, climbs_back, climbs_kept, filter_twice, in_kept, in_map, member_split, picks_behind}
 use Rattle.dml_core.proofs.PlanLemmas.{IsPlanned, accepted_is, accepted_test, refused_left, refused_right, waits}
@@ -117,7 +117,7 @@ WavesApart w = All (Apart (jobs_of w.fetched) w.settings.staging) w.waves
 apart_after : (w : World) (s : Step) → WavesApart w → WavesApart (after w s)
 apart_after w (Submit client job) all = all
 apart_after w (Fetch client) all =
-    let list = w.fetched ++ entry_for client (next_job w client) ∷ [] in plan_apart (jobs_of list) w.settings.staging w.settings.chunk (is_open list) (length list)
+    let list = w.fetched ++ new_entry client (next_job w client) ∷ [] in plan_apart (jobs_of list) w.settings.staging w.settings.chunk (is_open list) (length list)
 apart_after w (Take worker) all = all
 apart_after w (Finish worker) all = all
 apart_after w Commit all =

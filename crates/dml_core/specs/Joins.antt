@@ -15,11 +15,11 @@ use Rattle.dml_order.specs.Order.{is_in}
 use Rattle.dml_core.specs.Types.{Settings, Op, CreateDelta, ApplyDelta, Task, Step, Commit}
 use Rattle.dml_core.specs.Plan.{entry_at, is_refused, jobs_of}
 use Rattle.dml_core.specs.World.{Value, Scanned, Created, Applied, World, new_world, wave_at, is_allowed, Reaches}
-use Rattle.dml_core.specs.Laws.{job_tasks, JoinToStep, Keeps, kept_with}
+use Rattle.dml_core.specs.Laws.{job_tasks, JoinToStep, Keeps, kept_value}
 
 -- a piece of these bounds and this value carries what was kept with a task
 abbrev pub Carries : World → Task → ℕ → ℕ → Value → Type 0
-Carries w task from to value = (from ≡ task.from) × (to ≡ task.to) × (kept_with w task ≡ Some value)
+Carries w task from to value = (from ≡ task.from) × (to ≡ task.to) × (kept_value w task ≡ Some value)
 
 abbrev pub CarriesScan : World → Task → ScanPiece → Type 0
 CarriesScan w task piece = Carries w task piece.from piece.to (Scanned piece.found piece.staged.bytes)

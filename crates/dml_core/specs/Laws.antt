@@ -5,8 +5,8 @@ use Rattle.dml_types.specs.Memory.{Memory, IsMemory, IsWhole}
 use Rattle.dml_types.specs.Step.{step, memory_after, records_of}
 use Rattle.dml_order.specs.Order.{is_in}
 use Rattle.dml_core.specs.Types.{Job, Settings, Record, Fetched, Task, Step, Submit, Commit}
-use Rattle.dml_core.specs.Plan.{entry_at, is_refused, jobs_of, tasks_at}
-use Rattle.dml_core.specs.World.{Value, value_of, kept_by, World, new_world, sent_by, part_of, wave_at, wave_tasks, is_allowed, after, run, Reaches}
+use Rattle.dml_core.specs.Plan.{entry_at, is_refused, jobs_of, chunk_tasks}
+use Rattle.dml_core.specs.World.{Value, task_value, kept_task, World, new_world, sent_by, part_of, wave_at, wave_tasks, is_allowed, after, run, Reaches}
 
 -- those of the fetched jobs that are committed, in fetch order
 abbrev pub committed : List Fetched → List Fetched
@@ -39,7 +39,7 @@ pub record Keeps (start : Memory) (given : Settings) (clients : ℕ) (w : World)
       → how_many test (wave_tasks w)
       ≡ how_many test w.to_do + how_many test (held w.hands)
       + how_many test (map (λ kept. kept.task) w.finished)
-  pub values : w.finished ≡ map (kept_by w.fetched w.image) (map (λ kept. kept.task) w.finished)
+  pub values : w.finished ≡ map (kept_task w.fetched w.image) (map (λ kept. kept.task) w.finished)
 
 -- so it is after every list of steps, and before the first step that is not allowed
 abbrev pub CoreKeeps : Type 0
@@ -79,30 +79,30 @@ OnlyCommitWrites = (w : World) (s : Step) → is_commit s ≡ false → (after w
 abbrev pub is_task : Task → Task → Bool
 is_task task other = nat_eq task.place other.place && (nat_eq task.from other.from && nat_eq task.to other.to)
 
-abbrev pub kept_with : World → Task → Option Value
-kept_with w task = option_map (λ kept. kept.value) (find (λ kept. is_task task kept.task) w.finished)
+abbrev pub kept_value : World → Task → Option Value
+kept_value w task = option_map (λ kept. kept.value) (find (λ kept. is_task task kept.task) w.finished)
 
 abbrev pub job_tasks : World → ℕ → List Task
-job_tasks w i = tasks_at (jobs_of w.fetched) w.settings.staging w.settings.chunk i
+job_tasks w i = chunk_tasks (jobs_of w.fetched) w.settings.staging w.settings.chunk i
 
 abbrev pub kept_values : World → ℕ → List (Option Value)
-kept_values w i = map (kept_with w) (job_tasks w i)
+kept_values w i = map (kept_value w) (job_tasks w i)
 
 -- at a commit there is one for each chunk of each job of the wave: its value on the image
 abbrev pub EachHasItsValues : Type 0
 EachHasItsValues =
     (start : Memory) (given : Settings) (clients : ℕ) (w : World) → Keeps start given clients w
     → is_allowed w Commit ≡ true → (i : ℕ) → is_in i (wave_at w 0) ≡ true
-    → kept_values w i ≡ map (λ task. Some (value_of w.fetched w.image task)) (job_tasks w i)
+    → kept_values w i ≡ map (λ task. Some (task_value w.fetched w.image task)) (job_tasks w i)
 
 -- a way to join a job's values that gives its step, where they are those of all its chunks on an image
 abbrev pub JoinsToStep : (Memory → Job → List Value → Memory × Record) → Type 0
 JoinsToStep join =
     (memory : Memory) (settings : Settings) (fetched : List Fetched) (i : ℕ) → IsMemory memory
     → IsValid settings → is_refused (jobs_of fetched) settings.staging i ≡ false
-    → 0 < length (tasks_at (jobs_of fetched) settings.staging settings.chunk i)
+    → 0 < length (chunk_tasks (jobs_of fetched) settings.staging settings.chunk i)
     → join memory (entry_at fetched i).job
-    (map (value_of fetched memory) (tasks_at (jobs_of fetched) settings.staging settings.chunk i))
+    (map (task_value fetched memory) (chunk_tasks (jobs_of fetched) settings.staging settings.chunk i))
     ≡ step memory (entry_at fetched i).job settings.staging
 
 -- so the kept values of the job at a place that has tasks, joined in any such way, are its step

@@ -67,10 +67,10 @@ chunks_of op job chunk i =
     map (task_for i (chunk_units op chunk) (units op job)) (range_with_len 0 (task_count job chunk))
 
 -- the tasks of the job at a place: one a chunk, upwards; a refused job has none
-abbrev pub tasks_at : List Job → ℕ → ℕ → ℕ → List Task
-tasks_at jobs staging chunk i =
+abbrev pub chunk_tasks : List Job → ℕ → ℕ → ℕ → List Task
+chunk_tasks jobs staging chunk i =
     let job = job_at jobs i in
     if is_refused jobs staging i then [] else chunks_of (operation_of job) job chunk i
 
 abbrev pub tasks_of : List Job → ℕ → ℕ → List ℕ → List Task
-tasks_of jobs staging chunk wave = flat_map (tasks_at jobs staging chunk) wave
+tasks_of jobs staging chunk wave = flat_map (chunk_tasks jobs staging chunk) wave

@@ -12,8 +12,8 @@ pub record Sent : Type 0 where
   pub client : ℕ
   pub job : Job
 
-abbrev pub jobs_in : List Sent → List Job
-jobs_in list = map (λ sent. sent.job) list
+abbrev pub sent_jobs : List Sent → List Job
+sent_jobs list = map (λ sent. sent.job) list
 
 -- each job is sent and fetched
 abbrev pub fetch_steps : List Sent → List Step
@@ -34,7 +34,7 @@ wave_steps jobs staging chunk (wave ∷ waves) =
 -- the steps of a round, behind these jobs of earlier rounds
 abbrev pub round_steps : Settings → List Job → List Sent → List Step
 round_steps settings earlier list =
-    let jobs = earlier ++ jobs_in list in
+    let jobs = earlier ++ sent_jobs list in
     let places = range_with_len (length earlier) (length list) in
     fetch_steps list
     ++ wave_steps jobs settings.staging settings.chunk (planned jobs settings.staging settings.chunk places)
@@ -43,7 +43,7 @@ round_steps settings earlier list =
 abbrev pub rounds_steps : Settings → List Job → List (List Sent) → List Step
 rounds_steps settings earlier [] = []
 rounds_steps settings earlier (list ∷ rounds) =
-    round_steps settings earlier list ++ rounds_steps settings (earlier ++ jobs_in list) rounds
+    round_steps settings earlier list ++ rounds_steps settings (earlier ++ sent_jobs list) rounds
 
 abbrev pub all_sent : List (List Sent) → List Sent
 all_sent rounds = flat_map (λ list. list) rounds
@@ -72,14 +72,14 @@ abbrev pub RoundsHaveRuns : Type 0
 RoundsHaveRuns =
     (settings : Settings) (clients : ℕ) (rounds : List (List Sent)) (image : Memory) → 1 ≤ settings.workers
     → IsWhole image → All (IsRound clients) rounds
-    → HasRun settings clients image (memory_after image (jobs_in (all_sent rounds)) settings.staging)
+    → HasRun settings clients image (memory_after image (sent_jobs (all_sent rounds)) settings.staging)
     (rounds_steps settings [] rounds)
-    (answered (all_sent rounds) (records_of image (jobs_in (all_sent rounds)) settings.staging))
+    (answered (all_sent rounds) (records_of image (sent_jobs (all_sent rounds)) settings.staging))
 
 -- of one round
 abbrev pub RoundHasRun : Type 0
 RoundHasRun =
     (settings : Settings) (clients : ℕ) (list : List Sent) (image : Memory) → 1 ≤ settings.workers
     → IsWhole image → IsRound clients list
-    → HasRun settings clients image (memory_after image (jobs_in list) settings.staging)
-    (round_steps settings [] list) (answered list (records_of image (jobs_in list) settings.staging))
+    → HasRun settings clients image (memory_after image (sent_jobs list) settings.staging)
+    (round_steps settings [] list) (answered list (records_of image (sent_jobs list) settings.staging))

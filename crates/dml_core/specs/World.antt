@@ -18,27 +18,27 @@ pub data Value : Type 0 where
   Created : (fault : Option (ℕ × ℕ)) (staged : List ℕ) → Value
   Applied : (bad : Option (ℕ × Fault)) (first last : Option ℕ) (staged : List ℕ) → Value
 
-abbrev pub value_by : Op → Memory → Job → ℕ → ℕ → Value
-value_by NoOp memory job from to = Nothing
-value_by CreateDelta memory job from to =
+abbrev pub operation_value : Op → Memory → Job → ℕ → ℕ → Value
+operation_value NoOp memory job from to = Nothing
+operation_value CreateDelta memory job from to =
     Created (create_fault memory job from to) (create_staged memory job from to)
-value_by ApplyDelta memory job from to =
+operation_value ApplyDelta memory job from to =
     Applied (apply_bad memory job from to) (apply_first memory job from to) (apply_last memory job from to)
     (apply_staged memory job from to)
-value_by op memory job from to =
+operation_value op memory job from to =
     Scanned (scan_found op memory job from to) (scan_staged op memory job from to)
 
-abbrev pub value_of : List Fetched → Memory → Task → Value
-value_of fetched memory task =
-    let job = (entry_at fetched task.place).job in value_by (operation_of job) memory job task.from task.to
+abbrev pub task_value : List Fetched → Memory → Task → Value
+task_value fetched memory task =
+    let job = (entry_at fetched task.place).job in operation_value (operation_of job) memory job task.from task.to
 
 -- a finished task, with its value on the image as it stood when it was finished
 pub record Kept : Type 0 where
   pub task : Task
   pub value : Value
 
-abbrev pub kept_by : List Fetched → Memory → Task → Kept
-kept_by fetched memory task = record { task = task; value = value_of fetched memory task }
+abbrev pub kept_task : List Fetched → Memory → Task → Kept
+kept_task fetched memory task = record { task = task; value = task_value fetched memory task }
 
 -- the waves that are not committed are lists of places in the fetched list; of the first of them the tasks
 -- that are to do, that are in each worker's hand, and that are finished
@@ -124,17 +124,17 @@ wave_tasks w = tasks_of (jobs_of w.fetched) w.settings.staging w.settings.chunk 
 abbrev pub set_out : World → World
 set_out w = record w { to_do = wave_tasks w }
 
-abbrev pub entry_for : ℕ → Option Job → Fetched
-entry_for client next = record { client = client; job = unwrap_or next no_entry.job; answer = None }
+abbrev pub new_entry : ℕ → Option Job → Fetched
+new_entry client next = record { client = client; job = unwrap_or next no_entry.job; answer = None }
 
 abbrev pub kept_now : World → Option Task → List Kept
 kept_now w None = []
-kept_now w (Some task) = kept_by w.fetched w.image task ∷ []
+kept_now w (Some task) = kept_task w.fetched w.image task ∷ []
 
 abbrev pub after : World → Step → World
 after w (Submit client job) = record w { sent = slice_set w.sent client (sent_by w client ++ job ∷ []) }
 after w (Fetch client) =
-    let fetched = w.fetched ++ entry_for client (next_job w client) ∷ [] in
+    let fetched = w.fetched ++ new_entry client (next_job w client) ∷ [] in
     set_out (record w { fetched = fetched; waves = plan_of fetched w.settings.staging w.settings.chunk })
 after w (Take worker) =
     record w { to_do = drop 1 w.to_do; hands = slice_set w.hands worker (slice_get w.to_do 0) }

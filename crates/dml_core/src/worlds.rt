@@ -38,7 +38,7 @@ pub struct World {
 impl Model for World {
     ghost use Rattle.std.specs.Prelude.{◌≡◌, ◌<◌, ◌≤◌, All, drop, length, map};
     ghost use Rattle.dml_types.specs.Limits.{IsValid};
-    ghost use Rattle.dml_core.specs.World.{kept_by};
+    ghost use Rattle.dml_core.specs.World.{kept_task};
     ghost use Rattle.dml_core.specs.World as state;
 
     ghost Value = { state.World };
@@ -51,7 +51,7 @@ impl Model for World {
       waves = drop w.committed w.waves.items;
       to_do = drop w.taken w.tasks.items;
       hands = w.hands.items;
-      finished = map (kept_by w.fetched.items w.image) w.finished.items;
+      finished = map (kept_task w.fetched.items w.image) w.finished.items;
     } };
 
     ghost invariant = { λ w. IsValid w.settings × (w.arena.size ≡ w.settings.staging)

@@ -116,6 +116,8 @@ impl<G: Gate + Sync> Server<G> {
             ≡ records_of (image_of self.old) (jobs_in (added (log_of self.old) (log_of self.new))) (settings_of self.old).staging }
         ensures steps { RoundHasServed (settings_of self.old) (clients_of self.old) (image_of self.old) (image_of self.new) (added (log_of self.old) (log_of self.new)) }
         ensures answered { AreAnswered (lanes_of self.new) (log_of self.new) }
+        ensures popped { ArePopped (lanes_of self.new) (log_of self.new) }
+        ensures pushed { ArePushed (lanes_of self.new) (log_of self.new) }
         ensures no_memory { IfErr result (λ error. error ≡ PortalError.NoMemory) }
         ensures nothing_fetched { OnErr result (log_of self.new ≡ log_of self.old) }
         ensures settings { settings_of self.new ≡ settings_of self.old }

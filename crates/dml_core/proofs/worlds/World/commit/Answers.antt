@@ -2,7 +2,7 @@ use Rattle.std.proofs.Common.{◌≡◌, ◌<◌, ◌+◌, List, ℕ, [], length
 use Rattle.std.proofs.lemmas.List.{get_or_read}
 use Rattle.dml_core.specs.Types.{Fetched, Task, Commit}
 use Rattle.dml_core.specs.Plan.{jobs_of, tasks_of}
-use Rattle.dml_core.specs.World.{World, after, kept_by}
+use Rattle.dml_core.specs.World.{World, after, kept_task}
 use Rattle.dml_core.proofs.StepFacts.{commit_view, world}
 use Rattle.dml_core.proofs.worlds.World.commit.Goals as goal
 
@@ -20,8 +20,8 @@ returns-clause-ok c =
     ∙ (ap (λ (list : List Fetched). tasks_of (jobs_of list) s.settings.staging s.settings.chunk (get_or c.as_slice-3.result.now (s.committed + 1) [])) c.as_slice-2.ensures.value
     ∙ ap (λ (list : List (List ℕ)). tasks_of (jobs_of s.fetched.items) s.settings.staging s.settings.chunk (get_or list (s.committed + 1) [])) c.as_slice-3.ensures.value) in
     let cleared =
-    ap (λ (list : List Task). world s.settings image s.sent.items fetched (drop (s.committed + 1) waves) c.in-Ok.tasks.items s.hands.items (map (kept_by fetched image) list)) c.clear.ensures.items in
+    ap (λ (list : List Task). world s.settings image s.sent.items fetched (drop (s.committed + 1) waves) c.in-Ok.tasks.items s.hands.items (map (kept_task fetched image) list)) c.clear.ensures.items in
     let made =
-    commit_view s.settings s.image s.sent.items s.fetched.items waves s.committed (drop s.taken s.tasks.items) s.hands.items (map (kept_by s.fetched.items s.image) s.finished.items) image fetched c.in-Ok.tasks.items c.as_slice-4.result.now
+    commit_view s.settings s.image s.sent.items s.fetched.items waves s.committed (drop s.taken s.tasks.items) s.hands.items (map (kept_task s.fetched.items s.image) s.finished.items) image fetched c.in-Ok.tasks.items c.as_slice-4.result.now
     c.carry_out_wave.ensures.done own tasks in
     cleared ∙ (made ∙ ap (λ (w : World). after w Commit) c.self.view_is)

@@ -5,7 +5,7 @@ use Rattle.std.specs.Prelude.{slice_get}
 use Rattle.dml_types.specs.declared.jobs.Job.{Job}
 use Rattle.dml_core.specs.Types.{Fetched, Fetch}
 use Rattle.dml_core.specs.Plan.{jobs_of, plan_of, tasks_of}
-use Rattle.dml_core.specs.World.{World, after, kept_by, part_of}
+use Rattle.dml_core.specs.World.{World, after, kept_task, part_of}
 use Rattle.dml_core.proofs.StepFacts.{fetch_view, world}
 use Rattle.dml_core.proofs.worlds.World.fetch.Goals as goal
 
@@ -30,8 +30,8 @@ returns-in-Ok-clause-ok c =
     c.in-Ok.ensures.waves ∙ ap (λ (list : List Fetched). plan_of list s.settings.staging s.settings.chunk) listed in
     let ready : tasks ≡ tasks_of (jobs_of more) s.settings.staging s.settings.chunk (get_or plan 0 []) =
     c.in-Ok.ensures.tasks ∙ ap (λ (list : List Fetched). tasks_of (jobs_of list) s.settings.staging s.settings.chunk (get_or plan 0 [])) listed in
-    let same : map (kept_by c.push.new.self.items s.image) s.finished.items ≡ map (kept_by s.fetched.items s.image) s.finished.items =
-    ap (map (kept_by c.push.new.self.items s.image)) none ∙ sym (ap (map (kept_by s.fetched.items s.image)) none) in
-    ap (λ (list : List Fetched). world s.settings s.image s.sent.items list plan tasks s.hands.items (map (kept_by c.push.new.self.items s.image) s.finished.items)) pushed
-    ∙ (fetch_view s.settings s.image s.sent.items s.fetched.items (drop s.committed s.waves.items) (drop s.taken s.tasks.items) s.hands.items (map (kept_by s.fetched.items s.image) s.finished.items) (map (kept_by c.push.new.self.items s.image) s.finished.items) client job plan tasks next same planned ready
+    let same : map (kept_task c.push.new.self.items s.image) s.finished.items ≡ map (kept_task s.fetched.items s.image) s.finished.items =
+    ap (map (kept_task c.push.new.self.items s.image)) none ∙ sym (ap (map (kept_task s.fetched.items s.image)) none) in
+    ap (λ (list : List Fetched). world s.settings s.image s.sent.items list plan tasks s.hands.items (map (kept_task c.push.new.self.items s.image) s.finished.items)) pushed
+    ∙ (fetch_view s.settings s.image s.sent.items s.fetched.items (drop s.committed s.waves.items) (drop s.taken s.tasks.items) s.hands.items (map (kept_task s.fetched.items s.image) s.finished.items) (map (kept_task c.push.new.self.items s.image) s.finished.items) client job plan tasks next same planned ready
     ∙ ap (λ (w : World). after w (Fetch client)) c.self.view_is)

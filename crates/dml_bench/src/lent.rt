@@ -29,7 +29,7 @@ fn submitted_own(image: &mut Image, arena: &mut Arena, job: &Job) -> Option<Stat
 }
 
 /// Times moves of 64 bytes and of a page over two mebibytes of the caller's.
-pub(crate) fn time_over(rt: &HostRuntime, calls: u32) -> io::Result<()>
+pub(crate) fn time_lent(rt: &HostRuntime, calls: u32) -> io::Result<()>
     requires { 0 < calls }
 {
     let Ok(mut arena) = Arena::new(rt.alloc(), MEBIBYTE) else {

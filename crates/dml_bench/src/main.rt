@@ -120,7 +120,7 @@ fn time<T: Threads + Wait + Sync + Clock + Eprint>(
 }
 
 /// Times each kind of job at one size.
-fn time_at<T: Threads + Wait + Sync + Clock + Eprint>(
+fn time_jobs<T: Threads + Wait + Sync + Clock + Eprint>(
     rt: &T,
     alloc: Global,
     engine: &mut Engine,
@@ -273,7 +273,7 @@ fn main(rt: HostRuntime) -> io::Result<()> {
         time_calls_at(&rt, &mut image, size, jobs_of(mebibytes, size))?;
     }
     time_smaller(&rt, &image, if measures { 1 << 24 } else { 1 })?;
-    lent::time_over(&rt, if measures { 200_000 } else { 1 })?;
+    lent::time_lent(&rt, if measures { 200_000 } else { 1 })?;
     lent::time_own(&rt, &mut image, if measures { 200_000 } else { 1 })?;
     deltas::time_deltas(&rt, alloc, if measures { 50 } else { 1 })?;
     lists::time_levels(&rt, if measures { 20 } else { 1 })?;
@@ -281,7 +281,7 @@ fn main(rt: HostRuntime) -> io::Result<()> {
         return Err(io::ErrorKind::OutOfMemory.into());
     };
     for size in SIZES {
-        time_at(&rt, alloc, &mut engine, size, jobs_of(mebibytes, size))?;
+        time_jobs(&rt, alloc, &mut engine, size, jobs_of(mebibytes, size))?;
     }
     waves::time_waves(&rt, alloc, engine.image(), if measures { 10 } else { 1 })?;
     let large = shapes::time_shapes(&rt, alloc, shapes::large_image(alloc)?, measures)?;

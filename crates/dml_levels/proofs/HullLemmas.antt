@@ -10,7 +10,7 @@ use Rattle.dml_types.specs.Conflict.{ranges_of, conflict, clash_of, level_over}
 use Rattle.dml_order.proofs.LevelLemmas.{level_among_none}
 use Rattle.dml_levels.specs.declared.hulls.Hull.{Hull}
 use Rattle.dml_levels.specs.declared.hulls.Reach.{Reach}
-use Rattle.dml_levels.specs.Hulls.{no_hull, hull_with, hull_of, hull_both, hulls_meet, reach_of, reach_both, reaches_meet, reach_before}
+use Rattle.dml_levels.specs.Hulls.{no_hull, widened_hull, hull_of, hull_both, hulls_meet, reach_of, reach_both, reaches_meet, reach_so_far}
 use Rattle.dml_levels.specs.Touched.{some_spans}
 use Rattle.dml_levels.proofs.TouchedLemmas.{any_shares_some}
 
@@ -22,16 +22,16 @@ pub record Covers (hull : Hull) (range : Span) : Type 0 where
   pub first : hull.first ≤ range.start
   pub last : range.start + (range.len - 1) ≤ hull.last
 
-grows : (spans : List Span) (hull : Hull) → IsWithin hull (fold hull_with hull spans)
+grows : (spans : List Span) (hull : Hull) → IsWithin hull (fold widened_hull hull spans)
 grows [] hull = record { first = omega arith; last = omega arith }
 grows (x ∷ xs) hull =
-    let rest = grows xs (hull_with hull x) in record { first = omega (arith, rest.first); last = omega (arith, rest.last) }
+    let rest = grows xs (widened_hull hull x) in record { first = omega (arith, rest.first); last = omega (arith, rest.last) }
 
-found : (test : Span → Bool) (spans : List Span) → list_any test spans ≡ true → (x : Span) × (test x ≡ true) × ((hull : Hull) → Covers (fold hull_with hull spans) x)
+found : (test : Span → Bool) (spans : List Span) → list_any test spans ≡ true → (x : Span) × (test x ≡ true) × ((hull : Hull) → Covers (fold widened_hull hull spans) x)
 found test [] some = absurd (false≢true some)
 found test (x ∷ xs) some =
-    ⊎_elim (λ here. (x, here, λ hull. let rest = grows xs (hull_with hull x) in record { first = omega (arith, rest.first); last = omega (arith, rest.last) }))
-    (λ later. let rest = found test xs later in (rest.0, rest.1, λ hull. rest.2 (hull_with hull x)))
+    ⊎_elim (λ here. (x, here, λ hull. let rest = grows xs (widened_hull hull x) in record { first = omega (arith, rest.first); last = omega (arith, rest.last) }))
+    (λ later. let rest = found test xs later in (rest.0, rest.1, λ hull. rest.2 (widened_hull hull x)))
     (or_cases (test x) (list_any test xs) some)
 
 meet_where_shared : (a b : Hull) (x y : Span) → Covers a x → Covers b y → shares x y ≡ true → hulls_meet a b ≡ true
@@ -89,10 +89,10 @@ apart_both a b c apart =
           (apart_within b.reads (hull_both a.reads b.reads) c.writes (in_right a.reads b.reads) parts.1),
     )
 
-pub apart_before : (jobs : List Job) (n k : ℕ) (reach : Reach) → k < n → reaches_meet (reach_before jobs n) reach ≡ false → reaches_meet (reach_of (get_or jobs k no_op_job)) reach ≡ false
+pub apart_before : (jobs : List Job) (n k : ℕ) (reach : Reach) → k < n → reaches_meet (reach_so_far jobs n) reach ≡ false → reaches_meet (reach_of (get_or jobs k no_op_job)) reach ≡ false
 apart_before jobs zero k reach below apart = absurd (omega arith)
 apart_before jobs (suc n) k reach below apart =
-    let parts = apart_both (reach_before jobs n) (reach_of (get_or jobs n no_op_job)) reach apart in
+    let parts = apart_both (reach_so_far jobs n) (reach_of (get_or jobs n no_op_job)) reach apart in
     ⊎_elim (λ same. ap (λ i. reaches_meet (reach_of (get_or jobs i no_op_job)) reach) same ∙ parts.1)
     (λ other. apart_before jobs n k reach (omega (arith, other)) parts.0)
     (cases_eq k n)
@@ -109,16 +109,16 @@ reach_at : (jobs : List Job) (reaches : List Reach) (reach : Reach) (i : ℕ) �
 reach_at jobs reaches reach i all below read =
     read ∙ (ap (λ (list : List Reach). get_or list i reach) all ∙ get_or-map reach_of jobs i no_op_job reach below)
 
-pub reach_more : (jobs : List Job) (reaches : List Reach) (seen reach : Reach) (i : ℕ) → reaches ≡ map reach_of jobs → seen ≡ reach_before jobs i → i < length jobs → reach ≡ get_or reaches i reach → reach_both seen reach ≡ reach_before jobs (i + 1)
+pub reach_more : (jobs : List Job) (reaches : List Reach) (seen reach : Reach) (i : ℕ) → reaches ≡ map reach_of jobs → seen ≡ reach_so_far jobs i → i < length jobs → reach ≡ get_or reaches i reach → reach_both seen reach ≡ reach_so_far jobs (i + 1)
 reach_more jobs reaches seen reach i all before below read =
     ap (λ r. reach_both r reach) before
-    ∙ (ap (reach_both (reach_before jobs i)) (reach_at jobs reaches reach i all below read)
-    ∙ ap (reach_before jobs) (let e : suc i ≡ i + 1 = omega arith in e))
+    ∙ (ap (reach_both (reach_so_far jobs i)) (reach_at jobs reaches reach i all below read)
+    ∙ ap (reach_so_far jobs) (let e : suc i ≡ i + 1 = omega arith in e))
 
 -- a job that is apart from all before it has level 0
-pub lowest : (jobs : List Job) (reaches : List Reach) (seen reach : Reach) (levels : List ℕ) (i : ℕ) → reaches ≡ map reach_of jobs → seen ≡ reach_before jobs i → i < length jobs → reach ≡ get_or reaches i reach → reaches_meet seen reach ≡ false → 0 ≡ level_over (clash_of jobs) levels i
+pub lowest : (jobs : List Job) (reaches : List Reach) (seen reach : Reach) (levels : List ℕ) (i : ℕ) → reaches ≡ map reach_of jobs → seen ≡ reach_so_far jobs i → i < length jobs → reach ≡ get_or reaches i reach → reaches_meet seen reach ≡ false → 0 ≡ level_over (clash_of jobs) levels i
 lowest jobs reaches seen reach levels i all before below read apart =
-    let own : reaches_meet (reach_before jobs i) (reach_of (get_or jobs i no_op_job)) ≡ false =
-    sym (ap (λ r. reaches_meet r reach) before ∙ ap (reaches_meet (reach_before jobs i)) (reach_at jobs reaches reach i all below read)) ∙ apart in
+    let own : reaches_meet (reach_so_far jobs i) (reach_of (get_or jobs i no_op_job)) ≡ false =
+    sym (ap (λ r. reaches_meet r reach) before ∙ ap (reaches_meet (reach_so_far jobs i)) (reach_at jobs reaches reach i all below read)) ∙ apart in
     sym (level_among_none (clash_of jobs) levels i i
     (λ k low. reaches_apart (get_or jobs k no_op_job) (get_or jobs i no_op_job) (apart_before jobs i k (reach_of (get_or jobs i no_op_job)) low own)))

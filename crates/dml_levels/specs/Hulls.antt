@@ -11,12 +11,12 @@ use Rattle.dml_levels.specs.Touched.{read_spans, written_spans}
 abbrev pub no_hull : Hull
 no_hull = record { first = 2 ^ 64 - 1; last = 0 }
 
-abbrev pub hull_with : Hull → Span → Hull
-hull_with hull range =
+abbrev pub widened_hull : Hull → Span → Hull
+widened_hull hull range =
     record { first = min hull.first range.start; last = max hull.last (range.start + (range.len - 1)) }
 
 abbrev pub hull_of : List Span → Hull
-hull_of spans = fold hull_with no_hull spans
+hull_of spans = fold widened_hull no_hull spans
 
 abbrev pub hull_both : Hull → Hull → Hull
 hull_both a b = record { first = min a.first b.first; last = max a.last b.last }
@@ -43,6 +43,6 @@ are_apart seen [] = true
 are_apart seen (reach ∷ reaches) = not (reaches_meet seen reach) && are_apart (reach_both seen reach) reaches
 
 -- around the first n jobs
-abbrev pub reach_before : List Job → ℕ → Reach
-reach_before jobs zero = no_reach
-reach_before jobs (suc n) = reach_both (reach_before jobs n) (reach_of (slice_index_or jobs n no_op_job))
+abbrev pub reach_so_far : List Job → ℕ → Reach
+reach_so_far jobs zero = no_reach
+reach_so_far jobs (suc n) = reach_both (reach_so_far jobs n) (reach_of (slice_index_or jobs n no_op_job))

@@ -52,7 +52,7 @@ fn levels_by_pairs(
     for i in 0..jobs.len() {
         let reach = reaches[i];
         let level = if seen.meets(reach) {
-            level_at(jobs, reaches, touched.as_slice(), levels.as_slice(), i)
+            searched_level(jobs, reaches, touched.as_slice(), levels.as_slice(), i)
         } else {
             0
         };
@@ -101,7 +101,7 @@ fn find_touched(alloc: Global, jobs: &[Checked]) -> Result<Vec<Touches>, AllocEr
 /// The level of the job at a place, by those of the jobs before it: from the last of them down, as far as one may
 /// stand as high.
 #[tactic(auto, using(dml_order::proofs::LevelLemmas::length_levels_of, dml_order::proofs::LevelLemmas::level_le, crate::proofs::LevelLemmas::highest_raised))]
-fn level_at(
+fn searched_level(
     jobs: &[Checked],
     reaches: &[Reach],
     touched: &[Touches],

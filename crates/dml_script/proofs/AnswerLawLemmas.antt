@@ -11,7 +11,7 @@ use Rattle.dml_script.specs.AnswerLaws.{AnswersBatch, AnswersInParts, AnswersJob
 use Rattle.dml_grammar.specs.declared.lines.Line.{Line}
 use Rattle.dml_grammar.specs.declared.lines.Line.TheVariants as line
 use Rattle.dml_script.specs.Output.{batch_line, job_line}
-use Rattle.dml_script.specs.Run.{Session, after_line, answer_from, item_of, outside, added_text}
+use Rattle.dml_script.specs.Run.{Session, after_line, session_answer, item_of, outside, added_text}
 
 pub answers_in_parts : AnswersInParts
 answers_in_parts staging session [] those = refl
@@ -19,10 +19,10 @@ answers_in_parts staging session (l ∷ these) those =
     let here = added_text (item_of staging session l) in
     let next = after_line staging session l in
     ap (λ text. here ++ text) (answers_in_parts staging next these those)
-    ∙ sym (append_assoc here (answer_from staging next these) (answer_from staging (after_lines staging next these) those))
+    ∙ sym (append_assoc here (session_answer staging next these) (session_answer staging (after_lines staging next these) those))
 
 told_outside : (staging : ℕ) (memory : Memory) (number : ℕ) (jobs : List Job)
-    → answer_from staging (outside memory number) (map (λ job. line.Job job) jobs) ≡ job_lines number (records_of memory jobs staging)
+    → session_answer staging (outside memory number) (map (λ job. line.Job job) jobs) ≡ job_lines number (records_of memory jobs staging)
 told_outside staging memory number [] = refl
 told_outside staging memory number (job ∷ jobs) =
     ap (λ text. job_line number (step memory job staging).1 ++ text) (told_outside staging (step memory job staging).0 (number + 1) jobs)
@@ -30,7 +30,7 @@ told_outside staging memory number (job ∷ jobs) =
 pub answers_jobs : AnswersJobs
 answers_jobs staging session jobs none =
     let same : session ≡ outside session.memory session.jobs = ap (λ (batch : Option (List Job)). record session { batch = batch }) none in
-    ap (λ (s : Session). answer_from staging s (map (λ job. line.Job job) jobs)) same ∙ told_outside staging session.memory session.jobs jobs
+    ap (λ (s : Session). session_answer staging s (map (λ job. line.Job job) jobs)) same ∙ told_outside staging session.memory session.jobs jobs
 
 -- Job lines outside a batch.
 
@@ -71,7 +71,7 @@ left_in_batch staging memory number so_far (job ∷ jobs) =
 
 -- each line shows the record that its job has in the whole batch
 told_in_batch : (staging : ℕ) (memory : Memory) (number : ℕ) (so_far jobs : List Job)
-    → answer_from staging (in_batch memory number so_far) (jobs_as_lines jobs)
+    → session_answer staging (in_batch memory number so_far) (jobs_as_lines jobs)
     ≡ job_lines number (drop (length so_far) (batch memory (so_far ++ jobs) staging).2)
 told_in_batch staging memory number so_far [] =
     sym (ap (job_lines number) (drop_all (length so_far) (batch memory (so_far ++ []) staging).2
@@ -98,8 +98,8 @@ answers_batch staging session jobs =
     let opened = in_batch session.memory session.jobs [] in
     let done = batch session.memory jobs staging in
     answers_in_parts staging opened (jobs_as_lines jobs) (line.End ∷ [])
-    ∙ (ap (λ (text : List ℕ). text ++ answer_from staging (after_lines staging opened (jobs_as_lines jobs)) (line.End ∷ [])) (told_in_batch staging session.memory session.jobs [] jobs)
-    ∙ (ap (λ (s : Session). job_lines session.jobs done.2 ++ answer_from staging s (line.End ∷ [])) (left_in_batch staging session.memory session.jobs [] jobs)
+    ∙ (ap (λ (text : List ℕ). text ++ session_answer staging (after_lines staging opened (jobs_as_lines jobs)) (line.End ∷ [])) (told_in_batch staging session.memory session.jobs [] jobs)
+    ∙ (ap (λ (s : Session). job_lines session.jobs done.2 ++ session_answer staging s (line.End ∷ [])) (left_in_batch staging session.memory session.jobs [] jobs)
     ∙ ap (λ (text : List ℕ). job_lines session.jobs done.2 ++ text) (append-nil (batch_line done.1))))
 
 pub leaves_batch : LeavesBatch

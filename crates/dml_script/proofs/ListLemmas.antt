@@ -12,7 +12,7 @@ use Rattle.dml_grammar.specs.declared.lines.Line.{Line}
 use Rattle.dml_grammar.specs.declared.lines.Line.TheVariants as line
 use Rattle.dml_script.specs.AnswerLaws.{after_lines, batch_lines, batch_text, job_lines}
 use Rattle.dml_script.specs.Output.{job_line}
-use Rattle.dml_script.specs.Run.{IsJobLine, Running, Session, after_line, answer_from, answer_of, lines_from, outside}
+use Rattle.dml_script.specs.Run.{IsJobLine, Running, Session, after_line, session_answer, answer_of, lines_from, outside}
 use Rattle.dml_script.specs.Runnable.{AllFit, MayCome}
 use Rattle.dml_script.specs.Watching.{AppendsFront, IsWritten}
 use Rattle.dml_script.proofs.AnswerLawLemmas.{answers_batch, answers_in_parts, answers_jobs, left_in_batch, in_batch, leaves_batch, left_outside}
@@ -75,9 +75,9 @@ pub jobs_text : (staging number : ℕ) (memory : Memory) (jobs : List Job) (befo
     → answer_of before left ≡ job_lines number (records_of memory jobs staging) ++ answer_of after rest
 jobs_text staging number memory jobs before after left rest view later is =
     let session = outside memory number in
-    ap (λ (r : Running). answer_of r left) (sym view) ∙ ap (answer_from staging session) is ∙ answers_in_parts staging session (jobs_as_lines jobs) rest
-    ∙ ap (λ (text : List ℕ). text ++ answer_from staging (after_lines staging session (jobs_as_lines jobs)) rest) (answers_jobs staging session jobs refl)
-    ∙ ap (λ (s : Session). job_lines number (records_of memory jobs staging) ++ answer_from staging s rest) (left_outside staging memory number jobs)
+    ap (λ (r : Running). answer_of r left) (sym view) ∙ ap (session_answer staging session) is ∙ answers_in_parts staging session (jobs_as_lines jobs) rest
+    ∙ ap (λ (text : List ℕ). text ++ session_answer staging (after_lines staging session (jobs_as_lines jobs)) rest) (answers_jobs staging session jobs refl)
+    ∙ ap (λ (s : Session). job_lines number (records_of memory jobs staging) ++ session_answer staging s rest) (left_outside staging memory number jobs)
     ∙ ap (λ (r : Running). job_lines number (records_of memory jobs staging) ++ answer_of r rest) (sym later)
 
 pub jobs_come : (staging number : ℕ) (memory : Memory) (jobs : List Job) (before after : Running) (left rest : List Line) → reached staging memory number ≡ before
@@ -111,10 +111,10 @@ pub whole_batch_text : (staging number : ℕ) (memory : Memory) (jobs : List Job
     → answer_of before (line.Batch ∷ lines) ≡ batch_text number (batch memory jobs staging) ++ answer_of after rest
 whole_batch_text staging number memory jobs before after lines rest view later is =
     let session = outside memory number in
-    ap (λ (r : Running). answer_of r (line.Batch ∷ lines)) (sym view) ∙ ap (answer_from staging session) (whole_batch jobs lines rest is)
+    ap (λ (r : Running). answer_of r (line.Batch ∷ lines)) (sym view) ∙ ap (session_answer staging session) (whole_batch jobs lines rest is)
     ∙ answers_in_parts staging session (batch_lines jobs) rest
-    ∙ ap (λ (text : List ℕ). text ++ answer_from staging (after_lines staging session (batch_lines jobs)) rest) (answers_batch staging session jobs)
-    ∙ ap (λ (s : Session). batch_text number (batch memory jobs staging) ++ answer_from staging s rest) (leaves_batch staging session jobs)
+    ∙ ap (λ (text : List ℕ). text ++ session_answer staging (after_lines staging session (batch_lines jobs)) rest) (answers_batch staging session jobs)
+    ∙ ap (λ (s : Session). batch_text number (batch memory jobs staging) ++ session_answer staging s rest) (leaves_batch staging session jobs)
     ∙ ap (λ (r : Running). batch_text number (batch memory jobs staging) ++ answer_of r rest) (sym later)
 
 pub whole_batch_come : (staging number : ℕ) (memory : Memory) (jobs : List Job) (before after : Running) (lines rest : List Line)

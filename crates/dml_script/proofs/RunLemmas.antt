@@ -3,7 +3,7 @@ use Rattle.std.proofs.lemmas.Bool.{le-leb}
 use Rattle.std.proofs.Common.{◌≡◌, ℕ, ◌≤◌, List, length, Option, Some, None, IfSome, Result, Ok, Err, OnErr, sym, ap, subst}
 use Rattle.dml_grammar.specs.declared.lines.Line.{Line}
 use Rattle.dml_grammar.specs.Grammar.{parse}
-use Rattle.dml_script.specs.Run.{answer, answer_from, parsed_answer, longest_script, opening}
+use Rattle.dml_script.specs.Run.{answer, session_answer, parsed_answer, longest_script, opening}
 use Rattle.dml_script.specs.Watching.{AppendsFront}
 use Rattle.dml_script.proofs.FitLemmas.{runnable}
 
@@ -17,13 +17,13 @@ of_all None bytes P same holds = tt
 of_all (Some all) bytes P same holds = subst P same holds
 
 pub answer_is : (bytes : List ℕ) (staging : ℕ) (lines : List Line) → length bytes ≤ longest_script → parse bytes ≡ Ok lines
-    → answer_from staging opening lines ≡ answer bytes staging
+    → session_answer staging opening lines ≡ answer bytes staging
 unfolding answer
 answer_is bytes staging lines within parsed =
     rw (le-leb (length bytes) longest_script within) (ap (λ p. parsed_answer p staging) (sym parsed))
 
 pub front_of_answer : {T E : Type 0} (r : Result T E) (old new : Option (List ℕ)) (bytes : List ℕ) (staging : ℕ) (lines : List Line) → length bytes ≤ longest_script
-    → parse bytes ≡ Ok lines → AppendsFront old new (answer_from staging opening lines) → OnErr r (AppendsFront old new (answer bytes staging))
+    → parse bytes ≡ Ok lines → AppendsFront old new (session_answer staging opening lines) → OnErr r (AppendsFront old new (answer bytes staging))
 front_of_answer r old new bytes staging lines within parsed front =
     on_error r _ (subst (AppendsFront old new) (answer_is bytes staging lines within parsed) front)
 

@@ -9,7 +9,7 @@ use Rattle.dml_types.specs.Step.{batch, memory_after, records_of}
 use Rattle.dml_grammar.specs.declared.lines.Line.{Line}
 use Rattle.dml_grammar.specs.declared.lines.Line.TheVariants as line
 use Rattle.dml_script.specs.Output.{batch_line, job_line}
-use Rattle.dml_script.specs.Run.{Session, after_line, answer_from}
+use Rattle.dml_script.specs.Run.{Session, after_line, session_answer}
 
 -- what lines leave
 abbrev pub after_lines : ℕ → Session → List Line → Session
@@ -24,14 +24,14 @@ job_lines number (answer ∷ answers) = job_line number answer ++ job_lines (num
 -- lines after others are answered as if they stood alone, on what those leave
 abbrev pub AnswersInParts : Type 0
 AnswersInParts = (staging : ℕ) (session : Session) (these those : List Line)
-    → answer_from staging session (these ++ those)
-    ≡ answer_from staging session these ++ answer_from staging (after_lines staging session these) those
+    → session_answer staging session (these ++ those)
+    ≡ session_answer staging session these ++ session_answer staging (after_lines staging session these) those
 
 -- job lines outside a batch, one after another, show the records of the list of their jobs
 abbrev pub AnswersJobs : Type 0
 AnswersJobs = (staging : ℕ) (session : Session) (jobs : List Job)
     → session.batch ≡ None
-    → answer_from staging session (map (λ job. line.Job job) jobs)
+    → session_answer staging session (map (λ job. line.Job job) jobs)
     ≡ job_lines session.jobs (records_of session.memory jobs staging)
 
 -- the lines of a batch's records: those of its jobs, numbered from a number on, and its own
@@ -44,7 +44,7 @@ batch_lines jobs = line.Batch ∷ map (λ job. line.Job job) jobs ++ line.End �
 
 abbrev pub AnswersBatch : Type 0
 AnswersBatch = (staging : ℕ) (session : Session) (jobs : List Job)
-    → answer_from staging session (batch_lines jobs)
+    → session_answer staging session (batch_lines jobs)
     ≡ batch_text session.jobs (batch session.memory jobs staging)
 
 -- job lines outside a batch leave what the list of their jobs leaves

@@ -104,14 +104,14 @@ abbrev pub added_text : Option Item → List ℕ
 added_text None = []
 added_text (Some shown) = text_of shown
 
-abbrev pub answer_from : ℕ → Session → List Line → List ℕ
-answer_from staging session [] = []
-answer_from staging session (l ∷ lines) =
-    added_text (item_of staging session l) ++ answer_from staging (after_line staging session l) lines
+abbrev pub session_answer : ℕ → Session → List Line → List ℕ
+session_answer staging session [] = []
+session_answer staging session (l ∷ lines) =
+    added_text (item_of staging session l) ++ session_answer staging (after_line staging session l) lines
 
 -- the answer of lines where this is reached
 abbrev pub answer_of : Running → List Line → List ℕ
-answer_of reached lines = answer_from reached.staging reached.session lines
+answer_of reached lines = session_answer reached.staging reached.session lines
 
 -- lines, the first of which was read ahead, if there is one
 abbrev pub lines_from : Option Line → List Line → List Line
@@ -136,7 +136,7 @@ HasFault bytes fault = (length bytes ≤ longest_script) × (parse bytes ≡ Err
 
 -- a script with a fault has no answer
 abbrev pub parsed_answer : Result (List Line) ScriptFault → ℕ → List ℕ
-parsed_answer (Ok lines) staging = answer_from staging opening lines
+parsed_answer (Ok lines) staging = session_answer staging opening lines
 parsed_answer (Err fault) staging = []
 
 -- the answer of a script's bytes, at a staging size; one that is too long has none

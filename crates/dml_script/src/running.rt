@@ -3,7 +3,7 @@
 ghost use Rattle.std.specs.Prelude.{◌≡◌, ◌≢◌, ◌+◌, ◌^◌, ◌<◌, ◌≤◌, false, true, length, Err, OnOk, OnErr, IsErrOf, IfErr, IfOk, IfSome};
 ghost use Rattle.std.specs.Io.KnownBytes.{IsAtEnd};
 ghost use Rattle.dml_types.specs.Limits.{IsValid};
-ghost use Rattle.dml_script.specs.Run.{HasFault, IsScript, after_line, answer, answer_from, answer_of, longest_script, opening};
+ghost use Rattle.dml_script.specs.Run.{HasFault, IsScript, after_line, answer, session_answer, answer_of, longest_script, opening};
 ghost use Rattle.dml_script.specs.Runnable.{IsRunnable, MayCome};
 ghost use Rattle.dml_script.specs.Watching.{inner_of, has_failed, is_flushed, Writes, WritesFront};
 ghost use Rattle.dml_grammar.specs.declared.faults.ScriptFault.{ScriptFault as TheFault};
@@ -165,11 +165,11 @@ fn answer_script<T: Threads + Wait + Sync, W: Write>(
     requires runnable { IsRunnable settings.staging lines }
     requires writer { has_failed writer.old ≡ false }
     ensures ok { OnOk result (Writes W.contents writer.old writer.new
-        (answer_from settings.staging opening lines.entry)) }
+        (session_answer settings.staging opening lines.entry)) }
     ensures passed { result ≢ Err AnswerError.Write → has_failed writer.new ≡ false }
     ensures flushed { OnOk result (is_flushed writer.new ≡ true) }
     ensures front { OnErr result (WritesFront W.contents writer.old writer.new
-        (answer_from settings.staging opening lines.entry)) }
+        (session_answer settings.staging opening lines.entry)) }
     ensures failed { IsErrOf result AnswerError.Write → has_failed writer.new ≡ true }
 {
     let Some(Line::Image { pages }) = lines.next_line(alloc)? else {

@@ -28,7 +28,7 @@ use Rattle.dml_pool.specs.declared.tasks.Piece.TheVariants.{Scan, Create, Apply}
 use Rattle.dml_pool.specs.declared.tasks.Task.{Task}
 use Rattle.dml_pool.specs.Tasks.{IsScanned, IsCreated, IsApplied, IsOperationValue, IsTaskValue, units}
 use Rattle.dml_wave.specs.Tasks.{IsTaskFrom}
-use Rattle.dml_wave.specs.Effects.{IsValueIn, HoldJob, scan_in, scan_of, create_in, create_of, apply_in, apply_of}
+use Rattle.dml_wave.specs.Effects.{IsValueIn, HoldJob, slot_scan, scan_of, slot_create, create_of, slot_apply, apply_of}
 
 -- for pieces of any kind, by what it means to be the value of a task
 module _ {P : Type 0} (memory : Memory) (job : Job) (chunk : ℕ) (pick : Option Outcome → Option P) (IsValue : Task → P → Type 0) (IsValueFrom : ℕ → P → Type 0) (end : P → ℕ) (region : P → Room)
@@ -96,7 +96,7 @@ scan_held_by Dualcast memory task (Scan piece) no_create no_apply value = (piece
 scan_held_by Dualcast memory task (Create piece) no_create no_apply value = absurd value
 scan_held_by Dualcast memory task (Apply piece) no_create no_apply value = absurd value
 
-scan_held : (memory : Memory) (job : Job) (op : Op) → op_of job ≡ Some op → op ≢ CreateDelta → op ≢ ApplyDelta → (task : Task) (slot : Option Outcome) → task.job ≡ job → IsValueIn memory task slot → (scan : ScanPiece) × (scan_in slot ≡ Some scan) × IsScanned op memory task scan
+scan_held : (memory : Memory) (job : Job) (op : Op) → op_of job ≡ Some op → op ≢ CreateDelta → op ≢ ApplyDelta → (task : Task) (slot : Option Outcome) → task.job ≡ job → IsValueIn memory task slot → (scan : ScanPiece) × (slot_scan slot ≡ Some scan) × IsScanned op memory task scan
 scan_held memory job op is no_create no_apply task None of value = absurd value
 scan_held memory job op is no_create no_apply task (Some outcome) of value =
     scan_held_by op memory task outcome.piece no_create no_apply (value_by memory job op task outcome.piece is of value)
@@ -123,11 +123,11 @@ scan_units Compare job no_create no_apply = refl
 scan_units ComparePattern job no_create no_apply = refl
 scan_units Dualcast job no_create no_apply = refl
 
-pub scans_in : (memory : Memory) (job : Job) (op : Op) (slots : List (Option Outcome)) → op_of job ≡ Some op → op ≢ CreateDelta → op ≢ ApplyDelta → HoldJob memory job slots → AreScans op memory job (filter_map scan_in slots)
+pub scans_in : (memory : Memory) (job : Job) (op : Op) (slots : List (Option Outcome)) → op_of job ≡ Some op → op ≢ CreateDelta → op ≢ ApplyDelta → HoldJob memory job slots → AreScans op memory job (filter_map slot_scan slots)
 scans_in memory job op slots is no_create no_apply hold =
-    subst (λ (last : ℕ). AreChunksFrom (IsScanFrom op memory job) (λ piece. piece.to) (λ piece. piece.staged) last 0 (filter_map scan_in slots))
+    subst (λ (last : ℕ). AreChunksFrom (IsScanFrom op memory job) (λ piece. piece.to) (λ piece. piece.staged) last 0 (filter_map slot_scan slots))
     (ap (λ (o : Op). units o job) (operation_at job op is) ∙ scan_units op job no_create no_apply)
-    (chunks_in memory job hold.0 scan_in (IsScanned op memory) (IsScanFrom op memory job) (λ piece. piece.to) (λ piece. piece.staged) (scan_held memory job op is no_create no_apply)
+    (chunks_in memory job hold.0 slot_scan (IsScanned op memory) (IsScanFrom op memory job) (λ piece. piece.to) (λ piece. piece.staged) (scan_held memory job op is no_create no_apply)
     (scan_value memory job op hold.0) (λ task piece value. value.chunk.1) (λ task piece value. value.place) (units (operation_of job) job) 0 hold.1 slots hold.2 hold.3)
 
 -- Creates
@@ -136,7 +136,7 @@ create_held_by memory task (Scan piece) value = absurd value
 create_held_by memory task (Create piece) value = (piece, refl, value)
 create_held_by memory task (Apply piece) value = absurd value
 
-create_held : (memory : Memory) (job : Job) → op_of job ≡ Some CreateDelta → (task : Task) (slot : Option Outcome) → task.job ≡ job → IsValueIn memory task slot → (create : CreatePiece) × (create_in slot ≡ Some create) × IsCreated memory task create
+create_held : (memory : Memory) (job : Job) → op_of job ≡ Some CreateDelta → (task : Task) (slot : Option Outcome) → task.job ≡ job → IsValueIn memory task slot → (create : CreatePiece) × (slot_create slot ≡ Some create) × IsCreated memory task create
 create_held memory job is task None of value = absurd value
 create_held memory job is task (Some outcome) of value =
     create_held_by memory task outcome.piece (value_by memory job CreateDelta task outcome.piece is of value)
@@ -153,11 +153,11 @@ create_value memory job chunk from task piece is value = record {
     told f = ap (λ (j : Job). f j task.from task.to) is.of ∙ ap₂ (f job) is.begins (sym value.chunk.1)
 
 pub creates_in : (memory : Memory) (job : Job) (slots : List (Option Outcome)) → op_of job ≡ Some CreateDelta → HoldJob memory job slots
-    → AreChunksFrom (IsCreateFrom memory job) (λ piece. piece.to) (λ piece. piece.staged) (job.size / 8) 0 (filter_map create_in slots)
+    → AreChunksFrom (IsCreateFrom memory job) (λ piece. piece.to) (λ piece. piece.staged) (job.size / 8) 0 (filter_map slot_create slots)
 creates_in memory job slots is hold =
-    subst (λ (op : Op). AreChunksFrom (IsCreateFrom memory job) (λ piece. piece.to) (λ piece. piece.staged) (units op job) 0 (filter_map create_in slots))
+    subst (λ (op : Op). AreChunksFrom (IsCreateFrom memory job) (λ piece. piece.to) (λ piece. piece.staged) (units op job) 0 (filter_map slot_create slots))
     (operation_at job CreateDelta is)
-    (chunks_in memory job hold.0 create_in (IsCreated memory) (IsCreateFrom memory job) (λ piece. piece.to) (λ piece. piece.staged) (create_held memory job is) (create_value memory job hold.0)
+    (chunks_in memory job hold.0 slot_create (IsCreated memory) (IsCreateFrom memory job) (λ piece. piece.to) (λ piece. piece.staged) (create_held memory job is) (create_value memory job hold.0)
     (λ task piece value. value.chunk.1) (λ task piece value. value.place) (units (operation_of job) job) 0 hold.1 slots hold.2 hold.3)
 
 -- Applies
@@ -166,7 +166,7 @@ apply_held_by memory task (Scan piece) value = absurd value
 apply_held_by memory task (Create piece) value = absurd value
 apply_held_by memory task (Apply piece) value = (piece, refl, value)
 
-apply_held : (memory : Memory) (job : Job) → op_of job ≡ Some ApplyDelta → (task : Task) (slot : Option Outcome) → task.job ≡ job → IsValueIn memory task slot → (apply : ApplyPiece) × (apply_in slot ≡ Some apply) × IsApplied memory task apply
+apply_held : (memory : Memory) (job : Job) → op_of job ≡ Some ApplyDelta → (task : Task) (slot : Option Outcome) → task.job ≡ job → IsValueIn memory task slot → (apply : ApplyPiece) × (slot_apply slot ≡ Some apply) × IsApplied memory task apply
 apply_held memory job is task None of value = absurd value
 apply_held memory job is task (Some outcome) of value =
     apply_held_by memory task outcome.piece (value_by memory job ApplyDelta task outcome.piece is of value)
@@ -185,11 +185,11 @@ apply_value memory job chunk from task piece is value = record {
     told f = ap (λ (j : Job). f j task.from task.to) is.of ∙ ap₂ (f job) is.begins (sym value.chunk.1)
 
 pub applies_in : (memory : Memory) (job : Job) (slots : List (Option Outcome)) → op_of job ≡ Some ApplyDelta → HoldJob memory job slots
-    → AreChunksFrom (IsApplyFrom memory job) (λ piece. piece.to) (λ piece. piece.staged) (job.delta_size / 10) 0 (filter_map apply_in slots)
+    → AreChunksFrom (IsApplyFrom memory job) (λ piece. piece.to) (λ piece. piece.staged) (job.delta_size / 10) 0 (filter_map slot_apply slots)
 applies_in memory job slots is hold =
-    subst (λ (op : Op). AreChunksFrom (IsApplyFrom memory job) (λ piece. piece.to) (λ piece. piece.staged) (units op job) 0 (filter_map apply_in slots))
+    subst (λ (op : Op). AreChunksFrom (IsApplyFrom memory job) (λ piece. piece.to) (λ piece. piece.staged) (units op job) 0 (filter_map slot_apply slots))
     (operation_at job ApplyDelta is)
-    (chunks_in memory job hold.0 apply_in (IsApplied memory) (IsApplyFrom memory job) (λ piece. piece.to) (λ piece. piece.staged) (apply_held memory job is) (apply_value memory job hold.0)
+    (chunks_in memory job hold.0 slot_apply (IsApplied memory) (IsApplyFrom memory job) (λ piece. piece.to) (λ piece. piece.staged) (apply_held memory job is) (apply_value memory job hold.0)
     (λ task piece value. value.chunk.1) (λ task piece value. value.place) (units (operation_of job) job) 0 hold.1 slots hold.2 hold.3)
 
 -- slots that are gone over one after another, each piece of a kind taken out

@@ -52,17 +52,17 @@ apply_of (Apply piece) = Some piece
 apply_of _ = None
 
 -- that of the outcome in a slot
-abbrev pub scan_in : Option Outcome → Option ScanPiece
-scan_in None = None
-scan_in (Some outcome) = scan_of outcome.piece
+abbrev pub slot_scan : Option Outcome → Option ScanPiece
+slot_scan None = None
+slot_scan (Some outcome) = scan_of outcome.piece
 
-abbrev pub create_in : Option Outcome → Option CreatePiece
-create_in None = None
-create_in (Some outcome) = create_of outcome.piece
+abbrev pub slot_create : Option Outcome → Option CreatePiece
+slot_create None = None
+slot_create (Some outcome) = create_of outcome.piece
 
-abbrev pub apply_in : Option Outcome → Option ApplyPiece
-apply_in None = None
-apply_in (Some outcome) = apply_of outcome.piece
+abbrev pub slot_apply : Option Outcome → Option ApplyPiece
+slot_apply None = None
+slot_apply (Some outcome) = apply_of outcome.piece
 
 -- what a job does on an image; its puts lie in pages that are present
 pub record IsEffectOf (memory : Memory) (job : Job) (done : Effect) : Type 0 where

@@ -80,7 +80,7 @@ fn effect_of<'a>(image: &Image, job: &Checked, slots: &mut [Option<Outcome<'a>>]
 
 /// The scan that a slot holds.
 fn take_scan<'a>(slot: &mut Option<Outcome<'a>>) -> Option<ScanPiece<'a>>
-    ensures { result ≡ word.scan_in slot.old }
+    ensures { result ≡ word.slot_scan slot.old }
 {
     match slot.take()?.piece {
         Piece::Scan(piece) => Some(piece),
@@ -90,7 +90,7 @@ fn take_scan<'a>(slot: &mut Option<Outcome<'a>>) -> Option<ScanPiece<'a>>
 
 /// The piece of a create that a slot holds.
 fn take_create<'a>(slot: &mut Option<Outcome<'a>>) -> Option<CreatePiece<'a>>
-    ensures { result ≡ word.create_in slot.old }
+    ensures { result ≡ word.slot_create slot.old }
 {
     match slot.take()?.piece {
         Piece::Create(piece) => Some(piece),
@@ -100,7 +100,7 @@ fn take_create<'a>(slot: &mut Option<Outcome<'a>>) -> Option<CreatePiece<'a>>
 
 /// The piece of an apply that a slot holds.
 fn take_apply<'a>(slot: &mut Option<Outcome<'a>>) -> Option<ApplyPiece<'a>>
-    ensures { result ≡ word.apply_in slot.old }
+    ensures { result ≡ word.slot_apply slot.old }
 {
     match slot.take()?.piece {
         Piece::Apply(piece) => Some(piece),

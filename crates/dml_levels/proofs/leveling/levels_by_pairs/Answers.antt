@@ -25,7 +25,7 @@ loop-i-preserved c =
     let level : c.if-meets.level ≡ level_over clash levels i =
     elim c.if-meets.branch [
       | then-meets w ↦
-          w.level-is ∙ (w.level_at-level.ensures ∙ ap (λ list. level_over clash list i) w.as_slice-then-meets.ensures.value)
+          w.level-is ∙ (w.searched_level-level.ensures ∙ ap (λ list. level_over clash list i) w.as_slice-then-meets.ensures.value)
       | else-meets w ↦
           w.level-is ∙ lowest jobs reaches c.loop-i.seen reach levels i c.requires.reaches c.loop-i.invariant.1 below read (sym c.meets.ensures ∙ w.if-meets.false)
     ] in (

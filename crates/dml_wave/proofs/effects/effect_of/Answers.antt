@@ -3,7 +3,7 @@ use Rattle.std.specs.List.{filter_map}
 use Rattle.std.specs.Slice.Iter.{iter_mut_rest, iter_mut_steps}
 use Rattle.dml_types.specs.declared.operations.Op.TheVariants.{CreateDelta, ApplyDelta}
 use Rattle.dml_types.specs.Job.{op_of}
-use Rattle.dml_wave.specs.Effects.{scan_in, create_in, apply_in}
+use Rattle.dml_wave.specs.Effects.{slot_scan, slot_create, slot_apply}
 use Rattle.dml_wave.proofs.PieceLemmas.{scans_in, creates_in, applies_in, slots_yield}
 use Rattle.dml_wave.proofs.effects.effect_of.Goals as goal
 
@@ -19,8 +19,8 @@ join_create-requires c κs =
           (
             tt,
             record {
-              chunks = filter_map create_in slots;
-              yields = slots_yield iter_mut_steps iter_mut_rest (λ a b h. h.0) (λ a x b h. h) _ create_in c.filter_map.result c.iter_mut.result slots c.filter_map.ensures.source c.iter_mut.ensures.rest (λ x r q k. (refl, k.met.1));
+              chunks = filter_map slot_create slots;
+              yields = slots_yield iter_mut_steps iter_mut_rest (λ a b h. h.0) (λ a x b h. h) _ slot_create c.filter_map.result c.iter_mut.result slots c.filter_map.ensures.source c.iter_mut.ensures.rest (λ x r q k. (refl, k.met.1));
               values = creates_in c.args.image.now c.args.job.now slots operation c.requires.slots;
             },
           ),
@@ -40,8 +40,8 @@ join_apply-requires c κs =
           (
             tt,
             record {
-              chunks = filter_map apply_in slots;
-              yields = slots_yield iter_mut_steps iter_mut_rest (λ a b h. h.0) (λ a x b h. h) _ apply_in c.filter_map-in-ApplyDelta.result c.iter_mut-in-ApplyDelta.result slots c.filter_map-in-ApplyDelta.ensures.source c.iter_mut-in-ApplyDelta.ensures.rest (λ x r q k. (refl, k.met.1));
+              chunks = filter_map slot_apply slots;
+              yields = slots_yield iter_mut_steps iter_mut_rest (λ a b h. h.0) (λ a x b h. h) _ slot_apply c.filter_map-in-ApplyDelta.result c.iter_mut-in-ApplyDelta.result slots c.filter_map-in-ApplyDelta.ensures.source c.iter_mut-in-ApplyDelta.ensures.rest (λ x r q k. (refl, k.met.1));
               values = applies_in c.args.image.now c.args.job.now slots operation c.requires.slots;
             },
           ),
@@ -65,8 +65,8 @@ join_found-requires c κs =
             record {
               op = c.op.result;
               operation = operation;
-              chunks = filter_map scan_in slots;
-              yields = slots_yield iter_mut_steps iter_mut_rest (λ a b h. h.0) (λ a x b h. h) _ scan_in c.filter_map-in_default.result c.iter_mut-in_default.result slots c.filter_map-in_default.ensures.source c.iter_mut-in_default.ensures.rest (λ x r q k. (refl, k.met.1));
+              chunks = filter_map slot_scan slots;
+              yields = slots_yield iter_mut_steps iter_mut_rest (λ a b h. h.0) (λ a x b h. h) _ slot_scan c.filter_map-in_default.result c.iter_mut-in_default.result slots c.filter_map-in_default.ensures.source c.iter_mut-in_default.ensures.rest (λ x r q k. (refl, k.met.1));
               values = scans_in c.args.image.now c.args.job.now c.op.result slots operation no_create no_apply c.requires.slots;
             },
           ),

@@ -1,6 +1,6 @@
 use Rattle.std.proofs.Common.{Option, refl, subst}
 use Rattle.dml_script.specs.declared.items.Item.{Item}
-use Rattle.dml_script.specs.Run.{added_text, after_line, answer_from, item_of}
+use Rattle.dml_script.specs.Run.{added_text, after_line, session_answer, item_of}
 use Rattle.dml_script.specs.Watching.{inner_of, AppendsFront}
 use Rattle.dml_script.proofs.ListLemmas.{front_text}
 use Rattle.dml_script.proofs.RunLemmas.{on_error}
@@ -13,5 +13,5 @@ returns-in_err-write_item-clause-front g c =
     let before = g.W.Write.contents (inner_of c.args.writer.now) in
     let now = g.W.Write.contents (inner_of c.write_item.new.writer) in
     on_error _ _
-    (front_text before now (added_text (item_of staging session c.args.line.now)) (answer_from staging (after_line staging session c.args.line.now) c.args.lines.now) _ refl
+    (front_text before now (added_text (item_of staging session c.args.line.now)) (session_answer staging (after_line staging session c.args.line.now) c.args.lines.now) _ refl
     (subst (λ (item : Option Item). AppendsFront before now (added_text item)) c.in_ok-item.ensures.item c.in_err-write_item.ensures.front))

@@ -1,7 +1,7 @@
 use Rattle.std.proofs.Common.{◌≤◌}
 use Rattle.dml_types.specs.Conflict.{clash_of}
 use Rattle.dml_levels.proofs.LevelLemmas.{IsHighest}
-use Rattle.dml_levels.proofs.leveling.level_at.Given as goal
+use Rattle.dml_levels.proofs.leveling.searched_level.Given as goal
 
 abbrev pub invariant-loop-level : goal.invariant-loop-level
 invariant-loop-level l = record {

@@ -2,8 +2,8 @@ use Rattle.std.proofs.Common.{◌-◌, ℕ, get_or, ap, arith, ◌∙◌, sym}
 use Rattle.dml_types.specs.Conflict.{clash_of}
 use Rattle.dml_order.proofs.LevelLemmas.{level_le}
 use Rattle.dml_levels.proofs.LevelLemmas.{highest_is, highest_kept, highest_passed}
-use Rattle.dml_levels.proofs.leveling.level_at.Goals as goal
-use Rattle.dml_levels.proofs.leveling.level_at.Goals.{else-levels-k-via-then-levels-k+else-clashes, else-levels-k-via-else-levels-k}
+use Rattle.dml_levels.proofs.leveling.searched_level.Goals as goal
+use Rattle.dml_levels.proofs.leveling.searched_level.Goals.{else-levels-k-via-then-levels-k+else-clashes, else-levels-k-via-else-levels-k}
 
 pub loop-level-preserved : goal.loop-level-preserved
 loop-level-preserved c =

@@ -1,5 +1,5 @@
 //! Jobs carried out on an image, each as one chunk.
-ghost use Rattle.std.specs.Prelude.{◌≡◌, ◌↔◌, ◌⊎◌, ◌<◌, ◌≤◌, ℕ, List, [], None, Some, IsTrue};
+ghost use Rattle.std.specs.Prelude.{◌≡◌, ◌≢◌, ◌↔◌, ◌⊎◌, ◌<◌, ◌≤◌, ℕ, List, [], None, Some, IsTrue};
 ghost use Rattle.dml_types.specs.declared.operations.Op.TheVariants.{Compare, ComparePattern, Dualcast, Fill, Move};
 ghost use Rattle.dml_types.specs.declared.operations.Op.TheVariants.{ApplyDelta, CreateDelta};
 ghost use Rattle.dml_types.specs.Job.{op_of, unfenced};
@@ -101,9 +101,26 @@ pub fn carry_out(image: &mut Image, arena: &mut Arena, job: &Checked) -> Record
     ensures answer { result ≡ (checked_step image.old job.now).1 }
     ensures arena { arena.new ≡ arena.old }
 {
+    if job.op() == Op::Move {
+        return move_straight(image, job);
+    }
+    let other = *job;
+    by_fields(carry_out_other(image, arena, &other))
+}
+
+/// Carries out a job that is no move as one chunk. It is given a copy of the job: what it calls reads that from memory,
+/// and a move, which needs neither the job nor its record there, keeps both in registers.
+#[inline(always)]
+fn carry_out_other(image: &mut Image, arena: &mut Arena, job: &Checked) -> Record
+    requires operation { op_of job.now ≢ Some Move }
+    requires staging { IsDelta job.now → need job.now ≤ arena.old.size }
+    ensures image { image.new ≡ (checked_step image.old job.now).0 }
+    ensures answer { result ≡ (checked_step image.old job.now).1 }
+    ensures arena { arena.new ≡ arena.old }
+{
     match job.op() {
         Op::CreateDelta | Op::ApplyDelta => carry_out_staged(image, arena, job),
-        _ => carry_out_straight(image, job),
+        _ => carry_out_other_straight(image, job),
     }
 }
 
@@ -133,9 +150,24 @@ pub fn carry_out_straight(image: &mut Image, job: &Checked) -> Record
     ensures image { image.new ≡ (checked_step image.old job.now).0 }
     ensures answer { result ≡ (checked_step image.old job.now).1 }
 {
+    if job.op() == Op::Move {
+        return move_straight(image, job);
+    }
+    let other = *job;
+    by_fields(carry_out_other_straight(image, &other))
+}
+
+/// The same for a job that is no move. It is given a copy of the job, as `carry_out_other` is.
+#[inline(always)]
+fn carry_out_other_straight(image: &mut Image, job: &Checked) -> Record
+    requires operation { op_of job.now ≢ Some Move }
+    requires staging { IsDelta job.now → need job.now ≡ 0 }
+    ensures image { image.new ≡ (checked_step image.old job.now).0 }
+    ensures answer { result ≡ (checked_step image.old job.now).1 }
+{
     match job.op() {
         Op::NoOp => ended(Status::Success, 0, 0),
-        Op::Move => by_fields(move_straight(image, job)),
+        Op::Move => unreachable!(),
         Op::Dualcast => by_fields(dualcast_straight(image, job)),
         _ => carry_out_effect(image, job),
     }

@@ -4,7 +4,7 @@ use Rattle.dml_types.specs.declared.operations.Op.{Op}
 use Rattle.dml_desc.specs.Checked.{KeepsRules}
 use Rattle.dml_types.specs.Memory.{Memory}
 use Rattle.dml_effect.proofs.WholeLemmas.{no_op_step}
-use Rattle.dml_effect.proofs.carrying.carry_out_straight.Goals as goal
+use Rattle.dml_effect.proofs.carrying.carry_out_other_straight.Goals as goal
 
 pub returns-in-NoOp-clause-image : goal.returns-in-NoOp-clause-image
 returns-in-NoOp-clause-image c =

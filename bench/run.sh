@@ -4,7 +4,8 @@
 # Usage: bench/run.sh [ROUNDS [MEBIBYTES]]   31 rounds of 64 mebibytes a row, where nothing else is said.
 # Wants the program dml_bench built (rt run in crates/dml_bench), clang or another C compiler as $CC, with $CFLAGS or -O2.
 # The second table has lists with 1, 2 and 4 workers as the engine takes them, the third lists of jobs of 64 KiB whose
-# workers begin however little work there is.
+# workers begin however little work there is. A move of 64 bytes has no bar here: how many memmoves it takes differs from
+# machine to machine, so bench/against.sh compares it with that of another build.
 # Each round runs every program once, every second round in the opposite order, and a ratio is taken within its
 # round. Exit status: 0 where all bars are met, 1 where one is missed, 2 where nothing was measured.
 here=$(cd "$(dirname "$0")" && pwd)
@@ -105,7 +106,8 @@ awk '
         }
         printf "\n%-24s %12s %12s %12s %8s %8s\n", "list, by workers", "1, ns", "2, ns", "4, ns", "1 to 2", "1 to 4"
         shapes = split("list_compares_64 threads_compares_64 list_compares_4 threads_compares_4 list_no_ops " \
-            "list_page_moves list_large_moves list_small_moves list_chain list_mixed", shape)
+            "list_page_moves list_large_moves list_small_moves list_chain list_mixed list_compare_chain " \
+            "list_short_chain", shape)
         for (n = 1; n <= shapes; n++)
             printf "%-24s %12.0f %12.0f %12.0f %7.2fx %7.2fx\n", shape[n], middle(shape[n], 1), middle(shape[n], 2), \
                 middle(shape[n], 4), speed(shape[n], 2), speed(shape[n], 4)
@@ -121,7 +123,6 @@ awk '
         for (n = 1; n <= 3; n++)
             bar(job[n] " of 1 MiB by submit, of memmove", ratio(job[n], "memmove", 1048576), 1.25)
         bar("fill of 1 MiB by submit, of the word loop", ratio("fill", "words", 1048576), 1.1)
-        bar("move of 64 bytes by submit, of memmove", ratio("move", "memmove", 64), 7.2)
         for (n = 1; n <= names; n++)
             if (name[n] ~ /^image_move/)
                 bar(name[n] " of 1 MiB, of memmove", ratio(name[n], "memmove", 1048576), 1.25)

@@ -41,6 +41,10 @@ enum Shape {
     Chain,
     /// By turns a compare and a move of 128 KiB, a fill of a page and a no-op, each in 256 KiB of its own.
     Mixed,
+    /// By turns a compare of 64 KiB and a fill of 8 bytes inside it, all at one place: a chain as long as the list.
+    CompareChain,
+    /// The same of 8 KiB.
+    ShortChain,
     /// Compares of 64 KiB, each of two parts side by side; none conflict.
     PartCompares,
     /// Moves of 64 KiB to the part beside it; none conflict.
@@ -64,6 +68,8 @@ fn job_of(shape: Shape, place: u32) -> Job
         Shape::SmallMoves => Job::move_bytes(nth * PAGE, nth * PAGE + 2048, 256),
         Shape::Chain => Job::move_bytes(nth * 4 * PART, nth * 4 * PART + 4 * PART, 262_144),
         Shape::Mixed => mixed_job(place, nth * 4 * PART),
+        Shape::CompareChain => chained_job(place, 65_536),
+        Shape::ShortChain => chained_job(place, 8192),
         Shape::PartCompares => Job::compare(part, part + PART, 65_536),
         Shape::PartMoves => Job::move_bytes(part, part + PART, 65_536),
         Shape::PartFills => Job::fill(PATTERN, part, 65_536),
@@ -79,6 +85,14 @@ fn mixed_job(place: u32, addr: u64) -> Job
         1 => Job::move_bytes(addr, addr + 2 * PART, 131_072),
         2 => Job::fill(PATTERN, addr, 4096),
         _ => Job::no_op(),
+    }
+}
+
+/// The job at a place of a chain of compares of a size.
+fn chained_job(place: u32, size: u32) -> Job {
+    match place % 2 {
+        0 => Job::compare(0, PART, size),
+        _ => Job::fill(PATTERN, 0, 8),
     }
 }
 
@@ -214,6 +228,8 @@ pub(crate) fn time_shapes<T: Threads + Wait + Sync + Clock + Eprint>(
         ("list_small_moves", Shape::SmallMoves, 1024, 20),
         ("list_chain", Shape::Chain, 32, 10),
         ("list_mixed", Shape::Mixed, 64, 20),
+        ("list_compare_chain", Shape::CompareChain, 1024, 5),
+        ("list_short_chain", Shape::ShortChain, 1024, 20),
     ];
     let mut image = image;
     for (name, shape, jobs, calls) in rows {

@@ -12,12 +12,12 @@ use Rattle.dml_engine.specs.declared.opening.Fences.{Fences}
 use Rattle.dml_engine.specs.Lists.{opened}
 use Rattle.dml_engine.specs.State.{State}
 
--- the bytes of a job that workers share: they are faster by compares and creates alone, and each of so many
--- tasks costs as much as 2 KiB of them
+-- the bytes of a job that workers share: they are faster by compares and creates alone, each of so many tasks
+-- costs as much as 2 KiB of them, and the job itself as much as 8 tasks
 abbrev pub shared_by : Op → Job → ℕ → ℕ
-shared_by Compare job tasks = job.size - 2048 * tasks
-shared_by ComparePattern job tasks = job.size - 2048 * tasks
-shared_by CreateDelta job tasks = job.size - 2048 * tasks
+shared_by Compare job tasks = job.size - 2048 * (tasks + 8)
+shared_by ComparePattern job tasks = job.size - 2048 * (tasks + 8)
+shared_by CreateDelta job tasks = job.size - 2048 * (tasks + 8)
 shared_by _ job tasks = 0
 
 -- the bytes that workers have to stage, where one worker writes them at once

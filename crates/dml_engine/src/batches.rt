@@ -100,7 +100,8 @@ impl<G: Gate + Sync> Engine<G> {
     }
 
     /// The same wave by wave. Before the first wave with a job at a fence or behind it the statuses of all jobs before
-    /// the fence are looked at. Where no memory is left to find the waves, the batch goes on in list order.
+    /// the fence are looked at. Where no memory is left to find the waves, or none pays for a second worker, the batch
+    /// goes on in list order.
     fn batch_in_waves<R: Threads + Wait + Sync>(
         &mut self,
         rt: &R,
@@ -121,7 +122,7 @@ impl<G: Gate + Sync> Engine<G> {
             return self.batch_in_list_order(jobs, records);
         };
         let checked = list.as_slice();
-        let Ok(waves) = plan_waves(alloc, checked, settings) else {
+        let Some(waves) = plan_waves(alloc, checked, settings, self.is_watched()) else {
             return self.batch_in_list_order(jobs, records);
         };
         // Its contract says that the image is whole, which the law asks for.

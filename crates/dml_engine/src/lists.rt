@@ -1,5 +1,5 @@
 //! Lists of jobs, carried out one after another or wave by wave.
-ghost use Rattle.std.specs.Prelude.{◌≡◌, ◌↔◌, ◌<◌, ◌≤◌, ◌⊎◌, IfOk, IsTrue, true, length, map};
+ghost use Rattle.std.specs.Prelude.{◌≡◌, ◌↔◌, ◌<◌, ◌≤◌, ◌⊎◌, IfOk, IfSome, IsTrue, true, length, map};
 ghost use Rattle.std.specs.List.{All};
 ghost use Rattle.dml_types.specs.Job.{unfenced};
 ghost use Rattle.dml_types.specs.Limits.{IsValid};
@@ -14,7 +14,7 @@ ghost use Rattle.dml_engine.specs.Lists.{IsReady};
 ghost use Rattle.dml_engine.specs.Loads.{is_for_waves, shareable};
 
 use crate::engines::Engine;
-use crate::loads::{Load, may_pay};
+use crate::loads::{Load, levels_pay, may_pay};
 use crate::opening::{Fences, open_all};
 use dml_desc::Checked;
 use dml_levels::{LevelError, Wave, law_of_conflicts, law_of_fences, law_of_waves, levels, waves};
@@ -48,7 +48,8 @@ impl<G: Gate + Sync> Engine<G> {
         }
     }
 
-    /// Carries out a list of jobs wave by wave; where no memory is left to find the waves, one after another.
+    /// Carries out a list of jobs wave by wave; where no memory is left to find the waves, or no wave pays for a second
+    /// worker, one after another.
     fn in_waves<R: Threads + Wait + Sync>(
         &mut self,
         rt: &R,
@@ -68,7 +69,7 @@ impl<G: Gate + Sync> Engine<G> {
             return self.in_list_order(jobs, records);
         };
         let checked = list.as_slice();
-        let Ok(waves) = plan_waves(alloc, checked, settings) else {
+        let Some(waves) = plan_waves(alloc, checked, settings, self.is_watched()) else {
             return self.in_list_order(jobs, records);
         };
         // Its contract says that the image is whole, which the laws ask for.
@@ -170,21 +171,25 @@ impl<G> Engine<G> {
     }
 }
 
-/// The waves of a list of jobs.
+/// The waves of a list of jobs; None where no memory is left to find them, or where no gate is given and no wave pays.
 pub(crate) fn plan_waves(
     alloc: Global,
     jobs: &[Checked],
     settings: Settings,
-) -> Result<Vec<Wave>, LevelError>
+    watched: bool,
+) -> Option<Vec<Wave>>
     requires few { length jobs.now ≤ 1024 }
     requires needs { All (λ job. need job ≤ settings.staging) jobs.now }
     requires valid { IsValid settings }
-    ensures cut { IfOk result (λ list.
+    ensures cut { IfSome result (λ list.
         list.items ≡ word.waves jobs.now (table.fenced_levels jobs.now) settings.staging settings.chunk) }
-    ensures ready { IfOk result (λ list. All (IsReady jobs.now settings.staging settings.chunk) list.items) }
+    ensures ready { IfSome result (λ list. All (IsReady jobs.now settings.staging settings.chunk) list.items) }
 {
-    let levels = levels(alloc, jobs)?;
-    cut_waves(alloc, jobs, &levels, settings)
+    let levels = levels(alloc, jobs).ok()?;
+    if !watched && !levels_pay(jobs, &levels, settings.chunk) {
+        return None;
+    }
+    cut_waves(alloc, jobs, &levels, settings).ok()
 }
 
 /// The waves of jobs that have these levels.

@@ -10,6 +10,7 @@ ghost use Rattle.dml_engine.specs.Loads.{load_of, no_load, shareable, shareable_
 ghost use Rattle.dml_engine.specs.Loads as word;
 
 use crate::opening::{Fences, open};
+use crate::submitting::MOST_JOBS;
 use dml_desc::Checked;
 use dml_levels::task_count;
 use dml_types::{Job, Op, Settings};
@@ -22,6 +23,12 @@ const LEAST_SHARED: u64 = 3 * HALF_OF_A_WORKER;
 
 /// The bytes that are as dear as a task, as measured.
 const TASK_BYTES: u64 = 2048;
+
+/// How many tasks a job's check, its level and its place in a wave are as dear as, as measured.
+const JOB_TASKS: u64 = 8;
+
+/// The bytes that are as dear as one look at a job for one level, where waves are cut, as measured.
+const LOOK_BYTES: u64 = 32;
 
 /// How many shared bytes make up for a byte that workers stage and one worker does not, as measured.
 const STAGED_COST: u64 = 3;
@@ -84,7 +91,7 @@ impl Load {
         let (shared, staged) = match job.op() {
             Op::NoOp => (0, 0),
             Op::Compare | Op::ComparePattern | Op::CreateDelta => {
-                (size.saturating_sub(TASK_BYTES * tasks), 0)
+                (size.saturating_sub(TASK_BYTES * (tasks + JOB_TASKS)), 0)
             }
             Op::Move | Op::Fill => (0, size),
             Op::ApplyDelta => (0, delta_size),
@@ -134,6 +141,28 @@ fn workers_for(bytes: u64, most: u32) -> u32
 {
     let paid = (bytes / HALF_OF_A_WORKER).div_ceil(2);
     (paid.min(u64::from(most)) as u32).max(1)
+}
+
+/// Whether some levels of a list share enough bytes for a second worker, and these make up for the cut of its waves,
+/// which looks at every job for every level. No wave of another level is given a second worker.
+pub fn levels_pay(jobs: &[Checked], levels: &[u32], chunk: u32) -> bool
+    requires { IsChunk chunk }
+{
+    let mut depth = 0;
+    let mut shared = [0_u64; MOST_JOBS];
+    for (job, level) in jobs.iter().zip(levels) {
+        if let Some(sum) = shared.get_mut(*level as usize) {
+            *sum = sum.saturating_add(Load::none().with(job, chunk).shared);
+        }
+        depth = depth.max(u64::from(*level) + 1);
+    }
+    let mut left = LEAST_SHARED.max(depth.saturating_mul(LOOK_BYTES * jobs.len() as u64));
+    for sum in shared {
+        if sum >= LEAST_SHARED {
+            left = left.saturating_sub(sum);
+        }
+    }
+    left == 0
 }
 
 /// Whether the jobs name enough bytes for a second worker, before any of them is checked.

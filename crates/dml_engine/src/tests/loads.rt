@@ -3,10 +3,12 @@ ghost use Rattle.std.specs.Prelude.{◌≡◌, ◌≤◌};
 ghost use Rattle.dml_types.specs.Limits.{IsValid};
 
 use super::USUAL;
-use crate::loads::Load;
-use dml_desc::check;
+use crate::loads::{Load, levels_pay};
+use dml_desc::{Checked, check};
 use dml_types::{Job, Settings};
+use std::alloc::{AllocError, Global};
 use std::process::Abort;
+use std::test::Fail;
 
 const MEBIBYTE: u32 = 1_048_576;
 
@@ -135,8 +137,8 @@ fn workers_of_mixed_waves(rt: HostRuntime) {
         (0, 16),
         (1024, 16),
         (10_240, 16),
-        (16_640, 15),
-        (20_480, 4),
+        (16_640, 14),
+        (20_480, 3),
         (21_504, 1),
     ] {
         let load = Load {
@@ -146,4 +148,44 @@ fn workers_of_mixed_waves(rt: HostRuntime) {
         let workers = (load.list_workers(false, 16), load.wave_workers(false, 16));
         assert_eq!(rt; workers, (16, wave), "{kibibytes} KiB");
     }
+}
+
+/// A list of so many compares of a size; all of its front have level 0, and each other one a level of its own.
+fn fronted(
+    alloc: Global,
+    size: u32,
+    jobs: u32,
+    front: u32,
+) -> Result<(Vec<Checked>, Vec<u32>), AllocError> {
+    let mut list = Vec::new(alloc);
+    let mut levels = Vec::new(alloc);
+    for place in 0..jobs {
+        if let Ok(job) = check(&Job::compare(0, 2_097_152, size), MEBIBYTE) {
+            list.push(job)?;
+            levels.push((place + 1).saturating_sub(front))?;
+        }
+    }
+    Ok((list, levels))
+}
+
+/// A level pays where its jobs share a mebibyte and a half, and where its bytes make up for the cut of all levels.
+#[test]
+fn levels_that_pay(rt: HostRuntime) -> Result<(), Fail> {
+    for (size, jobs, front, pays) in [
+        (MEBIBYTE, 4, 4, true),
+        (MEBIBYTE, 4, 1, false),
+        (65_536, 34, 34, true),
+        (65_536, 33, 33, false),
+        (65_536, 1024, 1024, true),
+        (65_536, 1024, 1, false),
+        (65_536, 1020, 34, false),
+    ] {
+        let (list, levels) = fronted(rt.alloc(), size, jobs, front)?;
+        assert_eq!(rt;
+            levels_pay(&list, &levels, 65_536),
+            pays,
+            "{jobs} of {size}, {front}"
+        );
+    }
+    Ok(())
 }

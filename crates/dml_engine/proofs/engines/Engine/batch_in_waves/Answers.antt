@@ -54,12 +54,12 @@ loop-wave-preserved g c =
     let is_list : checked ≡ one_list settings.staging jobs = c.as_slice-checked.ensures.value ∙ c.in-Ok.ensures.checked in
     let cut : waves ≡ waves_by_levels staging settings.chunk (one_list staging jobs) =
     c.deref-wave-items.ensures.value
-    ∙ (c.in-Ok-plan_waves.ensures.cut
+    ∙ (c.in-Some.ensures.cut
     ∙ (ap (λ (list : List Job). waves_by_levels settings.staging settings.chunk list) is_list
     ∙ ap (λ (s : Settings). waves_by_levels s.staging settings.chunk (one_list s.staging jobs)) same_settings)) in
     let same_wave : c.as_slice-places.result.now ≡ wave = c.as_slice-places.ensures.value ∙ c.wave.view_is in
     let all : All (IsReady checked settings.staging settings.chunk) waves =
-    subst (All (IsReady checked settings.staging settings.chunk)) (sym c.deref-wave-items.ensures.value) c.in-Ok-plan_waves.ensures.ready in
+    subst (All (IsReady checked settings.staging settings.chunk)) (sym c.deref-wave-items.ensures.value) c.in-Some.ensures.ready in
     let ready : IsReady checked settings.staging settings.chunk wave =
     subst (IsReady checked settings.staging settings.chunk) (sym c.wave-item.is) (all at wave below) in
     let count : length checked ≡ length jobs = ap length is_list ∙ length-map jobs (fenced_unless_refused settings.staging) in
@@ -112,7 +112,7 @@ ends_before-requires-clause-place g c =
     let count : length checked ≡ length jobs = ap length is_list ∙ length-map jobs (fenced_unless_refused settings.staging) in
     let same_wave : c.as_slice-places.result.now ≡ wave = c.as_slice-places.ensures.value ∙ c.wave.view_is in
     let all : All (IsReady checked settings.staging settings.chunk) waves =
-    subst (All (IsReady checked settings.staging settings.chunk)) (sym c.deref-wave-items.ensures.value) c.in-Ok-plan_waves.ensures.ready in
+    subst (All (IsReady checked settings.staging settings.chunk)) (sym c.deref-wave-items.ensures.value) c.in-Some.ensures.ready in
     let ready : IsReady checked settings.staging settings.chunk wave =
     subst (IsReady checked settings.staging settings.chunk) (sym c.wave-item.is) (all at wave below) in
     let places = subst (All (λ i. i < length checked)) (sym same_wave) ready.places in
@@ -133,7 +133,7 @@ next_fence-fence-requires-then-reaches g c =
     let count : length checked ≡ length jobs = ap length is_list ∙ length-map jobs (fenced_unless_refused settings.staging) in
     let same_wave : c.as_slice-places.result.now ≡ wave = c.as_slice-places.ensures.value ∙ c.wave.view_is in
     let all : All (IsReady checked settings.staging settings.chunk) waves =
-    subst (All (IsReady checked settings.staging settings.chunk)) (sym c.deref-wave-items.ensures.value) c.in-Ok-plan_waves.ensures.ready in
+    subst (All (IsReady checked settings.staging settings.chunk)) (sym c.deref-wave-items.ensures.value) c.in-Some.ensures.ready in
     let ready : IsReady checked settings.staging settings.chunk wave =
     subst (IsReady checked settings.staging settings.chunk) (sym c.wave-item.is) (all at wave below) in
     let places = subst (All (λ i. i < length checked)) (sym same_wave) ready.places in
@@ -159,7 +159,7 @@ returns-then-ends_before-clause-carried g c =
     let count : length checked ≡ length jobs = ap length is_list ∙ length-map jobs (fenced_unless_refused settings.staging) in
     let same_wave : c.as_slice-places.result.now ≡ wave = c.as_slice-places.ensures.value ∙ c.wave.view_is in
     let all : All (IsReady checked settings.staging settings.chunk) waves =
-    subst (All (IsReady checked settings.staging settings.chunk)) (sym c.deref-wave-items.ensures.value) c.in-Ok-plan_waves.ensures.ready in
+    subst (All (IsReady checked settings.staging settings.chunk)) (sym c.deref-wave-items.ensures.value) c.in-Some.ensures.ready in
     let ready : IsReady checked settings.staging settings.chunk wave =
     subst (IsReady checked settings.staging settings.chunk) (sym c.wave-item.is) (all at wave below) in
     let places = subst (All (λ i. i < length checked)) (sym same_wave) ready.places in
@@ -169,7 +169,7 @@ returns-then-ends_before-clause-carried g c =
     let size : length blank ≡ length jobs = c.in-Ok.ensures.opened.size ∙ length-map jobs unfenced in
     let cut : waves ≡ waves_by_levels staging settings.chunk (one_list staging jobs) =
     c.deref-wave-items.ensures.value
-    ∙ (c.in-Ok-plan_waves.ensures.cut
+    ∙ (c.in-Some.ensures.cut
     ∙ (ap (λ (list : List Job). waves_by_levels settings.staging settings.chunk list) is_list
     ∙ ap (λ (s : Settings). waves_by_levels s.staging settings.chunk (one_list s.staging jobs)) c.settings-settings.ensures.value)) in
     let here : c.as_slice-places.result.now ≡ get_or waves at wave = same_wave ∙ c.wave-item.is in
@@ -194,7 +194,7 @@ returns-clause-carried g c =
     let size : length blank ≡ length jobs = c.in-Ok.ensures.opened.size ∙ length-map jobs unfenced in
     let cut : waves ≡ waves_by_levels staging settings.chunk (one_list staging jobs) =
     c.deref-wave-items.ensures.value
-    ∙ (c.in-Ok-plan_waves.ensures.cut
+    ∙ (c.in-Some.ensures.cut
     ∙ (ap (λ (list : List Job). waves_by_levels settings.staging settings.chunk list) is_list
     ∙ ap (λ (s : Settings). waves_by_levels s.staging settings.chunk (one_list s.staging jobs)) c.settings-settings.ensures.value)) in
     let past : length waves ≤ c.loop-wave.wave-index = omega arith in

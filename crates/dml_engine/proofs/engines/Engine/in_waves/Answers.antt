@@ -36,7 +36,7 @@ loop-wave-preserved g c =
     let checked = c.as_slice-checked.result.now in
     let settings = c.settings-settings.result in
     let all : All (IsReady checked settings.staging settings.chunk) waves =
-    subst (All (IsReady checked settings.staging settings.chunk)) (sym c.deref-wave-items.ensures.value) c.in-Ok-plan_waves.ensures.ready in
+    subst (All (IsReady checked settings.staging settings.chunk)) (sym c.deref-wave-items.ensures.value) c.in-Some.ensures.ready in
     let ready : IsReady checked settings.staging settings.chunk wave =
     subst (IsReady checked settings.staging settings.chunk) (sym c.wave-item.is) (all at wave below) in
     let size : length checked ≡ length jobs =
@@ -77,7 +77,7 @@ returns-clause-image g c =
     let given =
     waves_give c.law_of_waves.ensures.in_order c.law_of_conflicts.ensures.without_refused c.law_of_fences.ensures.only_add memory jobs checked staging settings.staging
     settings.chunk c.open_all.new.records waves whole size same
-    (c.deref-wave-items.ensures.value ∙ c.in-Ok-plan_waves.ensures.cut) in
+    (c.deref-wave-items.ensures.value ∙ c.in-Some.ensures.cut) in
     let past : length waves ≤ c.loop-wave.wave-index = omega arith in
     let end : begun c.loop-wave.self.image c.loop-wave.records ≡ in_list_order memory jobs staging =
     waves_done (carried jobs staging) waves c.loop-wave.wave-index (begun c.loop-wave.self.image c.loop-wave.records)
@@ -102,7 +102,7 @@ returns-clause-records g c =
     let given =
     waves_give c.law_of_waves.ensures.in_order c.law_of_conflicts.ensures.without_refused c.law_of_fences.ensures.only_add memory jobs checked staging settings.staging
     settings.chunk c.open_all.new.records waves whole size same
-    (c.deref-wave-items.ensures.value ∙ c.in-Ok-plan_waves.ensures.cut) in
+    (c.deref-wave-items.ensures.value ∙ c.in-Some.ensures.cut) in
     let past : length waves ≤ c.loop-wave.wave-index = omega arith in
     let end : begun c.loop-wave.self.image c.loop-wave.records ≡ in_list_order memory jobs staging =
     waves_done (carried jobs staging) waves c.loop-wave.wave-index (begun c.loop-wave.self.image c.loop-wave.records)

@@ -192,8 +192,8 @@ printf 'image 1\npage 0\nbatch\nfill 1 0 8\nmove 0 8 8 flags 1\nend\nnoop\nshow 
         echo "page $page_number"
         page_number=$((page_number + 1))
     done
-    printf 'compare 0 0 1048576\nmove 0 64 8\ncompare 0 0 1048576\nshow 0 1\nbatch\ncompare 0 0 1048576\n'
-    printf 'compare 0 0 1048576 flags 1\nend\n'
+    printf 'compare 0 0 1048576\ncompare 0 0 1048576\nmove 0 64 8\ncompare 0 0 1048576\nshow 0 1\n'
+    printf 'batch\ncompare 0 0 1048576\ncompare 0 0 1048576\ncompare 0 0 1048576 flags 1\nend\n'
 } >"$work/workers.script"
 printf 'image 2\npage 0\nfill 1 2\n' >"$work/faulty.script"
 descriptor=000000000c000003000000000000000000100000000000000020000000000000

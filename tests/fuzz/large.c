@@ -3,7 +3,7 @@
 
 #include <string.h>
 
-enum { SLOT = 524288, SLOTS = 4, PAGES_OF_A_SLOT = SLOT / PAGE, LEAST_WIDE_LINES = 2 };
+enum { SLOT = 524288, SLOTS = 4, PAGES_OF_A_SLOT = SLOT / PAGE, LEAST_WIDE_LINES = 6 };
 
 static uint64_t lines_from(const struct text *script, size_t start) {
     uint64_t lines = 0;

@@ -2,12 +2,12 @@
 # How much memory an image takes: one of 4,096 pages with k of them present at most k pages and 128 KiB. Counted by
 # tests/held.c are the bytes that the allocator has given at the peak of the process, in dml_image's tests holds_K_pages,
 # over those in holds_no_image. The resident memory is no measure of it: it differs by 200 KiB from run to run. Works on
-# the binary that the gate leaves in crates/dml_image/out; `check` calls it. Needs a C compiler (CC, or cc) and the GNU
-# C library.
+# the binary that the gate leaves in crates/dml_image_tests/out; `check` calls it. Needs a C compiler (CC, or cc) and the
+# GNU C library.
 most_more=131072 # bytes above the present pages
 
 cd "$(dirname "$0")/.." || exit 2
-binary=crates/dml_image/out/dml_image_tests
+binary=crates/dml_image_tests/out/dml_image_tests_tests
 if [ ! -x "$binary" ]; then
     echo "image_memory: $binary is missing: run rt ci first" >&2
     exit 1

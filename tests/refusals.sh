@@ -150,7 +150,7 @@ wants_records() {
     printf 'refusals: %s: of the list of records alone the refusal is answered\n' "$1"
 }
 
-# library NAME: each of its tests named refused_*
+# library NAME: each of its tests named refused_*; those of a crate NAME_tests are keyed as NAME's
 library() {
     grep -rq '#\[test\]' "crates/$1/src" || return 0
     binary=crates/$1/out/$1_tests
@@ -161,7 +161,7 @@ library() {
     "$binary" --list >"$work/list" || complain "$binary --list fails"
     grep -q 'refused_' "$work/list" || printf 'refusals: %s: no test is named refused_*\n' "$1"
     for test in $(sed -n 's/^\([A-Za-z0-9_:]*refused_[A-Za-z0-9_]*\): test$/\1/p' "$work/list"); do
-        key=$1:${test##*:}
+        key=${1%_tests}:${test##*:}
         before=0
         if has_set_up "$key" "$test"; then
             before=$(growths "$binary" "$(set_up_of "$test")")

@@ -10,34 +10,45 @@ failed=0
 [ -x "$dmljob" ] || { echo "starts: $dmljob is missing: run rt ci first" >&2; exit 1; }
 "${CC:-cc}" -O2 -Wall -Wextra -Werror -shared -fPIC -o "$work/started.so" tests/started.c -ldl || exit 1
 
-# script JOBS: an image of 16 MiB of zeros, and so many compares of 1 MiB, which do not conflict
+# script FRONT SIZE LINKS: an image of 16 MiB of zeros, so many compares of a size, which do not conflict, and behind them
+# a chain of so many links, each a fill and a compare that conflict with all before them: each has a level of its own
 script() {
-    awk -v jobs="$1" 'BEGIN {
+    awk -v front="$1" -v size="$2" -v links="$3" 'BEGIN {
         print "image 4096"
         for (page = 0; page < 4096; page++) print "page " page
-        for (job = 0; job < jobs; job++) print "compare " job % 8 * 2097152 " " job % 8 * 2097152 + 1048576 " 1048576"
+        for (job = 0; job < front; job++) print "compare " job % 8 * 2097152 " " job % 8 * 2097152 + 1048576 " " size
+        for (link = 0; link < links; link++) print "fill 0 0 8\ncompare 0 1048576 " size
     }'
 }
 
-# counted WANTED JOBS WORKERS: one list of so many compares starts so many threads, and each compare finds no difference
+# counted WANTED WORKERS FRONT SIZE LINKS: one list of these starts so many threads, and no compare finds a difference
 counted() {
-    script "$2" >"$work/in"
-    STARTED_LOG=$work/log LD_PRELOAD=$work/started.so "$dmljob" run --workers "$3" --chunk 65536 <"$work/in" \
+    script "$3" "$4" "$5" >"$work/in"
+    STARTED_LOG=$work/log LD_PRELOAD=$work/started.so "$dmljob" run --workers "$2" --chunk 65536 <"$work/in" \
         >"$work/out" 2>&1
     status=$?
     started=$(cat "$work/log" 2>/dev/null)
-    equal=$(grep -c 'status 01 result 0 completed 1048576 ' "$work/out")
-    if [ "$status" -ne 0 ] || [ "$started" != "$1" ] || [ "$equal" -ne "$2" ]; then
-        echo "starts: $2 compares, $3 workers: status $status, $started threads started, not $1; $equal were equal" >&2
+    equal=$(grep -c "status 01 result 0 completed $4 " "$work/out")
+    if [ "$status" -ne 0 ] || [ "$started" != "$1" ] || [ "$equal" -ne "$(($3 + $5))" ]; then
+        echo "starts: $3 compares of $4 and $5 links, $2 workers: status $status, $started threads started, not $1;" \
+            "$equal were equal" >&2
         failed=1
     fi
 }
 
 # A worker pays for a mebibyte that is shared, the calling thread is one of them, and one worker starts none.
-counted 0 4 1
-counted 1 4 2
-counted 3 4 4
-counted 1 2 4
-counted 0 1 4
+counted 0 1 4 1048576 0
+counted 1 2 4 1048576 0
+counted 3 4 4 1048576 0
+counted 1 4 2 1048576 0
+counted 0 4 1 1048576 0
+# A second worker pays from a mebibyte and a half on, less 2 KiB for a task and 16 for a job.
+counted 1 4 34 65536 0
+counted 0 4 33 65536 0
+counted 3 4 1024 65536 0
+# A list whose levels share no mebibyte and a half, or too little to make up for the cut of all of them, starts none.
+counted 0 4 1 1048576 3
+counted 0 4 1 65536 511
+counted 0 4 34 65536 493
 [ "$failed" -eq 0 ] && echo "starts: each list started its workers"
 exit "$failed"

@@ -4,7 +4,8 @@
 # The gate counts an edit as refused also where only a proof written by hand stops fitting. So an edit in a function
 # that has proof files of its own has a control beside it, crates/CRATE/must-fail/EDIT.control.md: a rewrite of the same
 # place with the same meaning, by lines `file:`, `old:` and `new:` as in an edit; any other line is a remark. With it
-# `rt check` must still prove the crate: then it was the meaning that the edit was refused for.
+# `rt check` must still prove the crate: then it was the meaning that the edit was refused for. So has an EDIT.more.md,
+# which only tools/more_edits.sh tries.
 #
 # Each control is tried on a copy of the repository with the work that checks have kept, and nothing here is changed. A
 # line is printed for each, with its seconds, and last 'N controls proved, M not'. Status 0 only where all are proved.
@@ -57,8 +58,8 @@ tried() {
     name=$(basename "$2" .control.md)
     copied "$1" src specs proofs
     start=$(date +%s)
-    if [ ! -f "crates/$1/must-fail/$name.edit" ]; then
-        said="there is no edit $name.edit beside it"
+    if [ ! -f "crates/$1/must-fail/$name.edit" ] && [ ! -f "crates/$1/must-fail/$name.more.md" ]; then
+        said="there is no edit $name.edit or $name.more.md beside it"
     elif ! said=$(cd "$room/crates/$1" && rewritten "$top/$2"); then
         said="it cannot be applied: $said"
     elif (cd "$room/crates/$1" && rt check) >"$room/log" 2>&1; then

@@ -17,6 +17,3 @@ pub use faults::{Kind, ScriptError, ScriptFault, fault_text};
 pub use laws::law_of_first_fault;
 pub use lines::{Bytes, Line};
 pub use script::{MAX_SCRIPT, Script, ScriptLines, read_script};
-
-#[cfg(test)]
-mod tests;

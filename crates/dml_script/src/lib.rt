@@ -22,6 +22,3 @@ pub use running::{RunFault, run_script};
 pub use texts::{TextError, job_text, out_text, push_byte};
 pub use watching::Watched;
 pub use writing::write_answer;
-
-#[cfg(test)]
-mod tests;

@@ -2,7 +2,7 @@
 
 use super::streams::Paper;
 use super::{FILL, FILL_ANSWER, run_into};
-use crate::{Item, RunFault, Shown, TextError, job_text, out_text};
+use dml_script::{Item, RunFault, Shown, TextError, job_text, out_text};
 use dml_types::Job;
 use std::alloc::{AllocError, Global};
 use std::test::Fail;

@@ -1,7 +1,7 @@
 //! Readers and writers that fail, over more scripts: a batch, one with all kinds of lines, and one with a fault.
 
 use super::{BATCH, BATCH_ANSWER, expect_same, run_from, run_into};
-use crate::RunFault;
+use dml_script::RunFault;
 use std::alloc::Global;
 use std::io;
 use std::io::{ErrorKind, Read, Write};

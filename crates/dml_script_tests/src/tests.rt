@@ -7,7 +7,7 @@ mod refusals;
 mod streams;
 mod texts;
 
-use crate::{RunFault, Watched, run_script};
+use dml_script::{RunFault, Watched, run_script};
 use dml_types::Settings;
 use std::alloc::Global;
 use std::fmt::Debug;

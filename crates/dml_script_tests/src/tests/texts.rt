@@ -1,7 +1,9 @@
 //! The texts of answers, jobs and errors.
 
 use super::expect_same;
-use crate::{Item, Kind, RunFault, ScriptFault, Shown, TextError, job_text, out_text, push_byte};
+use dml_script::{
+    Item, Kind, RunFault, ScriptFault, Shown, TextError, job_text, out_text, push_byte,
+};
 use dml_types::{BatchRecord, Job, Record, Status};
 use std::alloc::{AllocError, Global};
 use std::fmt::Display;

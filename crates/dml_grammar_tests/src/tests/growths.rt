@@ -1,6 +1,6 @@
 //! A call whose growths of memory are refused: the next line of a script.
 
-use crate::{Line, ScriptLines, read_script};
+use dml_grammar::{Line, ScriptLines, read_script};
 use std::alloc::Global;
 use std::process::Abort;
 use std::test::Fail;

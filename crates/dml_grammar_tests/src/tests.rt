@@ -2,7 +2,9 @@
 
 mod growths;
 
-use super::*;
+use dml_grammar::{
+    Kind, Line, MAX_SCRIPT, Script, ScriptError, ScriptFault, fault_text, read_script,
+};
 use std::alloc::{AllocError, Global};
 use std::process::Abort;
 use std::test::Fail;

@@ -1,6 +1,6 @@
 //! More calls whose growths of memory are refused: the lines of a job and of a batch.
 
-use crate::{Item, TextError, out_text, push_byte};
+use dml_script::{Item, TextError, out_text, push_byte};
 use dml_types::{BatchRecord, Record, Status};
 use std::alloc::Global;
 use std::process::Abort;

@@ -1,7 +1,7 @@
 //! Readers and writers that give, take and fail as told.
 
 use super::{BATCH, BATCH_ANSWER, FILL, FILL_ANSWER, expect_same, run_from, run_into};
-use crate::{RunFault, Watched};
+use dml_script::{RunFault, Watched};
 use std::alloc::Global;
 use std::io;
 use std::io::{ErrorKind, Read, Write};

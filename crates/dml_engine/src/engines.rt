@@ -89,22 +89,10 @@ impl<G: Drop> Engine<G> {
         ensures settings { result.settings ≡ self.entry.settings }
         ensures watched { result.watched ≡ true }
     {
-        let mut engine = self.with_quiet_gate(gate);
-        engine.watched = true;
-        engine
-    }
-
-    /// The same with a gate that is to see no more than the work that pays for workers.
-    pub(crate) fn with_quiet_gate<H>(self, gate: H) -> Engine<H>
-        ensures image { result.image ≡ self.entry.image }
-        ensures settings { result.settings ≡ self.entry.settings }
-        ensures watched { result.watched ≡ self.entry.watched }
-    {
         let Engine {
             image,
             arena,
             settings,
-            watched,
             ..
         } = self;
         Engine {
@@ -112,7 +100,7 @@ impl<G: Drop> Engine<G> {
             arena,
             settings,
             gate,
-            watched,
+            watched: true,
         }
     }
 

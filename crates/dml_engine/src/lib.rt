@@ -14,6 +14,3 @@ mod submitting;
 pub use dml_resume::law_resume;
 pub use engines::Engine;
 pub use errors::{EngineError, SubmitError};
-
-#[cfg(test)]
-mod tests;

@@ -1,7 +1,7 @@
 //! Gates that hold the workers of an engine.
 
-use super::{USUAL, answer, engine_with, expect_made, full_image};
-use crate::{Engine, SubmitError};
+use super::{USUAL, answer, engine_with, expect_made};
+use dml_engine::{Engine, SubmitError};
 use dml_pool::Gate;
 use dml_types::{Job, Record, Settings, Status};
 use std::alloc::Global;
@@ -262,44 +262,6 @@ fn waves_of_one_task_enter(rt: HostRuntime) -> Result<(), Fail> {
     let jobs = [Job::fill(1, 0, 8), Job::fill(2, 0, 8)];
     let entered = entered(&rt, rt.alloc(), &jobs)?;
     assert_eq!(rt; entered, (0x2, 0));
-    Ok(())
-}
-
-/// An engine with its first mebibyte present, whose gate is to see no more than the work that pays for workers.
-fn quiet_engine<'c, C: Clock>(
-    alloc: Global,
-    gate: Meeting<'c, C>,
-) -> Option<Engine<Meeting<'c, C>>> {
-    let image = full_image(alloc, 256, 0)?;
-    let settings = Settings {
-        chunk: 1_048_576,
-        ..USUAL
-    };
-    let engine = Engine::new(alloc, image, settings).ok()?;
-    Some(engine.with_quiet_gate(gate))
-}
-
-/// Three compares of a mebibyte start three workers, though no gate asks for it: each task waits for all of them.
-#[test]
-fn large_compares_start_workers(rt: HostRuntime) -> Result<(), Fail> {
-    let counts = Counts::new();
-    let gate = counts.gate(&rt, ALL_ONCE);
-    let mut engine = quiet_engine(rt.alloc(), gate).ok_or("no memory")?;
-    let records = engine.submit_list(&rt, rt.alloc(), &[Job::compare(0, 0, 1_048_576); 3])?;
-    let done = answer(Status::Success, 0, 1_048_576, 0);
-    assert_eq!(rt; records.as_slice(), [done; 3].as_slice());
-    assert_eq!(rt; counts.both(), (ALL_ONCE, 0));
-    Ok(())
-}
-
-/// Small jobs start none: no task enters the gate.
-#[test]
-fn small_jobs_start_no_worker(rt: HostRuntime) -> Result<(), Fail> {
-    let counts = Counts::new();
-    let gate = counts.gate(&rt, 0);
-    let mut engine = quiet_engine(rt.alloc(), gate).ok_or("no memory")?;
-    engine.submit_list(&rt, rt.alloc(), &small_jobs())?;
-    assert_eq!(rt; counts.both(), (0, 0));
     Ok(())
 }
 

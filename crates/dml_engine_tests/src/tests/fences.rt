@@ -4,7 +4,7 @@ use super::rows::{
     self, expect_as_list, expect_bytes, expect_own, expect_records, plain_row, settings, with_given,
 };
 use super::{USUAL, answer, engine_with};
-use crate::Engine;
+use dml_engine::Engine;
 use dml_pool::Free;
 use dml_types::{Job, Record, Status};
 use std::alloc::Global;

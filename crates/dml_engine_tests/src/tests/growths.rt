@@ -5,7 +5,7 @@ use super::{
     USUAL, answer, engine, engine_with, expect_at, expect_made, expect_nothing, made_and_dropped,
     no_records, page_of,
 };
-use crate::Engine;
+use dml_engine::Engine;
 use dml_image::ImageError;
 use dml_pool::Free;
 use dml_types::{Job, Record, Settings, Status};

@@ -2,7 +2,7 @@
 //! many settings, all with the same answers.
 
 use super::{USUAL, answer, put};
-use crate::Engine;
+use dml_engine::Engine;
 use dml_image::Image;
 use dml_pool::Free;
 use dml_types::{BatchRecord, Job, Record, Settings, Status};

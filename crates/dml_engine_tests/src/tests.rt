@@ -4,13 +4,12 @@ mod fences;
 mod gates;
 mod growths;
 mod lists;
-mod loads;
 mod operations;
 mod refusals;
 mod resuming;
 mod rows;
 
-use crate::{Engine, EngineError, SubmitError};
+use dml_engine::{Engine, EngineError, SubmitError};
 use dml_image::Image;
 use dml_types::{Direction, Job, Record, Settings, Status};
 use std::alloc::{AllocError, Global};

@@ -5,7 +5,7 @@ use super::{
     USUAL, answer, engine, engine_with, expect_at, expect_nothing, full_image, made_and_dropped,
     no_records,
 };
-use crate::{Engine, EngineError};
+use dml_engine::{Engine, EngineError};
 use dml_pool::Free;
 use dml_types::{Job, Record, Settings, Status};
 use std::alloc::Global;

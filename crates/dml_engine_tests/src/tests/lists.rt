@@ -2,7 +2,7 @@
 
 use super::rows::{Row, expect, expect_as_list, plain_row};
 use super::{USUAL, answer, engine, full_image};
-use crate::{Engine, SubmitError};
+use dml_engine::{Engine, SubmitError};
 use dml_image::Image;
 use dml_types::{Job, Record, Settings, Status};
 use std::alloc::Global;

@@ -3,8 +3,8 @@
 
 use super::rows::{expect_bytes, settings, with_given};
 use super::{USUAL, answer, engine_with, expect_at, full_image, page_of};
-use crate::Engine;
 use dml_desc::rest;
+use dml_engine::Engine;
 use dml_image::Image;
 use dml_types::{Job, Record, Settings, Status};
 use std::alloc::Global;

@@ -18,6 +18,3 @@ mod worker;
 pub use gate::{Free, Gate};
 pub use tasks::{Outcome, Piece, Task};
 pub use wave::{PoolError, run_wave, run_wave_into_slots};
-
-#[cfg(test)]
-mod tests;

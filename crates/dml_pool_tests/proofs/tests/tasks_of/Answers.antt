@@ -3,7 +3,7 @@ use Rattle.std.specs.List.{All}
 use Rattle.std.proofs.lemmas.List.Elements.{All-push}
 use Rattle.dml_pool.specs.declared.tasks.Task.{Task}
 use Rattle.dml_pool.specs.Tasks.{IsRunnable}
-use Rattle.dml_pool.proofs.tests.tasks_of.Goals as goal
+use Rattle.dml_pool_tests.proofs.tests.tasks_of.Goals as goal
 
 pub loop-job-preserved : goal.loop-job-preserved
 loop-job-preserved g c =

@@ -1,7 +1,7 @@
 use Rattle.std.proofs.Common.{◌≡◌, length, vec_len, vec_capacity}
 use Rattle.std.specs.List.{All}
 use Rattle.dml_pool.specs.Tasks.{IsRunnable}
-use Rattle.dml_pool.proofs.tests.tasks_of.Given as goal
+use Rattle.dml_pool_tests.proofs.tests.tasks_of.Given as goal
 
 abbrev pub invariant-loop-job : goal.invariant-loop-job
 invariant-loop-job g l =

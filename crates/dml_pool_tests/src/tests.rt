@@ -4,10 +4,10 @@ ghost use Rattle.std.specs.List.{All};
 ghost use Rattle.dml_desc.specs.Checked.{operation_of};
 ghost use Rattle.dml_pool.specs.Tasks.{IsRunnable, units, room_for};
 
-use crate::{Free, Gate, Outcome, Piece, PoolError, Task, run_wave, run_wave_into_slots};
 use dml_arena::{Arena, Region};
 use dml_desc::{Checked, check};
 use dml_image::{Image, ImageError};
+use dml_pool::{Free, Gate, Outcome, Piece, PoolError, Task, run_wave, run_wave_into_slots};
 use dml_scan::Found;
 use dml_types::{Job, Op};
 use std::alloc::{AllocError, Global};

@@ -15,6 +15,3 @@ pub use errors::{StepFault, WorldError};
 pub use laws::{law_of_core, law_of_rounds};
 pub use values::{Fetched, Step, Task};
 pub use worlds::World;
-
-#[cfg(test)]
-mod tests;

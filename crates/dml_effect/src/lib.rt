@@ -5,25 +5,13 @@
 //! nothing need no arena: [`carry_out_straight`] and [`submit_straight_to`].
 #![tactic(auto)]
 
-#[cfg(test)]
-mod apply_tests;
 mod applying;
 mod carrying;
-#[cfg(test)]
-mod compare_tests;
-#[cfg(test)]
-mod create_tests;
 mod creating;
 mod effects;
 mod joining;
 mod lending;
 mod records;
-#[cfg(test)]
-mod resume_tests;
-#[cfg(test)]
-mod tests;
-#[cfg(test)]
-mod uses;
 
 pub use applying::join_apply;
 pub use carrying::{

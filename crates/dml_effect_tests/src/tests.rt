@@ -4,9 +4,9 @@ ghost use Rattle.dml_image.specs.Kept.{lent_memory};
 ghost use Rattle.dml_effect.specs.Straight.{TakesStaging};
 
 use crate::uses::moved_in_two;
-use crate::{are_pages, commit, submit_over, submit_straight_to, submit_to, takes_staging};
 use dml_arena::Arena;
 use dml_desc::check;
+use dml_effect::{are_pages, commit, submit_over, submit_straight_to, submit_to, takes_staging};
 use dml_image::{Image, ImageError, Lent};
 use dml_types::{Direction, Job, Op, Record, Status};
 use std::alloc::Global;
@@ -267,7 +267,7 @@ fn pages_that_can_be_lent(rt: HostRuntime) -> Result<(), Fail> {
         (16_777_217, false),
         (16_781_312, false),
     ] {
-        assert_eq!(rt; bytes.get(..len).map(are_pages), Some(is_lent));
+        assert_eq!(rt; bytes.get(..len).map(|part| are_pages(part)), Some(is_lent));
     }
     Ok(())
 }

@@ -1,8 +1,8 @@
 use crate::tests::{expect_chunked, image_with, poke, shows};
 use crate::uses::created_in_chunks;
-use crate::{commit, submit_to};
 use dml_arena::Arena;
 use dml_desc::check;
+use dml_effect::{commit, submit_to};
 use dml_image::Image;
 use dml_types::{Job, Op, Record, Status};
 use std::alloc::Global;

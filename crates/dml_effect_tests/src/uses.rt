@@ -11,13 +11,10 @@ ghost use Rattle.dml_arena.specs.Piece.{SamePlace};
 ghost use Rattle.dml_desc.specs.Checked.{checked_effect, checked_step};
 ghost use Rattle.dml_effect.specs.Effects.{are_present, some_puts};
 
-use crate::applying::join_apply;
-use crate::creating::join_create;
-use crate::effects::Effect;
-use crate::joining::join_found;
 use dml_arena::Region;
 use dml_delta::{scan_apply, scan_create};
 use dml_desc::Checked;
+use dml_effect::{Effect, join_apply, join_create, join_found};
 use dml_image::Image;
 use dml_scan::{ScanPiece, scan_compare, scan_compare_pattern, scan_move};
 use dml_types::Op;

@@ -1,6 +1,6 @@
 use Rattle.std.proofs.Common.{◌≡◌, [], Option, None, Some, refl, ◌∙◌, arith}
 use Rattle.dml_delta.specs.declared.applies.ApplyPiece.{ApplyPiece}
-use Rattle.dml_effect.proofs.uses.applied_in_none.Goals as goal
+use Rattle.dml_effect_tests.proofs.uses.applied_in_none.Goals as goal
 
 pub join_apply-requires : goal.join_apply-requires
 join_apply-requires c =

@@ -1,7 +1,7 @@
 use Rattle.std.proofs.Common.{◌≡◌, ◌-◌, ◌≤◌, []}
 use Rattle.dml_effect.specs.Chunks.{IsScanFrom}
 use Rattle.dml_effect.proofs.ChunkListLemmas.{AreChunksBefore}
-use Rattle.dml_effect.proofs.uses.compared_in_chunks.Given as goal
+use Rattle.dml_effect_tests.proofs.uses.compared_in_chunks.Given as goal
 
 abbrev pub invariant-loop-from : goal.invariant-loop-from
 invariant-loop-from l = record {

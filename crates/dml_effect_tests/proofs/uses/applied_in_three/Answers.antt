@@ -4,7 +4,7 @@ use Rattle.dml_types.specs.declared.jobs.Job.{Job}
 use Rattle.dml_effect.specs.Chunks.{IsApplyFrom}
 use Rattle.dml_effect.proofs.ApplyChunkLemmas.{scanned_value}
 use Rattle.dml_effect.proofs.JoinLemmas.{array_yields}
-use Rattle.dml_effect.proofs.uses.applied_in_three.Goals as goal
+use Rattle.dml_effect_tests.proofs.uses.applied_in_three.Goals as goal
 
 pub join_apply-requires : goal.join_apply-requires
 join_apply-requires c =

@@ -8,7 +8,7 @@ use Rattle.dml_types.specs.Chunk.{scan_found, scan_staged}
 use Rattle.dml_scan.specs.declared.scans.ScanPiece.{ScanPiece}
 use Rattle.dml_effect.specs.Chunks.{AreChunksFrom, IsBehind, IsScanFrom, GoesByOffsets, scan_size}
 use Rattle.dml_effect.proofs.ChunkListLemmas.{AreChunksBefore, all_chunks, one_more}
-use Rattle.dml_effect.proofs.uses.compared_in_chunks.Goals as goal
+use Rattle.dml_effect_tests.proofs.uses.compared_in_chunks.Goals as goal
 
 is_scanned : (job : Job) → (op_of job ≡ Some Compare) ⊎ (op_of job ≡ Some ComparePattern) → GoesByOffsets job
 is_scanned job one = (

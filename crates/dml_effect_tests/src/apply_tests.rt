@@ -1,4 +1,3 @@
-use crate::commit;
 use crate::tests::{
     carried_over, expect_chunked, expect_record, expect_submitted, image_with, poke, record, shows,
     write_over,
@@ -6,6 +5,7 @@ use crate::tests::{
 use crate::uses::{applied_in_none, applied_in_three};
 use dml_arena::Arena;
 use dml_desc::check;
+use dml_effect::commit;
 use dml_image::{Image, ImageError};
 use dml_types::{Job, Op, Record, Status};
 use std::alloc::Global;

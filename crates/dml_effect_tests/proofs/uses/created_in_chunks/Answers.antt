@@ -5,7 +5,7 @@ use Rattle.dml_types.specs.Chunk.{create_fault, create_staged}
 use Rattle.dml_delta.specs.declared.creates.CreatePiece.{CreatePiece}
 use Rattle.dml_effect.specs.Chunks.{AreChunksFrom, IsBehind, IsCreateFrom}
 use Rattle.dml_effect.proofs.ChunkListLemmas.{AreChunksBefore, all_chunks, one_more}
-use Rattle.dml_effect.proofs.uses.created_in_chunks.Goals as goal
+use Rattle.dml_effect_tests.proofs.uses.created_in_chunks.Goals as goal
 
 pub loop-from-preserved : goal.loop-from-preserved
 loop-from-preserved c =

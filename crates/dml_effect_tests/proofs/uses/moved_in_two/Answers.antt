@@ -2,7 +2,7 @@ use Rattle.std.proofs.Common.{◌≡◌, [], ◌∷◌, refl, ◌∙◌, ap, ari
 use Rattle.std.specs.Array.Iter.{array_into_iter_items}
 use Rattle.dml_types.specs.declared.operations.Op.TheVariants.{Move}
 use Rattle.dml_effect.proofs.JoinLemmas.{array_yields}
-use Rattle.dml_effect.proofs.uses.moved_in_two.Goals as goal
+use Rattle.dml_effect_tests.proofs.uses.moved_in_two.Goals as goal
 
 pub join_found-requires : goal.join_found-requires
 join_found-requires c =

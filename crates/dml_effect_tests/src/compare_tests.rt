@@ -1,8 +1,8 @@
-use crate::commit;
 use crate::tests::{expect_chunked, expect_submitted, image_with, poke, record};
 use crate::uses::compared_in_chunks;
 use dml_arena::Arena;
 use dml_desc::check;
+use dml_effect::commit;
 use dml_image::Image;
 use dml_types::{Job, Op, Record, Status};
 use std::alloc::Global;

@@ -14,7 +14,6 @@ pub mod DeltaFrames
 pub mod CommuteLemmas
 pub mod LawLemmas
 pub mod FillingLemmas
-pub mod TestLemmas
 pub mod WaveFacts
 pub mod FenceLaws
 pub mod FenceLemmas

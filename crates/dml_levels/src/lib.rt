@@ -29,6 +29,3 @@ pub use tasks::task_count;
 pub use touched::Touches;
 pub use touching::touches;
 pub use waving::waves;
-
-#[cfg(test)]
-mod tests;

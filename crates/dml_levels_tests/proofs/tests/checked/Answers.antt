@@ -1,8 +1,8 @@
 use Rattle.std.proofs.Common.{◌≤◌, All, is_ok, subst, sym}
 use Rattle.dml_types.specs.declared.jobs.Job.{Job}
 use Rattle.dml_types.specs.Refusal.{need}
-use Rattle.dml_levels.proofs.TestLemmas.{checked_need, needs_push}
-use Rattle.dml_levels.proofs.tests.checked.Goals as goal
+use Rattle.dml_levels_tests.proofs.TestLemmas.{checked_need, needs_push}
+use Rattle.dml_levels_tests.proofs.tests.checked.Goals as goal
 
 pub loop-job-preserved : goal.loop-job-preserved
 loop-job-preserved c =

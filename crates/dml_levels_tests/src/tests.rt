@@ -3,8 +3,8 @@ ghost use Rattle.dml_types.specs.Refusal.{need};
 
 mod growths;
 
-use crate::{LevelError, Wave, conflict, levels, task_count, touches, waves};
 use dml_desc::{Checked, check, check_in_batch};
+use dml_levels::{LevelError, Wave, conflict, levels, task_count, touches, waves};
 use dml_types::{Job, Span, Status};
 use std::alloc::Global;
 use std::process::Abort;

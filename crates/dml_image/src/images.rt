@@ -288,6 +288,3 @@ impl fmt::Debug for Image<'_> {
             .finish_non_exhaustive()
     }
 }
-
-#[cfg(test)]
-mod tests;

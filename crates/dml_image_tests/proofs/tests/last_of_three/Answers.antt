@@ -1,5 +1,5 @@
 use Rattle.dml_image.proofs.LentLemmas.{last_kept}
-use Rattle.dml_image.proofs.images.tests.last_of_three.Goals as goal
+use Rattle.dml_image_tests.proofs.tests.last_of_three.Goals as goal
 
 pub returns : goal.returns
 returns c = record {

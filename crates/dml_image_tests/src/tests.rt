@@ -2,9 +2,7 @@ ghost use Rattle.std.specs.Prelude.{◌≡◌, replicate};
 ghost use Rattle.dml_types.specs.Memory.{IsMemory};
 ghost use Rattle.dml_image.specs.Kept.{lent_memory};
 
-use super::Image;
-use crate::errors::ImageError;
-use crate::lent::Lent;
+use dml_image::{Image, ImageError, Lent};
 use dml_types::Direction;
 use std::alloc::Global;
 use std::process::Abort;
@@ -344,7 +342,7 @@ fn moves_inside_own_pages(rt: HostRuntime) -> Result<(), Fail> {
 }
 
 /// Three pages of a caller's, all present.
-#[tactic(auto, using(crate::proofs::LentLemmas::all_kept))]
+#[tactic(auto, using(dml_image::proofs::LentLemmas::all_kept))]
 fn three_pages(content: &mut [u8; 12_288]) -> Lent<'_>
     ensures memory { IsMemory (lent_memory result) }
 {

@@ -17,6 +17,3 @@ pub use reach::{dualcast_found, fill_found, move_found, work_direction};
 pub use scans::{
     ScanPiece, scan_compare, scan_compare_pattern, scan_dualcast, scan_fill, scan_move,
 };
-
-#[cfg(test)]
-mod tests;

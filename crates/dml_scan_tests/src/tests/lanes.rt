@@ -1,8 +1,8 @@
 //! Each kernel at every length up to 130 and every place of the first difference, at the edge of a page.
 use super::{STAGING, found_of, read_fault};
-use crate::Found;
 use dml_arena::Arena;
 use dml_image::{Image, ImageError};
+use dml_scan::Found;
 use dml_types::Job;
 use std::alloc::Global;
 use std::test::Fail;

@@ -1,9 +1,9 @@
 //! Compares against what each byte alone says, and worked rows at chunks of several sizes.
 use super::{PLACES, STAGING, expect_piece, expect_pieces, found_of, piece_of, read_fault};
-use crate::Found;
 use dml_arena::Arena;
 use dml_desc::check;
 use dml_image::{Image, ImageError};
+use dml_scan::Found;
 use dml_types::Job;
 use std::alloc::Global;
 use std::process::Abort;

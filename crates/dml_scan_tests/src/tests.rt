@@ -1,11 +1,11 @@
 //! Pieces of many chunks against what each byte alone says, and the stops of worked jobs.
-use crate::{
-    Found, ScanPiece, scan_compare, scan_compare_pattern, scan_dualcast, scan_fill, scan_move,
-    work_direction,
-};
 use dml_arena::{Arena, Region};
 use dml_desc::{Checked, check};
 use dml_image::{Image, ImageError};
+use dml_scan::{
+    Found, ScanPiece, scan_compare, scan_compare_pattern, scan_dualcast, scan_fill, scan_move,
+    work_direction,
+};
 use dml_types::{Direction, Job, Op};
 use std::alloc::Global;
 use std::process::Abort;

@@ -21,10 +21,3 @@ pub use encoding::{decode_record, encode, law_of_encoding};
 pub use laws::{law_of_checked_jobs, law_of_descriptors, law_of_records};
 pub use refusal_laws::law_of_refusals;
 pub use resuming::rest;
-
-#[cfg(test)]
-mod encoding_tests;
-#[cfg(test)]
-mod resuming_tests;
-#[cfg(test)]
-mod tests;

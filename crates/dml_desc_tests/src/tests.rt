@@ -1,5 +1,5 @@
-use crate::{batch_bytes, check, check_in_batch, decode, need, record_bytes};
 use byteorder::{ByteOrder, LittleEndian};
+use dml_desc::{batch_bytes, check, check_in_batch, decode, need, record_bytes};
 use dml_types::{BatchRecord, Job, Op, Record, Status};
 use hex::FromHex;
 use std::process::Abort;

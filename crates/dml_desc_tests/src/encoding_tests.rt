@@ -1,4 +1,4 @@
-use crate::{decode, decode_record, encode, record_bytes};
+use dml_desc::{decode, decode_record, encode, record_bytes};
 use dml_types::{Job, Record, Status};
 use hex::FromHex;
 use std::test::Fail;

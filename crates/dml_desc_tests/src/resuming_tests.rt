@@ -1,4 +1,4 @@
-use crate::rest;
+use dml_desc::rest;
 use dml_types::{Job, Record, Status};
 use std::process::Abort;
 

@@ -13,6 +13,3 @@ mod record;
 
 pub use applies::{ApplyPiece, BadEntry, scan_apply};
 pub use creates::{CreatePiece, scan_create};
-
-#[cfg(test)]
-mod tests;

@@ -1,6 +1,6 @@
 //! Pieces of chunks: those of worked jobs, and those of many others against what each byte alone says.
-use crate::{ApplyPiece, BadEntry, CreatePiece, scan_apply, scan_create};
 use dml_arena::Arena;
+use dml_delta::{ApplyPiece, BadEntry, CreatePiece, scan_apply, scan_create};
 use dml_desc::check;
 use dml_image::{Image, ImageError};
 use dml_types::{Job, Op, Status};

@@ -10,6 +10,3 @@ mod words;
 pub use refusals::LineRefusal;
 pub use requests::{Request, parse_arguments, parse_words, read_request, request_of};
 pub use words::{Line, command_of};
-
-#[cfg(test)]
-mod tests;

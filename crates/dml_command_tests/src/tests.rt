@@ -1,9 +1,7 @@
 mod growths;
 
-use crate::refusals::LineRefusal;
-use crate::requests::{Request, request_of};
-use crate::words::{Line, command_of};
 use clap::error::{Error, ErrorKind};
+use dml_command::{Line, LineRefusal, Request, command_of, request_of};
 use dml_types::Settings;
 use std::process::Abort;
 use std::test::Fail;

@@ -1,7 +1,6 @@
 //! More calls whose growths of memory are refused: those that read and judge a whole command line.
 
-use crate::refusals::LineRefusal;
-use crate::requests::{Request, parse_arguments, parse_words, read_request};
+use dml_command::{LineRefusal, Request, parse_arguments, parse_words, read_request};
 use dml_types::Settings;
 use std::alloc::{AllocError, Global};
 use std::process::Abort;

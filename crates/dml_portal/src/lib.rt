@@ -19,6 +19,3 @@ pub use opening::Portal;
 pub use seats::{Done, Seat};
 pub use servers::Server;
 pub use settling::Settled;
-
-#[cfg(test)]
-mod tests;

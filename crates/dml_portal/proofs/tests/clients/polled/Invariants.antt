@@ -1,5 +1,0 @@
-use Rattle.dml_portal.specs.Seats.{IsSameSeat}
-use Rattle.dml_portal.proofs.tests.clients.polled.Given as goal
-
-abbrev pub invariant-loop : goal.invariant-loop
-invariant-loop g l = IsSameSeat l.fn.seat l.seat

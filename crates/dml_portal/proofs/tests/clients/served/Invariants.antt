@@ -1,5 +1,0 @@
-use Rattle.dml_portal.specs.Lanes.{AreSameLanes}
-use Rattle.dml_portal.proofs.tests.clients.served.Given as goal
-
-abbrev pub invariant-loop : goal.invariant-loop
-invariant-loop g l = AreSameLanes l.fn.server.lanes.items l.server.lanes.items

@@ -1,0 +1,301 @@
+//! Calls whose growths of memory are refused.
+ghost use Rattle.std.specs.Prelude.{◌≡◌, ◌≤◌, [], IfSome, vec_capacity};
+ghost use Rattle.dml_portal.specs.Settled.{AreSeatsOf};
+
+use super::portals::{One, Two};
+use super::{done, engine, expect_bytes};
+use dml_engine::Engine;
+use dml_image::Image;
+use dml_pool::Free;
+use dml_portal::{Done, LogEntry, Portal, PortalError, Seat, Server, SettleFault, Settled};
+use dml_types::{Job, Record};
+use std::alloc::Global;
+use std::process::Abort;
+use std::sync::Wait;
+use std::test::Fail;
+use std::thread::Threads;
+
+/// What the jobs of a portal below leave of its page.
+const BYTES: [(u64, u8); 6] = [(0, 1), (15, 1), (16, 0), (64, 2), (71, 2), (72, 0)];
+
+// The refused_* below hold whichever growth is refused: they are also run with each refused in turn, from the first one
+// behind those that their set-up takes.
+
+/// An engine over an image of one page of sevens.
+fn engine_of_sevens(alloc: Global) -> Option<Engine> {
+    let mut engine = engine(alloc)?;
+    engine.bring(0, &[7; 4096]).ok()?;
+    Some(engine)
+}
+
+/// What `refused_open` does before its call.
+#[test]
+fn set_up_of_open(rt: HostRuntime) -> Result<(), Fail> {
+    let engine = engine_of_sevens(rt.alloc()).ok_or("no memory")?;
+    let dones = Vec::<Done>::with_capacity(rt.alloc(), 2)?;
+    assert!(rt; dones.is_empty());
+    assert_eq!(rt; engine.image().byte(4095), Some(7));
+    Ok(())
+}
+
+/// These are the seats of the first two clients.
+fn expect_two_seats(rt: &impl Abort, seats: &[Seat]) {
+    assert_eq!(rt; seats.len(), 2);
+    for (i, seat) in seats.iter().enumerate() {
+        assert_eq!(rt; seat.client() as usize, i);
+    }
+}
+
+/// The image of one page of sevens, as it was.
+fn expect_sevens(rt: &impl Abort, image: &Image) {
+    assert_eq!(rt; (image.pages(), image.byte(4095)), (1, Some(7)));
+}
+
+/// A server and a seat for each client, or the engine as it was.
+#[test]
+fn refused_open(rt: HostRuntime) -> Result<(), Fail> {
+    let engine = engine_of_sevens(rt.alloc()).ok_or("no memory")?;
+    let settings = engine.settings();
+    let dones = Vec::with_capacity(rt.alloc(), 2)?;
+    match Portal::open(rt.alloc(), engine, 2, 4) {
+        Ok((server, seats)) => {
+            expect_two_seats(&rt, seats.as_slice());
+            let portal = Two::of(server, seats).ok_or("no seats")?;
+            let settled = portal
+                .settle_into(&rt, rt.alloc(), dones)
+                .ok_or("not settled")?;
+            assert_eq!(rt; settled.log.list.len(), 0);
+            expect_sevens(&rt, &settled.image);
+        }
+        Err((engine, error)) => {
+            assert_eq!(rt; error, PortalError::NoMemory);
+            assert_eq!(rt; engine.settings(), settings);
+            expect_sevens(&rt, engine.image());
+        }
+    }
+    Ok(())
+}
+
+/// Two clients of a portal submit: the first two jobs, the second one. The first job looks at the bytes that the next
+/// one writes, so its record tells whether they were written before.
+fn three_submitted(portal: Two) -> Option<Two> {
+    let mut portal = portal;
+    portal.submit_first(Job::compare_pattern(0, 0, 16)).ok()?;
+    portal
+        .submit_first(Job::fill(0x0101_0101_0101_0101, 0, 16))
+        .ok()?;
+    portal
+        .submit_second(Job::fill(0x0202_0202_0202_0202, 64, 8))
+        .ok()?;
+    Some(portal)
+}
+
+/// A portal of two clients whose lists all go to workers, which have submitted three jobs.
+fn submitted_first(alloc: Global) -> Option<Two> {
+    three_submitted(Two::open(alloc, engine(alloc)?.with_gate(Free), 4)?)
+}
+
+/// The same behind a round, from which an entry stands in the log.
+fn submitted(rt: &(impl Threads + Wait + Sync), alloc: Global) -> Option<Two> {
+    let mut portal = Two::open(alloc, engine(alloc)?.with_gate(Free), 4)?;
+    portal.submit_second(Job::no_op()).ok()?;
+    if portal.serve(rt, alloc).ok()? != 1 {
+        return None;
+    }
+    three_submitted(portal)
+}
+
+/// What `refused_serve_round` does before its call.
+#[test]
+fn set_up_of_serve_round(rt: HostRuntime) -> Result<(), Fail> {
+    let mut portal = submitted(&rt, rt.alloc()).ok_or("no memory")?;
+    let dones = Vec::<Done>::with_capacity(rt.alloc(), 2)?;
+    assert!(rt; dones.is_empty());
+    portal.expect_polled(&rt, &[], &[done(0)]);
+    Ok(())
+}
+
+/// A round is served; where it is refused nothing was fetched, and the next one is served.
+fn serve_at_last<R: Abort + Threads + Wait + Sync>(rt: &R, alloc: Global, portal: &mut Two) {
+    if let Err(error) = portal.serve(rt, alloc) {
+        assert_eq!(rt; error, PortalError::NoMemory);
+        portal.expect_polled(rt, &[], &[]);
+        assert_eq!(rt; portal.serve(rt, alloc), Ok(3));
+    }
+}
+
+/// The log has the three jobs of a round behind so many entries, and the image what they wrote.
+fn expect_carried_out(rt: &impl Abort, settled: &Settled, earlier: usize) {
+    let log = settled.log.list.as_slice();
+    assert_eq!(rt; log.len().checked_sub(earlier), Some(3));
+    for (entry, client) in log.iter().skip(earlier).zip([0, 0, 1]) {
+        assert_eq!(rt; entry.client, client);
+    }
+    expect_bytes(rt, &settled.image, &BYTES);
+}
+
+/// A round behind these records of the second client: each client's jobs are carried out, or nothing was fetched, and
+/// the next round does it. The portal is then settled with a list that has room for both seats.
+fn expect_round<R: Abort + Threads + Wait + Sync>(
+    rt: &R,
+    alloc: Global,
+    portal: Two,
+    earlier: &[Record],
+    dones: Vec<Done>,
+) -> Result<(), Fail>
+    requires empty { dones.items ≡ [] }
+    requires room { 2 ≤ vec_capacity dones }
+{
+    let mut portal = portal;
+    portal.expect_polled(rt, &[], earlier);
+    serve_at_last(rt, alloc, &mut portal);
+    portal.expect_polled(rt, &[done(16), done(16)], &[done(8)]);
+    let settled = portal.settle_into(rt, alloc, dones).ok_or("not settled")?;
+    expect_carried_out(rt, &settled, earlier.len());
+    Ok(())
+}
+
+#[test]
+fn refused_serve_round(rt: HostRuntime) -> Result<(), Fail> {
+    let portal = submitted(&rt, rt.alloc()).ok_or("no memory")?;
+    let dones = Vec::with_capacity(rt.alloc(), 2)?;
+    expect_round(&rt, rt.alloc(), portal, &[done(0)], dones)
+}
+
+/// What `refused_first_round` does before its call.
+#[test]
+fn set_up_of_first_round(rt: HostRuntime) -> Result<(), Fail> {
+    let mut portal = submitted_first(rt.alloc()).ok_or("no memory")?;
+    let dones = Vec::<Done>::with_capacity(rt.alloc(), 2)?;
+    assert!(rt; dones.is_empty());
+    portal.expect_polled(&rt, &[], &[]);
+    Ok(())
+}
+
+/// A portal's first round takes the memory of its lists too.
+#[test]
+fn refused_first_round(rt: HostRuntime) -> Result<(), Fail> {
+    let portal = submitted_first(rt.alloc()).ok_or("no memory")?;
+    let dones = Vec::with_capacity(rt.alloc(), 2)?;
+    expect_round(&rt, rt.alloc(), portal, &[], dones)
+}
+
+/// The same portal with all its clients finished.
+fn finished(rt: &(impl Threads + Wait + Sync), alloc: Global) -> Option<(Server<Free>, Vec<Done>)>
+    ensures { IfSome result (λ portal. AreSeatsOf portal.0.lanes.items portal.1.items) }
+{
+    let Two {
+        server,
+        first,
+        second,
+    } = submitted(rt, alloc)?;
+    let dones = vec![in alloc; first.finish(), second.finish()].ok()?;
+    Some((server, dones))
+}
+
+/// What `refused_settle` does before its call.
+#[test]
+fn set_up_of_settle(rt: HostRuntime) -> Result<(), Fail> {
+    let (_server, dones) = finished(&rt, rt.alloc()).ok_or("no memory")?;
+    assert_eq!(rt; dones.len(), 2);
+    Ok(())
+}
+
+/// What a portal leaves that was not settled before, and whose next round serves one of these numbers of jobs.
+fn settled_again<R: Abort + Threads + Wait + Sync>(
+    rt: &R,
+    alloc: Global,
+    server: Server<Free>,
+    dones: Vec<Done>,
+    numbers: &[usize],
+) -> Option<Settled>
+    requires { AreSeatsOf server.lanes.items dones.items }
+{
+    let mut server = server;
+    let served = server.serve_round(rt, alloc).ok()?;
+    assert!(rt; numbers.contains(&served), "{served} jobs");
+    server.settle(rt, alloc, dones).ok()
+}
+
+/// What a portal leaves, or leaves when it is settled again with so many seats behind a round of one of these numbers of
+/// jobs.
+fn settled_at_last<R: Abort + Threads + Wait + Sync>(
+    rt: &R,
+    alloc: Global,
+    server: Server<Free>,
+    dones: Vec<Done>,
+    numbers: &[usize],
+) -> Option<Settled>
+    requires { AreSeatsOf server.lanes.items dones.items }
+{
+    let seats = dones.len();
+    match server.settle(rt, alloc, dones) {
+        Ok(settled) => Some(settled),
+        Err((server, dones, fault)) => {
+            assert_eq!(rt; (fault, dones.len()), (SettleFault::NoMemory, seats));
+            settled_again(rt, alloc, server, dones, numbers)
+        }
+    }
+}
+
+/// These are the clients and the completed bytes of the log.
+fn expect_completed(rt: &impl Abort, log: &[LogEntry], wanted: &[(u32, u32)]) {
+    assert_eq!(rt; log.len(), wanted.len());
+    for (entry, (client, completed)) in log.iter().zip(wanted) {
+        assert_eq!(rt; (entry.client, entry.answer), (*client, done(*completed)));
+    }
+}
+
+/// The whole log, or the portal as it was, which gives the whole log when it is settled again.
+#[test]
+fn refused_settle(rt: HostRuntime) -> Result<(), Fail> {
+    let (server, dones) = finished(&rt, rt.alloc()).ok_or("no memory")?;
+    let settled = settled_at_last(&rt, rt.alloc(), server, dones, &[3]).ok_or("not settled")?;
+    let wanted = [(1, 0), (0, 16), (0, 16), (1, 8)];
+    expect_completed(&rt, settled.log.list.as_slice(), &wanted);
+    expect_bytes(&rt, &settled.image, &BYTES);
+    Ok(())
+}
+
+/// A portal whose one client has submitted 130 jobs, more than a round fetches, and has finished.
+fn finished_with_more(alloc: Global) -> Option<(Server<Free>, Vec<Done>)>
+    ensures { IfSome result (λ portal. AreSeatsOf portal.0.lanes.items portal.1.items) }
+{
+    let mut portal = One::open(alloc, 200)?;
+    for _ in 0..130 {
+        portal.submit(Job::no_op()).ok()?;
+    }
+    let One { server, seat } = portal;
+    let dones = vec![in alloc; seat.finish()].ok()?;
+    Some((server, dones))
+}
+
+/// What `refused_second_round_of_settle` does before its call.
+#[test]
+fn set_up_of_second_round_of_settle(rt: HostRuntime) -> Result<(), Fail> {
+    let (_server, dones) = finished_with_more(rt.alloc()).ok_or("no memory")?;
+    assert_eq!(rt; dones.len(), 1);
+    Ok(())
+}
+
+/// The log is of 130 jobs that do nothing.
+fn expect_no_ops(rt: &impl Abort, log: &[LogEntry]) {
+    assert_eq!(rt; log.len(), 130);
+    let wanted = LogEntry {
+        client: 0,
+        job: Job::no_op(),
+        answer: done(0),
+    };
+    for entry in log {
+        assert_eq!(rt; *entry, wanted);
+    }
+}
+
+/// The whole log, or the portal behind the rounds that were served, which gives the whole log when it is settled again.
+#[test]
+fn refused_second_round_of_settle(rt: HostRuntime) -> Result<(), Fail> {
+    let (server, dones) = finished_with_more(rt.alloc()).ok_or("no memory")?;
+    let settled = settled_at_last(&rt, rt.alloc(), server, dones, &[128, 2]).ok_or("not settled")?;
+    expect_no_ops(&rt, settled.log.list.as_slice());
+    Ok(())
+}

@@ -12,6 +12,3 @@ mod units;
 pub use carrying::carry_out_wave;
 pub use effects::is_busy;
 pub use errors::WaveError;
-
-#[cfg(test)]
-mod tests;

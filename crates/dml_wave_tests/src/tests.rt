@@ -6,25 +6,22 @@ ghost use Rattle.dml_levels.specs.Waves.{IsSmall};
 
 mod waves;
 
-use crate::cutting::cut_tasks;
-use crate::{WaveError, carry_out_wave};
 use dml_arena::Arena;
 use dml_desc::{Checked, check, need};
 use dml_image::{Image, ImageError};
 use dml_levels::{conflict, task_count};
-use dml_pool::{Free, Task};
+use dml_pool::Free;
 use dml_types::{Job, Record, Settings, Status};
+use dml_wave::{WaveError, carry_out_wave};
 use std::alloc::Global;
 use std::process::Abort;
 use std::sync::Wait;
 use std::test::Fail;
 use std::thread::Threads;
+use waves::{Counting, carried_past};
 
 /// The staging size of a run without options.
 const STAGING: u32 = 1_048_576;
-
-/// A task's first offset and the one behind its last, and where its region starts and how much room it has.
-type Cut = (u32, u32, u32, u32);
 
 /// A chunk size that is valid.
 fn valid_chunk(rt: &impl Abort, chunk: u32) -> u32
@@ -50,95 +47,93 @@ fn accepted(job: &Job) -> Result<Checked, &'static str> {
     check(job, STAGING).ok().ok_or("refused")
 }
 
-/// The tasks of a wave of one job.
-fn tasks_of<'a>(
-    rt: &impl Abort,
+/// Carries out a list of jobs as one wave in an order of places: how many tasks there were, and the image and the records.
+fn counted<R: Abort + Threads + Wait + Sync>(
+    rt: &R,
     alloc: Global,
-    job: &Job,
-    chunk: u32,
-    arena: &'a mut Arena,
-) -> Result<Vec<Task<'a>>, Fail> {
-    let job = accepted(job)?;
-    let chunk = valid_chunk(rt, chunk);
-    let room = arena.open();
-    assert!(rt; operation_need(rt, &job) <= u64::from(room.room()));
-    assert!(rt; task_count(&job, chunk) <= 131_072);
-    Ok(cut_tasks(alloc, &[job], &[0], chunk, room)?)
-}
-
-/// What the task at a place is.
-fn cut_at(tasks: &[Task<'_>], place: usize) -> Option<Cut> {
-    let task = tasks.get(place)?;
-    Some((task.from, task.to, task.room.start(), task.room.room()))
-}
-
-/// Checks the tasks of a wave.
-fn expect_cuts(rt: &impl Abort, tasks: &[Task<'_>], want: &[Cut]) {
-    assert_eq!(rt; tasks.len(), want.len());
-    for (place, cut) in want.iter().enumerate() {
-        assert_eq!(rt; cut_at(tasks, place), Some(*cut), "task {place}");
-    }
+    settings: &Settings,
+    table: &[Job],
+    wave: &[u32],
+) -> Option<(u64, Image<'static>, Vec<Record>)> {
+    let (jobs, mut records) = waves::list_of(alloc, settings.staging, table)?;
+    let mut image = waves::image(alloc).ok()?;
+    let gate = Counting::new();
+    carried_past(
+        rt,
+        alloc,
+        &gate,
+        settings,
+        &mut image,
+        &jobs,
+        wave,
+        &mut records,
+    )
+    .ok()?;
+    Some((gate.count(), image, records))
 }
 
 #[test]
 fn chunk_task_counts(rt: HostRuntime) -> Result<(), Fail> {
-    let alloc = rt.alloc();
     let rows = [
-        (Job::move_bytes(0, 4096, 100), 8, 13, Some((96, 100, 96, 4))),
-        (
-            Job::create_delta(0, 64, 32, 128, 20),
-            16,
-            2,
-            Some((2, 4, 20, 20)),
-        ),
-        (
-            Job::apply_delta(0, 30, 256, 32),
-            16,
-            2,
-            Some((2, 3, 20, 10)),
-        ),
-        (Job::fill(1, 0, 0), 8, 0, None),
-        (Job::no_op(), 8, 0, None),
-        (
-            Job::move_bytes(0, 0, 1_048_576),
-            8,
-            131_072,
-            Some((1_048_568, 1_048_576, 1_048_568, 8)),
-        ),
+        (Job::move_bytes(0, 4096, 100), 8, 13),
+        (Job::create_delta(0, 64, 32, 128, 20), 16, 2),
+        (Job::apply_delta(0, 30, 256, 32), 16, 2),
+        (Job::fill(1, 0, 0), 8, 0),
+        (Job::no_op(), 8, 0),
+        (Job::move_bytes(0, 0, 1_048_576), 8, 131_072),
     ];
-    for (job, chunk, count, last) in rows {
-        let mut arena = Arena::new(alloc, STAGING)?;
-        let tasks = tasks_of(&rt, alloc, &job, chunk, &mut arena)?;
-        assert_eq!(rt; tasks.len(), count);
-        assert_eq!(rt; cut_at(&tasks, tasks.len().saturating_sub(1)), last);
+    for (job, chunk, count) in rows {
+        let settings = Settings {
+            staging: STAGING,
+            chunk,
+            workers: 1,
+        };
+        let (tasks, _, _) = counted(&rt, rt.alloc(), &settings, &[job], &[0]).ok_or("no memory")?;
+        assert_eq!(rt; tasks, count);
     }
     Ok(())
 }
 
-/// A wave names its jobs in an order of its own; the regions of its chunks lie side by side from the room's first byte.
+/// A wave names its jobs in an order of its own; the regions of its chunks lie side by side in a room that just holds
+/// them.
 #[test]
 fn chunks_side_by_side(rt: HostRuntime) -> Result<(), Fail> {
-    let create = accepted(&Job::create_delta(0, 64, 24, 128, 30))?;
-    let compare = accepted(&Job::compare(0, 512, 20))?;
-    let cast = accepted(&Job::dualcast(0, 4096, 8192, 20))?;
-    let mut arena = Arena::new(rt.alloc(), 50)?;
-    let room = arena.open();
-    let needs = operation_need(&rt, &cast)
-        + (operation_need(&rt, &create) + operation_need(&rt, &compare));
-    assert!(rt; needs <= u64::from(room.room()));
-    let count = task_count(&cast, 16) + (task_count(&create, 16) + task_count(&compare, 16));
-    assert!(rt; count <= 131_072);
-    let jobs = [create, compare, cast];
-    let tasks = cut_tasks(rt.alloc(), &jobs, &[2, 0, 1], 16, room)?;
-    let want = [
-        (0, 16, 0, 16),
-        (16, 20, 16, 4),
-        (0, 2, 20, 20),
-        (2, 3, 40, 10),
-        (0, 16, 50, 0),
-        (16, 20, 50, 0),
+    let table = [
+        Job::create_delta(0, 64, 24, 128, 30),
+        Job::compare(0, 512, 20),
+        Job::dualcast(0, 4096, 8192, 20),
     ];
-    expect_cuts(&rt, &tasks, &want);
+    let settings = Settings {
+        staging: 50,
+        chunk: 16,
+        workers: 1,
+    };
+    let (tasks, image, records) = counted(&rt, rt.alloc(), &settings, &table, &[2, 0, 1]).ok_or(
+        "no memory",
+    )?;
+    assert_eq!(rt; tasks, 6);
+    let differs = Record {
+        result: 1,
+        ..record(Status::Success, 0, 0)
+    };
+    let created = Record {
+        result: 1,
+        delta_size: 30,
+        ..record(Status::Success, 24, 0)
+    };
+    let want = [created, differs, record(Status::Success, 20, 0)];
+    assert_eq!(rt; records.as_slice(), want.as_slice());
+    for i in 0..20 {
+        expect_byte(&rt, &image, 4096 + u64::from(i), i);
+        expect_byte(&rt, &image, 8192 + u64::from(i), i);
+    }
+    let delta = [
+        0, 0, 64, 65, 66, 67, 68, 69, 70, 71, 1, 0, 72, 73, 74, 75, 76, 77, 78, 79, 2, 0, 80, 81,
+        82, 83, 84, 85, 86, 87,
+    ];
+    for (addr, byte) in (128..158).zip(delta) {
+        expect_byte(&rt, &image, addr, byte);
+    }
     Ok(())
 }
 

@@ -5,7 +5,7 @@ use Rattle.std.proofs.lemmas.List.Elements.{All-more}
 use Rattle.dml_types.specs.Conflict.{conflict}
 use Rattle.dml_types.specs.Job.{no_op_job}
 use Rattle.dml_levels.specs.Waves.{job_at}
-use Rattle.dml_wave.proofs.tests.waves.is_clear.Goals as goal
+use Rattle.dml_wave_tests.proofs.tests.waves.is_clear.Goals as goal
 
 pub loop-place-preserved : goal.loop-place-preserved
 loop-place-preserved c =

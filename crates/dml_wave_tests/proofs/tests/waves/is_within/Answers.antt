@@ -2,7 +2,7 @@ use Rattle.std.proofs.Common.{◌<◌, subst, arith}
 use Rattle.std.specs.List.{All}
 use Rattle.std.proofs.lemmas.List.{take_all}
 use Rattle.std.proofs.lemmas.List.Elements.{All-more}
-use Rattle.dml_wave.proofs.tests.waves.is_within.Goals as goal
+use Rattle.dml_wave_tests.proofs.tests.waves.is_within.Goals as goal
 
 pub loop-place-preserved : goal.loop-place-preserved
 loop-place-preserved c =

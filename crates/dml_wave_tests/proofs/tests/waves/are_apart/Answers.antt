@@ -6,7 +6,7 @@ use Rattle.dml_types.specs.Conflict.{conflict}
 use Rattle.dml_types.specs.Job.{no_op_job}
 use Rattle.dml_levels.specs.Waves.{job_at}
 use Rattle.dml_wave.specs.Waves.{AreApart}
-use Rattle.dml_wave.proofs.tests.waves.are_apart.Goals as goal
+use Rattle.dml_wave_tests.proofs.tests.waves.are_apart.Goals as goal
 
 pub loop-from-preserved : goal.loop-from-preserved
 loop-from-preserved c = λ rest.

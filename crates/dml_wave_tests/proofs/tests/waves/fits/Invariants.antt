@@ -1,6 +1,6 @@
 use Rattle.std.proofs.Common.{◌≡◌, ◌≤◌, ◌+◌, drop}
 use Rattle.dml_levels.specs.Waves.{needs_of, tasks_of}
-use Rattle.dml_wave.proofs.tests.waves.fits.Given as goal
+use Rattle.dml_wave_tests.proofs.tests.waves.fits.Given as goal
 
 abbrev pub invariant-loop-place : goal.invariant-loop-place
 invariant-loop-place l =

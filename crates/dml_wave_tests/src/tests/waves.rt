@@ -5,13 +5,13 @@ ghost use Rattle.dml_types.specs.Conflict as word;
 ghost use Rattle.dml_levels.specs.Waves.{IsSmall, job_at};
 ghost use Rattle.dml_wave.specs.Waves.{AreApart};
 
-use crate::{WaveError, carry_out_wave};
 use dml_arena::Arena;
 use dml_desc::{Checked, check, need};
 use dml_image::{Image, ImageError};
 use dml_levels::{conflict, task_count};
 use dml_pool::{Free, Gate};
 use dml_types::{Job, Record, Settings, Status};
+use dml_wave::{WaveError, carry_out_wave};
 use std::alloc::Global;
 use std::process::Abort;
 use std::sync::Wait;
@@ -89,18 +89,18 @@ const BLANK: Record = Record {
 
 /// A gate that counts the tasks that enter.
 #[derive(Drop)]
-struct Counting {
+pub(super) struct Counting {
     entered: AtomicU64,
 }
 
 impl Counting {
-    fn new() -> Counting {
+    pub(super) fn new() -> Counting {
         Counting {
             entered: AtomicU64::new(0),
         }
     }
 
-    fn count(&self) -> u64 {
+    pub(super) fn count(&self) -> u64 {
         self.entered.load(Ordering::SeqCst)
     }
 }
@@ -112,7 +112,7 @@ impl Gate for Counting {
 }
 
 /// Carries out the jobs at a wave's places, each of whose tasks enters a gate.
-fn carried_past<R: Abort + Threads + Wait + Sync, G: Gate + Sync>(
+pub(super) fn carried_past<R: Abort + Threads + Wait + Sync, G: Gate + Sync>(
     rt: &R,
     alloc: Global,
     gate: &G,
@@ -147,7 +147,11 @@ fn carried<R: Abort + Threads + Wait + Sync>(
 }
 
 /// The jobs of a table, checked, with a no-op for each that is refused; its record is the refusal then, and blank else.
-fn list_of(alloc: Global, staging: u32, table: &[Job]) -> Option<(Vec<Checked>, Vec<Record>)> {
+pub(super) fn list_of(
+    alloc: Global,
+    staging: u32,
+    table: &[Job],
+) -> Option<(Vec<Checked>, Vec<Record>)> {
     let idle = check(&Job::no_op(), staging).ok()?;
     let mut jobs = Vec::with_capacity(alloc, table.len()).ok()?;
     let mut records = Vec::with_capacity(alloc, table.len()).ok()?;
@@ -175,7 +179,7 @@ fn done(status: Status, completed: u32) -> Record {
 
 /// Eight pages: the bytes 0 to 250 over and over in pages 0 and 1, but for one byte, an apply's record in page 2,
 /// zeros in the others, and page 5 absent.
-fn image(alloc: Global) -> Result<Image<'static>, ImageError> {
+pub(super) fn image(alloc: Global) -> Result<Image<'static>, ImageError> {
     let mut image = Image::new(alloc, 8)?;
     let mut bytes = [0; 4096];
     for (i, byte) in bytes.iter_mut().enumerate() {

@@ -1,7 +1,7 @@
 #!/bin/sh
-# Runs of the program whose exit status is not 0, or that no stored run of the gate can show: each
-# with its status, its standard output and its standard error. Works on the binary that the gate
-# leaves in crates/dmljob/out; `check` calls it.
+# Runs of the program whose exit status is not 0, or that no stored run of the gate can show: each with its status, its
+# standard output and its standard error. Works on the binary that the gate leaves in crates/dmljob/out; `check` calls
+# it. One run goes by `./dmljob`, which proves the program anew where a source is newer than that binary.
 cd "$(dirname "$0")/.." || exit 2
 dmljob=crates/dmljob/out/dmljob
 if [ ! -x "$dmljob" ]; then

@@ -10,30 +10,51 @@ failed=0
 [ -x "$dmljob" ] || { echo "starts: $dmljob is missing: run rt ci first" >&2; exit 1; }
 "${CC:-cc}" -O2 -Wall -Wextra -Werror -shared -fPIC -o "$work/started.so" tests/started.c -ldl || exit 1
 
-# script FRONT SIZE LINKS: an image of 16 MiB of zeros, so many compares of a size, which do not conflict, and behind them
-# a chain of so many links, each a fill and a compare that conflict with all before them: each has a level of its own
-script() {
+# image: one of 16 MiB of zeros
+image() {
+    awk 'BEGIN { print "image 4096"; for (page = 0; page < 4096; page++) print "page " page }'
+}
+
+# compares FRONT SIZE LINKS: so many compares of a size, which do not conflict, and behind them a chain of so many links,
+# each a fill and a compare that conflict with all before them: each has a level of its own
+compares() {
     awk -v front="$1" -v size="$2" -v links="$3" 'BEGIN {
-        print "image 4096"
-        for (page = 0; page < 4096; page++) print "page " page
         for (job = 0; job < front; job++) print "compare " job % 8 * 2097152 " " job % 8 * 2097152 + 1048576 " " size
         for (link = 0; link < links; link++) print "fill 0 0 8\ncompare 0 1048576 " size
     }'
 }
 
-# counted WANTED WORKERS FRONT SIZE LINKS: one list of these starts so many threads, and no compare finds a difference
-counted() {
-    script "$3" "$4" "$5" >"$work/in"
-    STARTED_LOG=$work/log LD_PRELOAD=$work/started.so "$dmljob" run --workers "$2" --chunk 65536 <"$work/in" \
-        >"$work/out" 2>&1
+# creates COUNT: so many creates of 512 KiB, which do not conflict: each has a record of its own
+creates() {
+    awk -v count="$1" 'BEGIN {
+        for (job = 0; job < count; job++) print "create 0 2097152 524288 " 12582912 + 80 * job " 80"
+    }'
+}
+
+# copies COUNT LINE: so many times a line
+copies() {
+    awk -v count="$1" -v line="$2" 'BEGIN { for (job = 0; job < count; job++) print line }'
+}
+
+# expect WANTED WORKERS DONE COUNT WHAT: the jobs on the standard input start so many threads, and so many of them end
+# with success and all bytes done
+expect() {
+    { image; cat; } >"$work/in"
+    STARTED_LOG=$work/log LD_PRELOAD=$work/started.so "$dmljob" run --workers "$2" --chunk 65536 --arena 16777216 \
+        <"$work/in" >"$work/out" 2>&1
     status=$?
     started=$(cat "$work/log" 2>/dev/null)
-    equal=$(grep -c "status 01 result 0 completed $4 " "$work/out")
-    if [ "$status" -ne 0 ] || [ "$started" != "$1" ] || [ "$equal" -ne "$(($3 + $5))" ]; then
-        echo "starts: $3 compares of $4 and $5 links, $2 workers: status $status, $started threads started, not $1;" \
-            "$equal were equal" >&2
+    equal=$(grep -c "status 01 result 0 completed $3 " "$work/out")
+    if [ "$status" -ne 0 ] || [ "$started" != "$1" ] || [ "$equal" -ne "$4" ]; then
+        echo "starts: $5, $2 workers: status $status, $started threads started, not $1; $equal jobs were done, not $4" >&2
         failed=1
     fi
+}
+
+# counted WANTED WORKERS FRONT SIZE LINKS: one list of these starts so many threads, and no compare finds a difference
+counted() {
+    compares "$3" "$4" "$5" >"$work/jobs"
+    expect "$1" "$2" "$4" "$(($3 + $5))" "$3 compares of $4 and $5 links" <"$work/jobs"
 }
 
 # A worker pays for a mebibyte that is shared, the calling thread is one of them, and one worker starts none.
@@ -46,9 +67,21 @@ counted 0 4 1 1048576 0
 counted 1 4 34 65536 0
 counted 0 4 33 65536 0
 counted 3 4 1024 65536 0
-# A list whose levels share no mebibyte and a half, or too little to make up for the cut of all of them, starts none.
+# Levels behind the first one cost a list no worker, until the cut of all of them costs more than workers save, or
+# where none of them shares a mebibyte and a half.
+counted 3 4 4 1048576 10
+counted 1 4 34 65536 100
+counted 0 4 34 65536 150
+counted 0 4 34 65536 493
 counted 0 4 1 1048576 3
 counted 0 4 1 65536 511
-counted 0 4 34 65536 493
+# Creates share their bytes as compares do, where the arena holds the entries of several; jobs that write what workers
+# would have to stage start none.
+creates 24 >"$work/jobs"
+expect 3 4 524288 24 '24 creates' <"$work/jobs"
+copies 64 'move 0 2097152 1048576' >"$work/jobs"
+expect 0 4 1048576 64 '64 moves of 1 MiB' <"$work/jobs"
+copies 1024 'fill 1 0 8' >"$work/jobs"
+expect 0 4 8 1024 '1,024 fills of 8 bytes' <"$work/jobs"
 [ "$failed" -eq 0 ] && echo "starts: each list started its workers"
 exit "$failed"

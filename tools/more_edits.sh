@@ -3,26 +3,31 @@
 #
 # An edit costs the gate half a minute, so a crate keeps those that tell most. The others stand beside them as
 # crates/CRATE/must-fail/EDIT.more.md, in the same words, and the prover must refuse them as well. Here they are tried
-# by `rt must-fail` on a copy of the repository with the work that checks have kept; nothing here is changed.
-# Status 0 only where each is refused.
+# by `rt must-fail` on a copy of the repository with the work that checks have kept; nothing here is changed. The last
+# line says of how many crates all were refused, and of how many not. Status 0 only where all are.
 cd "$(dirname "$0")/.." || exit 2
+for crate in "$@"; do
+    [ -n "$(ls "crates/$crate"/must-fail/*.more.md 2>/dev/null)" ] || { echo "more_edits: $crate has none" >&2; exit 2; }
+done
 room=$(mktemp -d) || exit 2
 trap 'rm -rf "$room"' EXIT
 trap 'exit 2' HUP INT TERM
-failed=0
+refused=0
+others=0
 
 cp -a crates.txt HANDLES crates "$room/"
-for folder in crates/*; do
-    crate=${folder#crates/}
+rm -f "$room"/crates/*/must-fail/*.edit
+for more in "$room"/crates/*/must-fail/*.more.md; do
+    mv "$more" "${more%.more.md}.edit"
+done
+for edits in "$room"/crates/*/must-fail; do
+    crate=$(basename "${edits%/must-fail}")
     case " ${*:-$crate} " in
         *" $crate "*) ;;
         *) continue ;;
     esac
-    edits=$room/crates/$crate/must-fail
-    rm -f "$edits"/*.edit
-    for more in "$edits"/*.more.md; do
-        [ ! -f "$more" ] || mv "$more" "${more%.more.md}.edit"
-    done
-    [ -z "$(ls "$edits"/*.edit 2>/dev/null)" ] || (cd "$room" && rt must-fail "$crate") || failed=1
+    [ -n "$(ls "$edits"/*.edit 2>/dev/null)" ] || continue
+    if (cd "$room" && rt must-fail "$crate"); then refused=$((refused + 1)); else others=$((others + 1)); fi
 done
-exit "$failed"
+echo "more edits: of $refused crates all are refused, of $others not"
+[ "$others" = 0 ] && [ "$refused" -gt 0 ]

@@ -148,21 +148,48 @@ fn workers_for(bytes: u64, most: u32) -> u32
 pub fn levels_pay(jobs: &[Checked], levels: &[u32], chunk: u32) -> bool
     requires { IsChunk chunk }
 {
-    let mut depth = 0;
-    let mut shared = [0_u64; MOST_JOBS];
+    let depth = levels
+        .iter()
+        .map(|level| u64::from(*level) + 1)
+        .max()
+        .unwrap_or(0);
+    let shared = if depth > 1 {
+        shared_by_levels(jobs, levels, chunk)
+    } else {
+        shared_by_all(jobs, chunk)
+    };
+    shared >= LEAST_SHARED.max(depth.saturating_mul(LOOK_BYTES * jobs.len() as u64))
+}
+
+/// The bytes that all jobs of a list share.
+fn shared_by_all(jobs: &[Checked], chunk: u32) -> u64
+    requires { IsChunk chunk }
+{
+    let mut load = Load::none();
+    for job in jobs {
+        load = load.with(job, chunk);
+    }
+    load.shared
+}
+
+/// The bytes that the levels of a list share, as far as one of them shares enough for a second worker.
+#[inline(never)]
+fn shared_by_levels(jobs: &[Checked], levels: &[u32], chunk: u32) -> u64
+    requires { IsChunk chunk }
+{
+    let mut by_level = [0_u64; MOST_JOBS];
     for (job, level) in jobs.iter().zip(levels) {
-        if let Some(sum) = shared.get_mut(*level as usize) {
-            *sum = sum.saturating_add(Load::none().with(job, chunk).shared);
-        }
-        depth = depth.max(u64::from(*level) + 1);
-    }
-    let mut left = LEAST_SHARED.max(depth.saturating_mul(LOOK_BYTES * jobs.len() as u64));
-    for sum in shared {
-        if sum >= LEAST_SHARED {
-            left = left.saturating_sub(sum);
+        if let Some(shared) = by_level.get_mut(*level as usize) {
+            *shared = shared.saturating_add(Load::none().with(job, chunk).shared);
         }
     }
-    left == 0
+    let mut all = 0_u64;
+    for shared in by_level {
+        if shared >= LEAST_SHARED {
+            all = all.saturating_add(shared);
+        }
+    }
+    all
 }
 
 /// Whether the jobs name enough bytes for a second worker, before any of them is checked.

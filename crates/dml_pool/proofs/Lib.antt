@@ -1,4 +1,5 @@
 pub mod Counts
+pub mod Holds
 pub mod Keeps
 pub mod Orders
 pub mod Totals

@@ -16,19 +16,9 @@ use Rattle.dml_pool.specs.Slots.{IsSlot, AreFilled, AreSlots}
 use Rattle.dml_pool.proofs.Counts.{times_append}
 use Rattle.dml_pool.proofs.Keeps.{get_longer, get_last}
 
--- the task of an outcome is one of those counted
-pub within : (count : ℕ) (done before : List Outcome) (outcome : Outcome) (rest : List Outcome)
-    → ((x : ℕ) → times x (tasks_done done) ≡ once_below x count) → done ≡ before ++ outcome ∷ rest → outcome.task < count
-within count done before outcome rest once split =
-    let t = outcome.task in
-    let cut : tasks_done done ≡ tasks_done before ++ t ∷ tasks_done rest =
-    ap tasks_done split ∙ map-append (λ (o : Outcome). o.task) before (outcome ∷ rest) in
-    let sum : times t (tasks_done done) ≡ times t (tasks_done before) + times t (t ∷ tasks_done rest) =
-    ap (times t) cut ∙ times_append t (tasks_done before) (t ∷ tasks_done rest) in
-    let here : times t (t ∷ tasks_done rest) ≡ 1 + times t (tasks_done rest) = grind (arith, nat_tests) in
-    let one = once t in
-    let least : 0 < once_below t count = omega (arith, sum, here, one) in
-    grind (arith, nat_tests, least)
+pub none_left : (outcomes : List Outcome) → length outcomes ≡ 0 → outcomes ≡ []
+none_left [] none = refl
+none_left (o ∷ outcomes) none = absurd (omega (arith, none))
 
 pub empty_slots : (n : ℕ) (slots : List (Option Outcome)) → slots ≡ replicate n None → AreSlots [] slots
 empty_slots n slots are k d inside =

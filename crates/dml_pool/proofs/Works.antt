@@ -1,8 +1,8 @@
 -- Outcomes account for what a pass took, as more are added and lists are joined.
-use Rattle.std.proofs.Common.{◌≡◌, ℕ, ◌≤◌, List, [], ◌∷◌, ◌++◌, Some, Result, Ok, Err, IfOk, IsOkAnd, IsSomeAnd, min, refl, sym, ap, ◌∙◌, subst, arith}
+use Rattle.std.proofs.Common.{◌≡◌, ℕ, ◌≤◌, List, [], ◌∷◌, ◌++◌, length, Some, IsSomeAnd, min, sym, ap, ◌∙◌, subst, arith}
 use Rattle.std.specs.List.{All, slice_get}
 use Rattle.std.proofs.lemmas.List.{map-append}
-use Rattle.std.proofs.lemmas.List.Elements.{All-append, All-head, All-nil, All-push}
+use Rattle.std.proofs.lemmas.List.Elements.{All-append, All-head, All-push}
 use Rattle.std.proofs.lemmas.Option.{slice_get_within, get_or_from_slice_get}
 use Rattle.dml_types.specs.Memory.{Memory}
 use Rattle.dml_pool.specs.declared.tasks.Task.{Task}
@@ -10,7 +10,8 @@ use Rattle.dml_pool.specs.declared.tasks.Outcome.{Outcome}
 use Rattle.dml_pool.specs.declared.rule.Numbered.{Numbered}
 use Rattle.dml_pool.specs.Tasks.{IsTaskValue}
 use Rattle.dml_pool.specs.declared.rule.Hand.{Hand}
-use Rattle.dml_pool.specs.Rule.{hand, tasks_done, IsOf, IsDone, Accounts, HasTakenAll, Kept}
+use Rattle.dml_pool.specs.Rule.{hand, tasks_done, IsOf, IsDone, Accounts, HasTaken, HasTakenAll, Kept}
+use Rattle.dml_pool.specs.Crews.{TakesNext}
 use Rattle.crossbeam_deque.specs.Tasks.{FindsFew}
 use Rattle.dml_pool.proofs.Keeps.{finds_few}
 
@@ -28,25 +29,6 @@ accounts_joined memory v w x a b all known both_taken same both left right =
       done = subst (λ l. All (IsDone memory x.tasks) l) (sym both) (subst (λ tasks. All (IsDone memory tasks) (a ++ b)) (sym known) done);
     }
 
--- a worker's pass joined to one that took nothing
-pub accounts_alone : (memory : Memory) (v w x : Hand) (done : List Outcome) → x.tasks ≡ v.tasks → x.taken ≡ v.taken ++ w.taken → w.tasks ≡ v.tasks
-    → v.taken ≡ [] → Accounts memory w done → Accounts memory x done
-accounts_alone memory v w x done known both same none right =
-    accounts_joined memory v w x [] done done known both same refl (record { taken = none; done = All-nil (IsDone memory v.tasks) }) right
-
-module _ {V E : Type 0} (items : V → List Outcome) (room : V → ℕ) where
-  pub results_joined : (memory : Memory) (v w x : Hand) (others all : Result V E) (mine : List Outcome) → x.tasks ≡ v.tasks → x.taken ≡ v.taken ++ w.taken → w.tasks ≡ v.tasks
-      → IfOk all (λ l. IsOkAnd others (λ a. items l ≡ items a ++ mine))
-      → IfOk others (λ a. Accounts memory v (items a)) → Accounts memory w mine → IfOk all (λ l. Accounts memory x (items l))
-  results_joined memory v w x (Ok a) (Ok l) mine known both same joined left right = accounts_joined memory v w x (items a) mine (items l) known both same joined left right
-  results_joined memory v w x (Err e) (Ok l) mine known both same joined left right = absurd joined
-  results_joined memory v w x others (Err e) mine known both same joined left right = tt
-
-  pub room_kept : (n : ℕ) (others all : Result V E) → IfOk all (λ l. IsOkAnd others (λ a. room a ≤ room l)) → IfOk others (λ a. n ≤ room a) → IfOk all (λ l. n ≤ room l)
-  room_kept n (Ok a) (Ok l) more enough = omega (arith, more, enough)
-  room_kept n (Err e) (Ok l) more enough = absurd more
-  room_kept n others (Err e) more enough = tt
-
 -- a thief of a FIFO deque finds it empty
 pub finds : (flavor port : ℕ) (v : Hand) → flavor ≡ 0 → FindsFew Kept (min flavor 1) port v (HasTakenAll v)
 finds flavor port v fifo = let none : min flavor 1 ≡ 0 = omega (arith, fifo) in rw none (finds_few port v)
@@ -58,17 +40,26 @@ task_at P tasks item rest all of =
     subst P (get_or_from_slice_get tasks item.number item.task item.task at) (all item.number item.task (slice_get_within tasks item.number item.task at))
 
 -- a task taken and carried out
-pub accounts_more : (memory : Memory) (v w : Hand) (item : Numbered) (rest : List Numbered) (done : List Outcome) (outcome : Outcome)
-    → w ≡ hand v.tasks v.parts (v.taken ++ item.number ∷ []) → All (IsOf v.tasks) (item ∷ rest) → outcome.task ≡ item.number
-    → IsTaskValue memory item.task outcome.piece → Accounts memory v done → Accounts memory w (done ++ outcome ∷ [])
-accounts_more memory v w item rest done outcome is of same value so_far =
-    let known : w.tasks ≡ v.tasks = ap (λ (u : Hand). u.tasks) is in
-    let at : slice_get v.tasks outcome.task ≡ Some item.task = ap (slice_get v.tasks) same ∙ All-head (IsOf v.tasks) item rest of in
-    let this : IsDone memory v.tasks outcome = subst (λ found. IsSomeAnd found (λ task. IsTaskValue memory task outcome.piece)) (sym at) value in record {
+pub takes_next : (memory : Memory) (u v w : Hand) (item : Numbered) (outcome : Outcome) → v ≡ u → HasTaken v (item ∷ []) w → outcome.task ≡ item.number
+    → IsTaskValue memory item.task outcome.piece → TakesNext memory u w outcome
+takes_next memory u v w item outcome known took same value =
+    let of : All (IsOf u.tasks) (item ∷ []) = subst (λ (h : Hand). All (IsOf h.tasks) (item ∷ [])) known took.1 in
+    let at : slice_get u.tasks outcome.task ≡ Some item.task = ap (slice_get u.tasks) same ∙ All-head (IsOf u.tasks) item [] of in record {
       taken =
-          ap (λ (u : Hand). u.taken) is
-          ∙ (ap (λ l. l ++ item.number ∷ []) so_far.taken
-          ∙ (ap (λ n. tasks_done done ++ n ∷ []) (sym same) ∙ sym (map-append (λ (o : Outcome). o.task) done (outcome ∷ []))));
-      done =
-          subst (λ tasks. All (IsDone memory tasks) (done ++ outcome ∷ [])) (sym known) (All-push (IsDone memory v.tasks) done outcome so_far.done this);
+          took.0
+          ∙ (ap (λ (h : Hand). hand h.tasks h.parts (h.taken ++ item.number ∷ [])) known
+          ∙ ap (λ n. hand u.tasks u.parts (u.taken ++ n ∷ [])) (sym same));
+      done = subst (λ found. IsSomeAnd found (λ task. IsTaskValue memory task outcome.piece)) (sym at) value;
+      few = subst (λ (h : Hand). length w.taken ≤ length h.tasks) known took.2;
     }
+
+pub accounts_more : (memory : Memory) (v w : Hand) (done : List Outcome) (outcome : Outcome) → TakesNext memory v w outcome
+    → Accounts memory v done → Accounts memory w (done ++ outcome ∷ [])
+accounts_more memory v w done outcome next so_far = record {
+  taken =
+      ap (λ (u : Hand). u.taken) next.taken
+      ∙ (ap (λ l. l ++ outcome.task ∷ []) so_far.taken ∙ sym (map-append (λ (o : Outcome). o.task) done (outcome ∷ [])));
+  done =
+      subst (λ tasks. All (IsDone memory tasks) (done ++ outcome ∷ [])) (sym (ap (λ (u : Hand). u.tasks) next.taken))
+      (All-push (IsDone memory v.tasks) done outcome so_far.done next.done);
+}

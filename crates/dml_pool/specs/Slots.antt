@@ -5,7 +5,8 @@ use Rattle.dml_types.specs.Memory.{Memory}
 use Rattle.dml_pool.specs.declared.tasks.Outcome.{Outcome}
 use Rattle.dml_pool.specs.declared.tasks.Task.{Task}
 use Rattle.dml_pool.specs.Numbers.{times}
-use Rattle.dml_pool.specs.Rule.{tasks_done, AreTaskValues}
+use Rattle.dml_pool.specs.declared.rule.Hand.{Hand}
+use Rattle.dml_pool.specs.Rule.{tasks_done, Accounts, AreTaskValues}
 
 -- the slot of task k, once these outcomes were put: empty where none of them is of that task
 abbrev pub IsSlot : List Outcome → ℕ → Option Outcome → Type 0
@@ -15,6 +16,13 @@ IsSlot outcomes k (Some outcome) = (outcome.task ≡ k) × Contains outcomes out
 abbrev pub AreSlots : List Outcome → List (Option Outcome) → Type 0
 AreSlots outcomes slots =
     (k : ℕ) (d : Option Outcome) → k < length slots → IsSlot outcomes k (slice_index_or slots k d)
+
+-- the slots hold an outcome for each task that a pass took, and no other
+pub record HoldTaken (memory : Memory) (v : Hand) (slots : List (Option Outcome)) : Type 0 where
+  pub outcomes : List Outcome
+  pub accounts : Accounts memory v outcomes
+  pub count : length slots ≡ length v.tasks
+  pub hold : AreSlots outcomes slots
 
 -- each slot is full, with the outcome of its task
 pub record AreFilled (memory : Memory) (tasks : List Task) (slots : List (Option Outcome)) : Type 0 where

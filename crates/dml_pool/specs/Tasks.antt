@@ -1,6 +1,5 @@
 -- A task, which is one chunk of a job, and what its worker gives for it.
-use Rattle.std.specs.Prelude.{◌≡◌, ◌≢◌, ℕ, ◌-◌, ◌*◌, ◌/◌, ◌≤◌, [], option_map}
-use Rattle.dml_types.specs.declared.jobs.Job.{Job}
+use Rattle.std.specs.Prelude.{◌≡◌, ◌≢◌, ℕ, ◌-◌, ◌*◌, ◌≤◌, [], option_map}
 use Rattle.dml_types.specs.declared.operations.Op.{Op}
 use Rattle.dml_types.specs.declared.operations.Op.TheVariants.{NoOp, Move, CreateDelta, ApplyDelta, Dualcast}
 use Rattle.dml_types.specs.Memory.{Memory}

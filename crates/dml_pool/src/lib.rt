@@ -5,16 +5,17 @@
 #![tactic(auto)]
 
 mod crew;
-mod filling;
 mod gate;
 mod kernels;
 mod lists;
 mod order;
+mod queue;
 mod rule;
 mod tasks;
 mod wave;
 mod worker;
 
 pub use gate::{Free, Gate};
+pub use queue::Queue;
 pub use tasks::{Outcome, Piece, Task};
 pub use wave::{PoolError, run_wave, run_wave_into_slots};

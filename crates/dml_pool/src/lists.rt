@@ -7,7 +7,7 @@ use crate::Outcome;
 use arrayvec::ArrayVec;
 use std::alloc::{AllocError, Global};
 
-/// An empty list for each worker that has not started, with room for so many outcomes.
+/// An empty list for each worker that is still to be started, with room for so many outcomes.
 #[derive(Drop)]
 pub struct Lists<'a> {
     pub room: usize,

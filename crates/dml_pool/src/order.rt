@@ -1,8 +1,7 @@
 //! Outcomes in the order of their tasks.
-ghost use Rattle.std.specs.Prelude.{◌≡◌, ◌≤◌, ℕ, [], IfOk, IsSome, None, Some, length, map, replicate, vec_capacity};
+ghost use Rattle.std.specs.Prelude.{◌≡◌, ◌<◌, ◌≤◌, ◌++◌, List, [], IfOk, IsSome, None, Some, length, map, replicate, vec_capacity};
 ghost use Rattle.std.specs.List.{All};
-ghost use Rattle.dml_pool.specs.Numbers.{times, once_below};
-ghost use Rattle.dml_pool.specs.Rule.{tasks_done};
+ghost use Rattle.dml_pool.specs.declared.tasks.Outcome.{Outcome};
 ghost use Rattle.dml_pool.specs.Slots.{AreSlots};
 
 use crate::Outcome;
@@ -28,10 +27,10 @@ pub fn slots_of<'a>(
     mut slots: Vec<Option<Outcome<'a>>>,
     done: Vec<Outcome<'a>>,
 ) -> Vec<Option<Outcome<'a>>>
-    requires empty { slots.items ≡ replicate (length slots.items) None }
-    requires once { (x : ℕ) → times x (tasks_done done.items) ≡ once_below x (length slots.items) }
+    requires within { All (λ outcome. outcome.task < length slots.items) done.items }
     ensures count { length result.items ≡ length slots.entry.items }
-    ensures slots { AreSlots done.entry.items result.items }
+    ensures slots { (before : List Outcome) → AreSlots before slots.entry.items
+        → AreSlots (before ++ done.entry.items) result.items }
 {
     for outcome in done {
         let task = outcome.task as usize;

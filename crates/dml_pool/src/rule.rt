@@ -9,8 +9,8 @@ use std::collections::LinkedList;
 /// A task with its place in the wave's list.
 #[derive(Drop)]
 pub struct Numbered<'a> {
-    pub number: u32,
     pub task: Task<'a>,
+    pub number: u32,
 }
 
 /// What a pass of the deque knows: the tasks pushed so far, how many parts it has of the right to know the whole, and

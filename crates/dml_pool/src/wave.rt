@@ -1,20 +1,18 @@
 //! A wave of tasks.
-ghost use Rattle.std.specs.Prelude.{◌≡◌, ℕ, ◌≤◌, length, IfOk};
+ghost use Rattle.std.specs.Prelude.{◌≡◌, ◌≤◌, length, IfOk};
 ghost use Rattle.std.specs.List.{All, range_with_len};
 ghost use Rattle.crossbeam_deque.specs.Handles.{worker_view};
 ghost use Rattle.dml_pool.specs.Crews.{IsBench};
-ghost use Rattle.dml_pool.specs.Numbers.{times, once_below};
-ghost use Rattle.dml_pool.specs.Rule.{all_parts, tasks_done, AreTaskValues, IsDone};
+ghost use Rattle.dml_pool.specs.Rule.{all_parts, tasks_done, AreTaskValues};
 ghost use Rattle.dml_pool.specs.Slots.{AreFilled};
 ghost use Rattle.dml_pool.specs.Tasks.{IsRunnable};
 
 use crate::crew::{Bench, crew};
-use crate::filling::filled;
 use crate::lists::Lists;
-use crate::order::{empty_slots, opened, slots_of};
+use crate::order::{empty_slots, opened};
 use crate::rule::Whole;
-use crate::worker::{Post, work};
-use crate::{Gate, Outcome, Task};
+use crate::worker::{Desk, fill_slots};
+use crate::{Gate, Outcome, Queue, Task};
 use dml_image::Image;
 use std::alloc::{AllocError, Global};
 use std::sync::Wait;
@@ -62,12 +60,13 @@ pub fn run_wave<'a, R: Threads + Wait + Sync, G: Gate + Sync>(
     ensures values { IfOk result (λ outcomes. AreTaskValues image.now tasks.entry.items outcomes.items) }
 {
     let all = Vec::with_capacity(alloc, tasks.len())?;
-    let slots = run_wave_into_slots(rt, alloc, image, tasks, workers, gate)?;
+    let queue = Queue::of_list(alloc, tasks)?;
+    let slots = run_wave_into_slots(rt, alloc, image, queue, workers, gate)?;
     Ok(opened(slots, all))
 }
 
-/// As `run_wave`, but each outcome stays in a slot of its own, so that it can be taken out where it is. No slot is
-/// empty.
+/// As `run_wave`, but the tasks are on their deque already, and each outcome stays in a slot of its own, so that it
+/// can be taken out where it is. No slot is empty.
 ///
 /// # Errors
 ///
@@ -76,33 +75,32 @@ pub fn run_wave_into_slots<'a, R: Threads + Wait + Sync, G: Gate + Sync>(
     rt: &R,
     alloc: Global,
     image: &Image,
-    tasks: Vec<Task<'a>>,
+    queue: Queue<'a>,
     workers: u32,
     gate: &G,
 ) -> Result<Vec<Option<Outcome<'a>>>, PoolError>
     requires least_workers { 1 ≤ workers }
     requires most_workers { workers ≤ 16 }
-    requires most_tasks { length tasks.items ≤ 131072 }
-    requires runnable { All IsRunnable tasks.items }
-    ensures count { IfOk result (λ slots. length slots.items ≡ length tasks.entry.items) }
-    ensures filled { IfOk result (λ slots. AreFilled image.now tasks.entry.items slots.items) }
+    requires runnable { All IsRunnable queue.tasks }
+    ensures count { IfOk result (λ slots. length slots.items ≡ length queue.entry.tasks) }
+    ensures filled { IfOk result (λ slots. AreFilled image.now queue.entry.tasks slots.items) }
 {
-    let count = tasks.len();
-    let workers = workers.min(count as u32).max(1);
-    let lists = Lists::new(alloc, workers, count)?;
-    let slots = empty_slots(alloc, count)?;
-    let owner = filled(alloc, tasks)?;
+    let count = queue.len();
+    let workers = workers.min(count).max(1);
+    let lists = Lists::new(alloc, workers - 1, count as usize)?;
+    let slots = empty_slots(alloc, count as usize)?;
+    let owner = queue.into_owner();
     let thief = owner.stealer()?;
     let bench = Bench {
         thief: &thief,
         owner,
         lists,
+        slots,
     };
-    let done = all_done(rt, image, gate, workers, bench)?;
-    Ok(slots_of(slots, done))
+    Ok(all_done(rt, image, gate, workers, bench))
 }
 
-/// The outcomes of all tasks of a deque, in no order.
+/// The outcomes of all tasks of a deque, each in its slot.
 ///
 /// With all passes joined, one more look finds the deque empty; a task that it held would be carried out here.
 #[tactic(auto, using(crate::proofs::Keeps::forks_whole))]
@@ -112,16 +110,24 @@ fn all_done<'a, R: Threads + Wait + Sync, G: Gate + Sync>(
     gate: &G,
     workers: u32,
     bench: Bench<'_, 'a>,
-) -> Result<Vec<Outcome<'a>>, AllocError>
+) -> Vec<Option<Outcome<'a>>>
     requires bench { IsBench bench workers }
     requires whole { (worker_view bench.owner).parts ≡ all_parts }
-    ensures once { IfOk result (λ done. (x : ℕ) → times x (tasks_done done.items) ≡ once_below x bench.entry.lists.room) }
-    ensures done { IfOk result (λ done. All (IsDone image.now (worker_view bench.entry.owner).tasks) done.items) }
+    ensures count { length result.items ≡ length bench.entry.slots.items }
+    ensures filled { AreFilled image.now (worker_view bench.entry.owner).tasks result.items }
 {
     let thief = bench.thief;
-    let (mut owner, done) = crew(rt, image, gate, workers, bench);
-    let done = done?;
+    let (mut owner, slots) = crew(rt, image, gate, workers, bench);
     let place = owner.another::<Whole>();
-    let (_, done) = work(rt, image, gate, Post { thief, place, done });
-    Ok(done)
+    let (_, slots) = fill_slots(
+        rt,
+        image,
+        gate,
+        Desk {
+            thief,
+            place,
+            slots,
+        },
+    );
+    slots
 }

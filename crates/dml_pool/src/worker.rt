@@ -1,8 +1,10 @@
 //! What one worker does.
-ghost use Rattle.std.specs.Prelude.{◌≡◌, vec_capacity};
-ghost use Rattle.dml_pool.specs.Crews.{HasWorked, IsPost};
+ghost use Rattle.std.specs.Prelude.{◌≡◌, ◌<◌, MatchOption, vec_capacity};
+ghost use Rattle.std.specs.List.{All};
+ghost use Rattle.dml_pool.specs.Crews.{HasFilled, HasWorked, IsDesk, IsPost, TakesNext};
 ghost use Rattle.dml_pool.specs.Rule.{HasTakenAll};
-ghost use Rattle.crossbeam_deque.specs.Handles.{view};
+ghost use Rattle.dml_pool.specs.Tasks.{IsRunnable};
+ghost use Rattle.crossbeam_deque.specs.Handles.{view, IsPassOf, SamePass, stealer_deque, stealer_flavor};
 
 use crate::kernels::outcome_of;
 use crate::rule::{Place, Taken, Thief};
@@ -19,9 +21,16 @@ pub struct Post<'t, 'a> {
     pub done: Vec<Outcome<'a>>,
 }
 
+/// Where the calling thread steals, what it knows of the deque, and the slots of all tasks.
+#[derive(Drop)]
+pub struct Desk<'t, 'a> {
+    pub thief: &'t Thief<'a>,
+    pub place: Place<'a>,
+    pub slots: Vec<Option<Outcome<'a>>>,
+}
+
 /// Takes one task after another and carries it out, until none is left; the outcomes join those so far. No memory is
 /// taken.
-#[tactic(auto, using(crate::proofs::Keeps::takes, crate::proofs::Works::finds))]
 pub fn work<'a, R: Wait, G: Gate>(
     rt: &R,
     image: &Image,
@@ -29,22 +38,66 @@ pub fn work<'a, R: Wait, G: Gate>(
     post: Post<'_, 'a>,
 ) -> (Place<'a>, Vec<Outcome<'a>>)
     requires { IsPost image.now post }
-    ensures done { HasWorked image.now post.entry result.0 result.1.items }
-    ensures all { HasTakenAll (view result.0) }
-    ensures room { vec_capacity result.1 ≡ vec_capacity post.entry.done }
+    ensures { HasWorked image.now post.entry result.0 result.1.items }
 {
     let Post {
         thief,
         mut place,
         mut done,
     } = post;
+    while let Some(outcome) = next_outcome(rt, image, gate, thief, &mut place) {
+        done.push_reserved(outcome);
+    }
+    (place, done)
+}
+
+/// The same, where each outcome goes into the slot of its task.
+pub fn fill_slots<'a, R: Wait, G: Gate>(
+    rt: &R,
+    image: &Image,
+    gate: &G,
+    desk: Desk<'_, 'a>,
+) -> (Place<'a>, Vec<Option<Outcome<'a>>>)
+    requires { IsDesk image.now desk }
+    ensures done { HasFilled image.now desk.entry result.0 result.1.items }
+    ensures all { HasTakenAll (view result.0) }
+{
+    let Desk {
+        thief,
+        mut place,
+        mut slots,
+    } = desk;
+    while let Some(outcome) = next_outcome(rt, image, gate, thief, &mut place) {
+        let task = outcome.task as usize;
+        slots[task] = Some(outcome);
+    }
+    (place, slots)
+}
+
+/// Takes the next task and carries it out; none where no task is left.
+#[tactic(auto, using(crate::proofs::Keeps::takes, crate::proofs::Works::finds))]
+fn next_outcome<'a, R: Wait, G: Gate>(
+    rt: &R,
+    image: &Image,
+    gate: &G,
+    thief: &Thief<'a>,
+    place: &mut Place<'a>,
+) -> Option<Outcome<'a>>
+    requires table { IsPassOf (stealer_deque thief.now) place.old }
+    requires flavor { stealer_flavor thief.now ≡ 0 }
+    requires part { 0 < (view place.old).parts }
+    requires runnable { All IsRunnable (view place.old).tasks }
+    ensures same { SamePass place.old place.new }
+    ensures taken { MatchOption result ((view place.new ≡ view place.old) × HasTakenAll (view place.old))
+        (TakesNext image.now (view place.old) (view place.new)) }
+{
     for _ in rt.forever() {
-        match thief.steal_as::<Taken>(&mut place) {
+        match thief.steal_as::<Taken>(place) {
             Steal::Success(item) => {
                 gate.enter(item.number as usize);
-                done.push_reserved(outcome_of(image, item));
+                return Some(outcome_of(image, item));
             }
-            Steal::Empty => return (place, done),
+            Steal::Empty => return None,
             Steal::Retry => {}
         }
     }

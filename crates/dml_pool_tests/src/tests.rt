@@ -7,7 +7,7 @@ ghost use Rattle.dml_pool.specs.Tasks.{IsRunnable, units, room_for};
 use dml_arena::{Arena, Region};
 use dml_desc::{Checked, check};
 use dml_image::{Image, ImageError};
-use dml_pool::{Free, Gate, Outcome, Piece, PoolError, Task, run_wave, run_wave_into_slots};
+use dml_pool::{Free, Gate, Outcome, Piece, PoolError, Queue, Task, run_wave, run_wave_into_slots};
 use dml_scan::Found;
 use dml_types::{Job, Op};
 use std::alloc::{AllocError, Global};
@@ -397,8 +397,29 @@ fn refused_run_wave_of_three(rt: HostRuntime) {
 }
 
 #[test]
-fn set_up_of_run_wave_into_slots(rt: HostRuntime) -> Result<(), Fail> {
+fn set_up_of_queue(rt: HostRuntime) -> Result<(), Fail> {
     made_and_dropped(&rt, rt.alloc())
+}
+
+/// The tasks of a list on the deque, or want of memory.
+#[test]
+fn refused_queue(rt: HostRuntime) -> Result<(), Fail> {
+    let _image = image(rt.alloc())?;
+    let mut arena = Arena::new(rt.alloc(), 0)?;
+    let tasks = tasks_of(&rt, rt.alloc(), &fills(), arena.open())?;
+    if let Ok(queue) = Queue::of_list(rt.alloc(), tasks) {
+        assert_eq!(rt; queue.len(), 40);
+    }
+    Ok(())
+}
+
+#[test]
+fn set_up_of_run_wave_into_slots(rt: HostRuntime) -> Result<(), Fail> {
+    let _image = image(rt.alloc())?;
+    let mut arena = Arena::new(rt.alloc(), 0)?;
+    let tasks = tasks_of(&rt, rt.alloc(), &fills(), arena.open())?;
+    let _queue = Queue::of_list(rt.alloc(), tasks)?;
+    Ok(())
 }
 
 /// Each outcome in the slot of its task, or want of memory with no task begun.
@@ -407,8 +428,9 @@ fn refused_run_wave_into_slots(rt: HostRuntime) -> Result<(), Fail> {
     let image = image(rt.alloc())?;
     let mut arena = Arena::new(rt.alloc(), 0)?;
     let tasks = tasks_of(&rt, rt.alloc(), &fills(), arena.open())?;
+    let queue = Queue::of_list(rt.alloc(), tasks)?;
     let gate = Meeting::new(&rt, [0; 4]);
-    match run_wave_into_slots(&rt, rt.alloc(), &image, tasks, 3, &gate) {
+    match run_wave_into_slots(&rt, rt.alloc(), &image, queue, 3, &gate) {
         Ok(slots) => {
             assert_eq!(rt; slots.len(), 40);
             for (task, slot) in (0..40).zip(slots.as_slice()) {

@@ -91,7 +91,7 @@ fn find_effects<'a, R: Threads + Wait + Sync, G: Gate + Sync>(
     ensures { IfOk result (λ effects. AllZip (IsEffectAt image.now jobs.now) (busy jobs.now wave.now) effects.items) }
 {
     let effects = Vec::with_capacity(alloc, wave.len())?;
-    let tasks = cut_tasks(alloc, jobs, wave, settings.chunk, room)?;
-    let mut slots = run_wave_into_slots(rt, alloc, image, tasks, settings.workers, gate)?;
+    let queue = cut_tasks(alloc, jobs, wave, settings.chunk, room)?;
+    let mut slots = run_wave_into_slots(rt, alloc, image, queue, settings.workers, gate)?;
     Ok(effects_of(image, jobs, wave, settings.chunk, &mut slots, effects))
 }

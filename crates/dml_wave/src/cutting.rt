@@ -1,5 +1,5 @@
 //! The tasks of a wave.
-ghost use Rattle.std.specs.Prelude.{◌≡◌, ◌+◌, ◌<◌, ◌≤◌, [], length, IfOk, vec_len, vec_capacity};
+ghost use Rattle.std.specs.Prelude.{◌≡◌, ◌+◌, ◌<◌, ◌≤◌, [], length, IfOk};
 ghost use Rattle.std.specs.List.{All};
 ghost use Rattle.dml_types.specs.Refusal.{need};
 ghost use Rattle.dml_desc.specs.Checked.{operation_of};
@@ -12,42 +12,42 @@ use crate::units::{chunk_units, room_for, units};
 use dml_arena::Region;
 use dml_desc::Checked;
 use dml_levels::task_count;
-use dml_pool::Task;
+use dml_pool::{Queue, Task};
 use std::alloc::{AllocError, Global};
 
-/// The tasks of the jobs at a wave's places, job after job in the wave's order: each job is cut in chunks of `chunk`
-/// bytes, and each chunk has its region of the room. There is one allocation, for the list.
+/// The tasks of the jobs at a wave's places, job after job in the wave's order, on the deque of their workers: each job
+/// is cut in chunks of `chunk` bytes, and each chunk has its region of the room.
 ///
 /// # Errors
 ///
-/// Where the allocator has no memory left for the list.
+/// Where the allocator has no memory left for the deque.
 pub fn cut_tasks<'a>(
     alloc: Global,
     jobs: &[Checked],
     wave: &[u32],
     chunk: u32,
     room: Region<'a>,
-) -> Result<Vec<Task<'a>>, AllocError>
+) -> Result<Queue<'a>, AllocError>
     requires places { All (λ i. i < length jobs.now) wave.now }
     requires chunk { IsChunk chunk }
     requires empty { room.bytes ≡ [] }
     requires fits { needs_of jobs.now wave.now ≤ room.room }
     requires few { tasks_of jobs.now chunk wave.now ≤ most_tasks }
-    ensures tasks { IfOk result (λ tasks. AreWaveTasks jobs.now chunk wave.now tasks.items) }
-    ensures runnable { IfOk result (λ tasks. All IsRunnable tasks.items) }
-    ensures count { IfOk result (λ tasks. length tasks.items ≡ tasks_of jobs.now chunk wave.now) }
+    ensures tasks { IfOk result (λ queue. AreWaveTasks jobs.now chunk wave.now queue.tasks) }
+    ensures runnable { IfOk result (λ queue. All IsRunnable queue.tasks) }
+    ensures count { IfOk result (λ queue. length queue.tasks ≡ tasks_of jobs.now chunk wave.now) }
 {
-    let mut tasks = Vec::with_capacity(alloc, count_tasks(jobs, wave, chunk))?;
+    let mut queue = Queue::new(alloc, count_tasks(jobs, wave, chunk))?;
     let mut room = room;
     for place in wave {
-        let rest = cut_job(&jobs[*place as usize], chunk, room, &mut tasks);
+        let rest = cut_job(&jobs[*place as usize], chunk, room, &mut queue);
         room = rest;
     }
-    Ok(tasks)
+    Ok(queue)
 }
 
 /// How many tasks the jobs of a wave have.
-fn count_tasks(jobs: &[Checked], wave: &[u32], chunk: u32) -> usize
+fn count_tasks(jobs: &[Checked], wave: &[u32], chunk: u32) -> u32
     requires places { All (λ i. i < length jobs.now) wave.now }
     requires chunk { IsChunk chunk }
     requires few { tasks_of jobs.now chunk wave.now ≤ most_tasks }
@@ -55,19 +55,19 @@ fn count_tasks(jobs: &[Checked], wave: &[u32], chunk: u32) -> usize
 {
     let mut count = 0;
     for place in wave {
-        count += task_count(&jobs[*place as usize], chunk) as usize;
+        count += task_count(&jobs[*place as usize], chunk);
     }
     count
 }
 
-/// Puts the tasks of a job behind those of the list, each with its region of the room, and answers what is left of it.
-fn cut_job<'a>(job: &Checked, chunk: u32, room: Region<'a>, tasks: &mut Vec<Task<'a>>) -> Region<'a>
+/// Puts the tasks of a job behind those that wait, each with its region of the room, and answers what is left of it.
+fn cut_job<'a>(job: &Checked, chunk: u32, room: Region<'a>, queue: &mut Queue<'a>) -> Region<'a>
     requires chunk { IsChunk chunk }
     requires empty { room.bytes ≡ [] }
     requires fits { need job.now ≤ room.room }
-    requires reserved { vec_len tasks.old + task_count job.now chunk ≤ vec_capacity tasks.old }
-    ensures tasks { AddsTasks job.now chunk tasks.old.items tasks.new.items }
-    ensures capacity { vec_capacity tasks.new ≡ vec_capacity tasks.old }
+    requires reserved { length queue.old.tasks + task_count job.now chunk ≤ queue.old.room }
+    ensures tasks { AddsTasks job.now chunk queue.old.tasks queue.new.tasks }
+    ensures capacity { queue.new.room ≡ queue.old.room }
     ensures rest { (result.bytes ≡ []) × (room.entry.room ≤ result.room + need job.now) }
 {
     let op = job.op();
@@ -79,7 +79,7 @@ fn cut_job<'a>(job: &Checked, chunk: u32, room: Region<'a>, tasks: &mut Vec<Task
     for _ in 0..count {
         let to = units.min(from + step);
         let (front, rest) = room.cut(room_for(op, to - from));
-        tasks.push_reserved(Task {
+        queue.push(Task {
             job: *job,
             from,
             to,

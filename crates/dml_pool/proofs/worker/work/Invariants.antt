@@ -1,10 +1,10 @@
-use Rattle.std.proofs.Common.{◌≡◌, vec_capacity}
+use Rattle.std.proofs.Common.{◌≡◌, ◌-◌, length, vec_capacity}
 use Rattle.crossbeam_deque.specs.Handles.{view, IsPassOf, stealer_deque}
 use Rattle.dml_pool.specs.Rule.{Accounts}
 use Rattle.dml_pool.proofs.worker.work.Given as goal
 
-abbrev pub invariant-loop : goal.invariant-loop
-invariant-loop g l =
+abbrev pub invariant-loop-outcome : goal.invariant-loop-outcome
+invariant-loop-outcome g l =
     record {
       table : IsPassOf (stealer_deque l.fn.post.thief.now) l.place;
       tasks : (view l.place).tasks ≡ (view l.fn.post.place).tasks;
@@ -12,3 +12,7 @@ invariant-loop g l =
       so_far : Accounts l.image (view l.place) l.done.items;
       room : vec_capacity l.done ≡ vec_capacity l.fn.post.done;
     }
+
+-- how many tasks the worker has not taken
+abbrev pub decreases-loop-outcome : goal.decreases-loop-outcome
+decreases-loop-outcome g l = length (view l.place).tasks - length (view l.place).taken

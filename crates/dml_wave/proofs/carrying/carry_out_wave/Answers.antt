@@ -1,14 +1,11 @@
-use Rattle.std.proofs.Common.{◌≡◌, ◌<◌, map, length, Some, sym, ◌∙◌, subst}
+use Rattle.std.proofs.Common.{◌<◌, length, sym, ◌∙◌, subst}
 use Rattle.std.specs.List.{All}
 use Rattle.std.proofs.lemmas.List.Elements.{All-filter}
 use Rattle.dml_levels.specs.Waves.{job_at}
 use Rattle.dml_desc.specs.Checked.{operation_of}
-use Rattle.dml_pool.specs.declared.tasks.Outcome.{Outcome}
 use Rattle.dml_levels.specs.Laws.{begun}
-use Rattle.dml_wave.specs.Effects.{HoldWave}
 use Rattle.dml_wave.specs.Waves.{busy, is_busy}
 use Rattle.dml_wave.proofs.CommitLemmas.{busy_apart, busy_enough, committed_all, effects_present, effects_within}
-use Rattle.dml_wave.proofs.ValueLemmas.{values_in, wave_held}
 use Rattle.dml_wave.proofs.carrying.carry_out_wave.Goals as goal
 
 pub commit_all-requires-clause-places : goal.commit_all-requires-clause-places

@@ -8,7 +8,7 @@ use Rattle.dml_wave.proofs.cutting.cut_job.Goals as goal
 
 pub loop-init : goal.loop-init
 loop-init c = record {
-  cut = cut_none c.op-op.result c.args.job.now c.args.chunk 0 c.args.room c.args.tasks.now.items refl c.requires.empty;
+  cut = cut_none c.op-op.result c.args.job.now c.args.chunk 0 c.args.room c.args.queue.now.tasks refl c.requires.empty;
   capacity = refl;
 }
 
@@ -23,14 +23,14 @@ loop-preserved c =
     (arith, c.min-to.ensures, c.units-units.ensures.count, ap (units op) c.job.ensures.job, c.chunk_units-step.ensures.count) in record {
       cut =
           subst
-          (λ (list : List Task). IsCutUpTo op job chunk (c.loop.counter + 1) c.min-to.result c.args.room.room c.cut-front.result.1 c.args.tasks.now.items list)
-          (sym c.push_reserved.ensures.items)
-          (cut_more op job chunk c.loop.counter c.loop.from c.args.room.room c.room_for.result c.min-to.result c.loop.room c.cut-front.result.0 c.cut-front.result.1 c.args.tasks.now.items c.loop.tasks.items c.op-op.ensures.rules c.requires.chunk c.requires.fits below c.loop.invariant.cut end c.room_for.ensures c.cut-front.ensures.opening c.cut-front.ensures.front c.cut-front.ensures.back);
-      capacity = c.push_reserved.ensures.capacity ∙ c.loop.invariant.capacity;
+          (λ (list : List Task). IsCutUpTo op job chunk (c.loop.counter + 1) c.min-to.result c.args.room.room c.cut-front.result.1 c.args.queue.now.tasks list)
+          (sym c.push.ensures.tasks)
+          (cut_more op job chunk c.loop.counter c.loop.from c.args.room.room c.room_for.result c.min-to.result c.loop.room c.cut-front.result.0 c.cut-front.result.1 c.args.queue.now.tasks c.loop.queue.tasks c.op-op.ensures.rules c.requires.chunk c.requires.fits below c.loop.invariant.cut end c.room_for.ensures c.cut-front.ensures.opening c.cut-front.ensures.front c.cut-front.ensures.back);
+      capacity = c.push.ensures.room ∙ c.loop.invariant.capacity;
     }
 
 pub returns-clause-tasks : goal.returns-clause-tasks
 returns-clause-tasks c =
     let all : c.loop.counter ≡ task_count c.args.job.now c.args.chunk =
     omega (arith, c.loop-test.false, c.loop.auto.counter-end, c.task_count-count.ensures.count) in
-    cut_all c.op-op.result c.args.job.now c.args.chunk c.loop.counter c.loop.from c.args.room.room c.loop.room c.args.tasks.now.items c.loop.tasks.items c.op-op.ensures.rules c.requires.chunk all c.loop.invariant.cut
+    cut_all c.op-op.result c.args.job.now c.args.chunk c.loop.counter c.loop.from c.args.room.room c.loop.room c.args.queue.now.tasks c.loop.queue.tasks c.op-op.ensures.rules c.requires.chunk all c.loop.invariant.cut

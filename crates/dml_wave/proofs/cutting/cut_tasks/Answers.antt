@@ -16,6 +16,14 @@ read : (jobs : List Job) (wave : List ℕ) (i : ℕ) (job : Job) → All (λ (k 
 read jobs wave i job places below is =
     is ∙ get_or_default jobs (get_or wave i 0) job no_op_job (All-get_or (λ (k : ℕ). k < length jobs) wave i 0 below places)
 
+pub cut_job-rest-requires-clause-fits : goal.cut_job-rest-requires-clause-fits
+cut_job-rest-requires-clause-fits c =
+    let jobs = c.args.jobs.now in
+    let wave = c.args.wave.now in
+    let i = c.loop-place.place-index in
+    let at = read jobs wave i c.index-jobs-place.result c.requires.places c.loop-place-test.true c.index-jobs-place.is in
+    omega (arith, needs_less jobs wave i c.loop-place-test.true, c.loop-place.invariant.fits, ap need at)
+
 pub cut_job-rest-requires-clause-reserved : goal.cut_job-rest-requires-clause-reserved
 cut_job-rest-requires-clause-reserved c =
     let jobs = c.args.jobs.now in
@@ -25,7 +33,7 @@ cut_job-rest-requires-clause-reserved c =
     let count = ap (λ (job : Job). task_count job c.args.chunk) at in
     let more = tasks_more jobs c.args.chunk wave i c.loop-place-test.true in
     let within = tasks_within jobs c.args.chunk wave (i + 1) in
-    omega (arith, c.loop-place.tasks.ok.0, count, more, within, c.loop-place.invariant.count, c.loop-place.invariant.capacity)
+    omega (arith, count, more, within, c.loop-place.invariant.count, c.loop-place.invariant.capacity)
 
 pub loop-place-preserved : goal.loop-place-preserved
 loop-place-preserved c =
@@ -33,8 +41,8 @@ loop-place-preserved c =
     let wave = c.args.wave.now in
     let chunk = c.args.chunk in
     let i = c.loop-place.place-index in
-    let old = c.loop-place.tasks.items in
-    let new = c.cut_job-rest.new.tasks.items in
+    let old = c.loop-place.queue.tasks in
+    let new = c.cut_job-rest.new.queue.tasks in
     let at = read jobs wave i c.index-jobs-place.result c.requires.places c.loop-place-test.true c.index-jobs-place.is in
     let adds = subst (λ (job : Job). AddsTasks job chunk old new) at c.cut_job-rest.ensures.tasks in record {
       tasks = tasks_added jobs chunk wave i old new c.loop-place-test.true c.loop-place.invariant.tasks adds;

@@ -1,4 +1,4 @@
-use Rattle.std.proofs.Common.{◌≡◌, ◌≤◌, [], All, length, take, drop, vec_capacity}
+use Rattle.std.proofs.Common.{◌≡◌, ◌≤◌, [], All, length, take, drop}
 use Rattle.dml_levels.specs.Waves.{needs_of, tasks_of}
 use Rattle.dml_pool.specs.Tasks.{IsRunnable}
 use Rattle.dml_wave.specs.Tasks.{AreWaveTasks}
@@ -7,10 +7,10 @@ use Rattle.dml_wave.proofs.cutting.cut_tasks.Given as goal
 abbrev pub invariant-loop-place : goal.invariant-loop-place
 invariant-loop-place l =
     record {
-      tasks : AreWaveTasks l.jobs l.chunk (take l.place-index l.wave) l.tasks.items;
-      runnable : All IsRunnable l.tasks.items;
-      count : length l.tasks.items ≡ tasks_of l.jobs l.chunk (take l.place-index l.wave);
+      tasks : AreWaveTasks l.jobs l.chunk (take l.place-index l.wave) l.queue.tasks;
+      runnable : All IsRunnable l.queue.tasks;
+      count : length l.queue.tasks ≡ tasks_of l.jobs l.chunk (take l.place-index l.wave);
       empty : l.room.bytes ≡ [];
       fits : needs_of l.jobs (drop l.place-index l.wave) ≤ l.room.room;
-      capacity : vec_capacity l.tasks ≡ tasks_of l.jobs l.chunk l.wave;
+      capacity : l.queue.room ≡ tasks_of l.jobs l.chunk l.wave;
     }

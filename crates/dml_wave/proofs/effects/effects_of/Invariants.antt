@@ -1,4 +1,4 @@
-use Rattle.std.proofs.Common.{◌≡◌, ◌≤◌, length, take, drop, vec_len, vec_capacity}
+use Rattle.std.proofs.Common.{◌≤◌, length, take, drop, vec_len, vec_capacity}
 use Rattle.std.specs.List.{AllZip}
 use Rattle.dml_wave.specs.Effects.{HoldWave, IsEffectAt}
 use Rattle.dml_wave.specs.Waves.{busy}

@@ -1,0 +1,115 @@
+//! The deque of a wave before its start.
+ghost use Rattle.std.specs.Prelude.{◌≡◌, ◌+◌, ◌*◌, ◌^◌, ◌<◌, ◌≤◌, ◌++◌, ◌∷◌, [], length, IfOk};
+ghost use Rattle.crossbeam_deque.specs.Handles.{worker_view, worker_index, worker_capacity, worker_flavor, SameWorker};
+ghost use Rattle.dml_pool.specs.Rule.{hand, all_parts};
+
+use crate::Task;
+use crate::rule::{Numbered, Owner, Pushed};
+use std::alloc::{AllocError, Global};
+use std::marker::Model;
+
+/// The tasks of a wave that has not started, on the deque that its workers steal from. Each has its place in the wave.
+#[derive(Drop)]
+pub struct Queue<'a> {
+    owner: Owner<'a>,
+    count: u32,
+    room: u32,
+}
+
+impl<'a> Model for Queue<'a> {
+    ghost use Rattle.dml_pool.specs.Queues.{Waiting};
+    ghost use Rattle.crossbeam_deque.specs.Handles.{worker_view, worker_index, worker_capacity, worker_flavor};
+
+    ghost Value = { Waiting };
+
+    ghost view = { λ q. record { tasks = (worker_view q.owner).tasks; room = q.room } };
+
+    ghost use Rattle.std.specs.Prelude.{◌≡◌, ◌^◌, ◌<◌, ◌≤◌, [], length};
+    ghost use Rattle.dml_pool.specs.Rule.{hand, all_parts};
+
+    ghost invariant = { λ q.
+        (worker_view q.owner ≡ hand (worker_view q.owner).tasks all_parts [])
+        × (worker_flavor q.owner ≡ 0)
+        × (worker_index q.owner ≡ q.count)
+        × (q.count ≡ length (worker_view q.owner).tasks)
+        × (q.count ≤ q.room) × (q.room < 2 ^ 32)
+        × (q.room ≤ worker_capacity q.owner) };
+}
+
+impl<'a> Queue<'a> {
+    /// A queue that holds no task and has room for so many.
+    ///
+    /// # Errors
+    ///
+    /// Where the allocator has no memory left for it.
+    pub fn new(alloc: Global, room: u32) -> Result<Queue<'a>, AllocError>
+        ensures empty { IfOk result (λ queue. queue.tasks ≡ []) }
+        ensures room { IfOk result (λ queue. queue.room ≡ room) }
+    {
+        let owner = Owner::fifo_as(alloc, room as usize)?;
+        Ok(Queue {
+            owner,
+            count: 0,
+            room,
+        })
+    }
+
+    /// A queue of the tasks of a list.
+    ///
+    /// # Errors
+    ///
+    /// Where the allocator has no memory left for it.
+    pub fn of_list(alloc: Global, tasks: Vec<Task<'a>>) -> Result<Queue<'a>, AllocError>
+        requires { length tasks.items ≤ 131072 }
+        ensures { IfOk result (λ queue. queue.tasks ≡ tasks.entry.items) }
+    {
+        let mut queue = Queue::new(alloc, tasks.len() as u32)?;
+        for task in tasks {
+            queue.push(task);
+        }
+        Ok(queue)
+    }
+
+    /// How many tasks it holds.
+    pub fn len(&self) -> u32
+        ensures { result ≡ length self.now.tasks }
+    {
+        self.count
+    }
+
+    /// Puts a task behind those that it holds.
+    pub fn push(&mut self, task: Task<'a>)
+        requires { length self.old.tasks < self.old.room }
+        ensures tasks { self.new.tasks ≡ self.old.tasks ++ task.entry ∷ [] }
+        ensures room { self.new.room ≡ self.old.room }
+    {
+        let number = self.count;
+        push(&mut self.owner, Numbered { task, number });
+        self.count = number + 1;
+    }
+
+    /// The end of the deque that pushes, with all tasks on it.
+    pub(crate) fn into_owner(self) -> Owner<'a>
+        ensures tasks { worker_view result ≡ hand self.entry.tasks all_parts [] }
+        ensures flavor { worker_flavor result ≡ 0 }
+    {
+        let Queue { owner, .. } = self;
+        owner
+    }
+}
+
+/// Pushes the next task of a wave. There is room for it.
+#[inline(always)]
+#[tactic(auto, using(crate::proofs::Keeps::pushes))]
+fn push<'a>(owner: &mut Owner<'a>, item: Numbered<'a>)
+    requires whole { (worker_view owner.old).parts ≡ all_parts }
+    requires next { item.number ≡ length (worker_view owner.old).tasks }
+    requires room { worker_index owner.old < worker_capacity owner.old }
+    ensures same { SameWorker owner.old owner.new × (worker_index owner.new ≡ worker_index owner.old + 1) }
+    ensures pushed { worker_view owner.new ≡ hand ((worker_view owner.old).tasks ++ item.entry.task ∷ []) all_parts (worker_view owner.old).taken }
+{
+    match owner.push_as::<Pushed>(item) {
+        Ok(()) => {}
+        Err(_) => unreachable!(),
+    }
+}

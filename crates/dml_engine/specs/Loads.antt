@@ -65,9 +65,9 @@ wave_workers watched most load =
 
 -- the bytes that a job's workers share at most, whatever a check says of it
 abbrev pub shareable_by : Option Op → Job → ℕ
-shareable_by (Some Compare) job = job.size
-shareable_by (Some ComparePattern) job = job.size
-shareable_by (Some CreateDelta) job = job.size
+shareable_by (Some Compare) job = job.size - 2048 * 8
+shareable_by (Some ComparePattern) job = job.size - 2048 * 8
+shareable_by (Some CreateDelta) job = job.size - 2048 * 8
 shareable_by _ job = 0
 
 abbrev pub shareable : List Job → ℕ

@@ -68,6 +68,18 @@ impl Load {
         load
     }
 
+    /// That of all jobs of a list.
+    pub fn of_checked(jobs: &[Checked], chunk: u32) -> Load
+        requires { IsChunk chunk }
+        ensures { result ≡ load_of chunk jobs.now }
+    {
+        let mut load = Load::none();
+        for job in jobs {
+            load = load.with(job, chunk);
+        }
+        load
+    }
+
     /// That of the jobs at a wave's places.
     pub fn of_wave(jobs: &[Checked], wave: &[u32], chunk: u32) -> Load
         requires places { All (λ i. i < length jobs.now) wave.now }
@@ -156,20 +168,9 @@ pub fn levels_pay(jobs: &[Checked], levels: &[u32], chunk: u32) -> bool
     let shared = if depth > 1 {
         shared_by_levels(jobs, levels, chunk)
     } else {
-        shared_by_all(jobs, chunk)
+        Load::of_checked(jobs, chunk).shared
     };
     shared >= LEAST_SHARED.max(depth.saturating_mul(LOOK_BYTES * jobs.len() as u64))
-}
-
-/// The bytes that all jobs of a list share.
-fn shared_by_all(jobs: &[Checked], chunk: u32) -> u64
-    requires { IsChunk chunk }
-{
-    let mut load = Load::none();
-    for job in jobs {
-        load = load.with(job, chunk);
-    }
-    load.shared
 }
 
 /// The bytes that the levels of a list share, as far as one of them shares enough for a second worker.
@@ -212,7 +213,9 @@ fn shareable_bytes(job: &Job) -> u64
     ensures { result ≡ shareable_by (op_of job.now) job.now }
 {
     match job.op() {
-        Some(Op::Compare | Op::ComparePattern | Op::CreateDelta) => u64::from(job.size),
+        Some(Op::Compare | Op::ComparePattern | Op::CreateDelta) => {
+            u64::from(job.size).saturating_sub(TASK_BYTES * JOB_TASKS)
+        }
         _ => 0,
     }
 }

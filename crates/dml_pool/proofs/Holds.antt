@@ -2,7 +2,6 @@
 use Rattle.std.proofs.Common.{◌≡◌, ◌<◌, List, [], ◌∷◌, ◌++◌, length, set, Option, None, Some, IsSomeAnd, refl, sym, ap, ◌∙◌, subst}
 use Rattle.std.specs.List.{All, slice_get}
 use Rattle.std.proofs.lemmas.List.{length-set}
-use Rattle.std.proofs.lemmas.List.Elements.{All-nil, All-weaker}
 use Rattle.std.proofs.lemmas.Option.{slice_get_within}
 use Rattle.dml_types.specs.Memory.{Memory}
 use Rattle.dml_pool.specs.declared.rule.Hand.{Hand}
@@ -23,18 +22,6 @@ done_within memory tasks outcome done = inside (slice_get tasks outcome.task) re
         → outcome.task < length tasks
     inside None is some = absurd some
     inside (Some task) is some = slice_get_within tasks outcome.task task is
-
-pub all_within : (memory : Memory) (v : Hand) (slots : List (Option Outcome)) (outcomes : List Outcome) → length slots ≡ length v.tasks
-    → All (IsDone memory v.tasks) outcomes → All (λ outcome. outcome.task < length slots) outcomes
-all_within memory v slots outcomes count done =
-    All-weaker (IsDone memory v.tasks) (λ outcome. outcome.task < length slots)
-    (λ outcome is. subst (λ n. outcome.task < n) (sym count) (done_within memory v.tasks outcome is)) outcomes done
-
--- of no task yet
-pub hold_none : (memory : Memory) (v : Hand) (slots : List (Option Outcome)) → v.taken ≡ [] → length slots ≡ length v.tasks → AreSlots [] slots
-    → HoldTaken memory v slots
-hold_none memory v slots none count empty =
-    record { outcomes = []; accounts = record { taken = none; done = All-nil (IsDone memory v.tasks) }; count = count; hold = empty }
 
 -- of one task more
 pub hold_more : (memory : Memory) (v w : Hand) (slots : List (Option Outcome)) (outcome : Outcome) → TakesNext memory v w outcome
@@ -60,18 +47,6 @@ hold_joined memory v w x slots put mine known both same long more held right = r
   accounts = accounts_joined memory v w x held.outcomes mine (held.outcomes ++ mine) known both same refl held.accounts right;
   count = long ∙ (held.count ∙ sym (ap length known));
   hold = more held.outcomes held.hold;
-}
-
--- of two passes joined, of which the first took nothing
-pub hold_alone : (memory : Memory) (v w x : Hand) (slots : List (Option Outcome)) → x.tasks ≡ v.tasks → x.taken ≡ v.taken ++ w.taken
-    → w.tasks ≡ v.tasks → v.taken ≡ [] → HoldTaken memory w slots → HoldTaken memory x slots
-hold_alone memory v w x slots known both same none held = record {
-  outcomes = held.outcomes;
-  accounts =
-      accounts_joined memory v w x [] held.outcomes held.outcomes known both same refl
-      (record { taken = none; done = All-nil (IsDone memory v.tasks) }) held.accounts;
-  count = held.count ∙ ap length (same ∙ sym known);
-  hold = held.hold;
 }
 
 -- of a pass that took all

@@ -1,5 +1,5 @@
 -- Outcomes put into slots, one for each task, and taken out again.
-use Rattle.std.proofs.Common.{◌≡◌, ◌≢◌, ℕ, suc, ◌+◌, ◌<◌, List, [], ◌∷◌, ◌++◌, map, set, get_or, length, replicate, drop, Option, None, Some, IsSome, IsSomeAnd, Result, Ok, Err, IfOk, unwrap_or, refl, sym, ap, ap₂, ◌∙◌, subst, ⊎_elim, arith, length-append, append_assoc}
+use Rattle.std.proofs.Common.{◌≡◌, ◌≢◌, ℕ, suc, ◌+◌, ◌<◌, List, [], ◌∷◌, ◌++◌, map, set, get_or, length, replicate, drop, Option, None, Some, IsSome, IsSomeAnd, unwrap_or, refl, sym, ap, ap₂, ◌∙◌, subst, ⊎_elim, arith, length-append, append_assoc}
 use Rattle.std.specs.List.{All, AllZip, Contains, range_with_len, slice_get}
 use Rattle.std.proofs.lemmas.Bool.Decides.{nat_tests}
 use Rattle.std.proofs.lemmas.List.{map-append, get_or-map, get_or-set_other, length-map, length-set}
@@ -15,10 +15,6 @@ use Rattle.dml_pool.specs.Rule.{tasks_done, AreTaskValues, IsDone}
 use Rattle.dml_pool.specs.Slots.{IsSlot, AreFilled, AreSlots}
 use Rattle.dml_pool.proofs.Counts.{times_append}
 use Rattle.dml_pool.proofs.Keeps.{get_longer, get_last}
-
-pub none_left : (outcomes : List Outcome) → length outcomes ≡ 0 → outcomes ≡ []
-none_left [] none = refl
-none_left (o ∷ outcomes) none = absurd (omega (arith, none))
 
 pub empty_slots : (n : ℕ) (slots : List (Option Outcome)) → slots ≡ replicate n None → AreSlots [] slots
 empty_slots n slots are k d inside =
@@ -88,10 +84,6 @@ opened_known done all slots same are k d inside =
     let here : get_or (map some all) k None ≡ Some (get_or all k d) = get_or-map some all k d None inside in
     let slot : IsSlot done k (Some (get_or all k d)) = subst (IsSlot done k) here (known k None (omega (arith, inside, length-map all some))) in
     slot.1
-
-pub if_ok_weaker : {V E : Type 0} (P Q : V → Type 0) (r : Result V E) → ((v : V) → P v → Q v) → IfOk r P → IfOk r Q
-if_ok_weaker P Q (Ok v) weaker p = weaker v p
-if_ok_weaker P Q (Err e) weaker p = tt
 
 -- outcomes in order, each of the task with its number, are those of the tasks one after another
 zipped_from : (memory : Memory) (before tasks : List Task) (outcomes : List Outcome) → tasks_done outcomes ≡ range_with_len (length before) (length tasks)

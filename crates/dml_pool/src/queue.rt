@@ -61,7 +61,8 @@ impl<'a> Queue<'a> {
     /// Where the allocator has no memory left for it.
     pub fn of_list(alloc: Global, tasks: Vec<Task<'a>>) -> Result<Queue<'a>, AllocError>
         requires { length tasks.items ≤ 131072 }
-        ensures { IfOk result (λ queue. queue.tasks ≡ tasks.entry.items) }
+        ensures tasks { IfOk result (λ queue. queue.tasks ≡ tasks.entry.items) }
+        ensures room { IfOk result (λ queue. queue.room ≡ length tasks.entry.items) }
     {
         let mut queue = Queue::new(alloc, tasks.len() as u32)?;
         for task in tasks {
@@ -77,6 +78,13 @@ impl<'a> Queue<'a> {
         self.count
     }
 
+    /// How many tasks it has room for.
+    pub fn room(&self) -> u32
+        ensures { result ≡ self.now.room }
+    {
+        self.room
+    }
+
     /// Puts a task behind those that it holds.
     pub fn push(&mut self, task: Task<'a>)
         requires { length self.old.tasks < self.old.room }
@@ -84,7 +92,7 @@ impl<'a> Queue<'a> {
         ensures room { self.new.room ≡ self.old.room }
     {
         let number = self.count;
-        push(&mut self.owner, Numbered { task, number });
+        push_next(&mut self.owner, Numbered { task, number });
         self.count = number + 1;
     }
 
@@ -101,7 +109,7 @@ impl<'a> Queue<'a> {
 /// Pushes the next task of a wave. There is room for it.
 #[inline(always)]
 #[tactic(auto, using(crate::proofs::Keeps::pushes))]
-fn push<'a>(owner: &mut Owner<'a>, item: Numbered<'a>)
+fn push_next<'a>(owner: &mut Owner<'a>, item: Numbered<'a>)
     requires whole { (worker_view owner.old).parts ≡ all_parts }
     requires next { item.number ≡ length (worker_view owner.old).tasks }
     requires room { worker_index owner.old < worker_capacity owner.old }

@@ -119,15 +119,11 @@ fn all_done<'a, R: Threads + Wait + Sync, G: Gate + Sync>(
     let thief = bench.thief;
     let (mut owner, slots) = crew(rt, image, gate, workers, bench);
     let place = owner.another::<Whole>();
-    let (_, slots) = fill_slots(
-        rt,
-        image,
-        gate,
-        Desk {
-            thief,
-            place,
-            slots,
-        },
-    );
+    let desk = Desk {
+        thief,
+        place,
+        slots,
+    };
+    let (_, slots) = fill_slots(rt, image, gate, desk);
     slots
 }

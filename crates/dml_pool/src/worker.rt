@@ -51,7 +51,8 @@ pub fn work<'a, R: Wait, G: Gate>(
     (place, done)
 }
 
-/// The same, where each outcome goes into the slot of its task.
+/// Takes one task after another and carries it out, until none is left; each outcome goes into the slot of its task.
+/// No memory is taken.
 pub fn fill_slots<'a, R: Wait, G: Gate>(
     rt: &R,
     image: &Image,

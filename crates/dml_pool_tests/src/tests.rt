@@ -408,7 +408,7 @@ fn refused_queue(rt: HostRuntime) -> Result<(), Fail> {
     let mut arena = Arena::new(rt.alloc(), 0)?;
     let tasks = tasks_of(&rt, rt.alloc(), &fills(), arena.open())?;
     if let Ok(queue) = Queue::of_list(rt.alloc(), tasks) {
-        assert_eq!(rt; queue.len(), 40);
+        assert_eq!(rt; (queue.len(), queue.room()), (40, 40));
     }
     Ok(())
 }
@@ -443,7 +443,7 @@ fn refused_run_wave_into_slots(rt: HostRuntime) -> Result<(), Fail> {
     Ok(())
 }
 
-/// What a list of outcomes takes is known: 131,072 tasks with 16 workers ask for 160 MiB.
+/// What a list of outcomes takes is known: 131,072 tasks with 16 workers ask for 150 MiB.
 #[test]
 fn bytes_of_an_outcome(rt: HostRuntime) {
     assert_eq!(rt; mem::size_of::<Outcome<'static>>(), 80);

@@ -1,10 +1,10 @@
 use Rattle.std.proofs.Common.{◌≡◌, ◌<◌, List, [], ◌∷◌, ◌++◌, length, set, Some, append_assoc, ap, sym, ◌∙◌, subst, arith}
 use Rattle.std.specs.List.{All}
-use Rattle.std.proofs.lemmas.List.{append-nil, length-set}
+use Rattle.std.proofs.lemmas.List.{append-nil, length-set, nil_from_length}
 use Rattle.std.proofs.lemmas.List.Elements.{All-head, All-tail}
 use Rattle.dml_pool.specs.declared.tasks.Outcome.{Outcome}
 use Rattle.dml_pool.specs.Slots.{AreSlots}
-use Rattle.dml_pool.proofs.Orders.{more_slots, none_left}
+use Rattle.dml_pool.proofs.Orders.{more_slots}
 use Rattle.dml_pool.proofs.order.slots_of.Goals as goal
 
 pub index_mut-requires : goal.index_mut-requires
@@ -45,5 +45,5 @@ returns-clause-slots c before are =
     let yielded = c.loop-outcome.yielded in
     let rest = c.loop-outcome.outcome-iterator.rest.items in
     let all : c.args.done.items ≡ yielded =
-    c.loop-outcome.invariant.split ∙ (ap (λ (l : List Outcome). yielded ++ l) (none_left rest (omega (arith, c.in-None.ensures.steps.0, c.loop-outcome.outcome-iterator.rest.ok))) ∙ append-nil yielded) in
+    c.loop-outcome.invariant.split ∙ (ap (λ (l : List Outcome). yielded ++ l) (nil_from_length rest (omega (arith, c.in-None.ensures.steps.0, c.loop-outcome.outcome-iterator.rest.ok))) ∙ append-nil yielded) in
     subst (λ (l : List Outcome). AreSlots (before ++ l) c.loop-outcome.slots.items) (sym all) (c.loop-outcome.invariant.slots before are)

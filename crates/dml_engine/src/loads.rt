@@ -1,18 +1,18 @@
 //! How much work jobs are, and how many workers they pay for.
 ghost use Rattle.std.specs.Prelude.{◌≡◌, ◌↔◌, ◌<◌, ◌≤◌, IsTrue, length, map};
-ghost use Rattle.std.specs.List.{All};
+ghost use Rattle.std.specs.List.{All, range_with_len};
 ghost use Rattle.dml_types.specs.Job.{op_of};
 ghost use Rattle.dml_types.specs.Limits.{IsValid};
 ghost use Rattle.dml_levels.specs.Tasks.{IsChunk};
 ghost use Rattle.dml_levels.specs.Waves.{job_at};
 ghost use Rattle.dml_engine.specs.Lists.{opened};
-ghost use Rattle.dml_engine.specs.Loads.{load_of, no_load, shareable, shareable_by, with_job, workers_for};
+ghost use Rattle.dml_engine.specs.Loads.{capped, load_of, no_load, shareable, shareable_by, shared_at, with_job, workers_for};
 ghost use Rattle.dml_engine.specs.Loads as word;
 
 use crate::opening::{Fences, open};
 use crate::submitting::MOST_JOBS;
 use dml_desc::Checked;
-use dml_levels::task_count;
+use dml_levels::{depth, task_count};
 use dml_types::{Job, Op, Settings};
 
 /// Half of the bytes that workers have to share for one more of them to pay, as measured.
@@ -24,10 +24,12 @@ const LEAST_SHARED: u64 = 3 * HALF_OF_A_WORKER;
 /// The bytes that are as dear as a task, as measured.
 const TASK_BYTES: u64 = 2048;
 
-/// How many tasks a job's check, its level and its place in a wave are as dear as, as measured.
+/// How many tasks are taken off for a job: its check, its level and its place in a wave are some tenth as dear as these,
+/// as measured.
 const JOB_TASKS: u64 = 8;
 
-/// The bytes that are as dear as one look at a job for one level, where waves are cut, as measured.
+/// The bytes that are taken off for one look at a job for one level, where waves are cut: twice what is as dear, as
+/// measured.
 const LOOK_BYTES: u64 = 32;
 
 /// How many shared bytes make up for a byte that workers stage and one worker does not, as measured.
@@ -64,18 +66,6 @@ impl Load {
         for job in jobs {
             let (checked, _) = open(job, fences, settings.staging);
             load = load.with(&checked, settings.chunk);
-        }
-        load
-    }
-
-    /// That of all jobs of a list.
-    pub fn of_checked(jobs: &[Checked], chunk: u32) -> Load
-        requires { IsChunk chunk }
-        ensures { result ≡ load_of chunk jobs.now }
-    {
-        let mut load = Load::none();
-        for job in jobs {
-            load = load.with(job, chunk);
         }
         load
     }
@@ -155,42 +145,57 @@ fn workers_for(bytes: u64, most: u32) -> u32
     (paid.min(u64::from(most)) as u32).max(1)
 }
 
-/// Whether some levels of a list share enough bytes for a second worker, and these make up for the cut of its waves,
-/// which looks at every job for every level. No wave of another level is given a second worker.
+/// Of a list that is worth a second worker, whether some of its levels are: whether they share enough bytes for one, and
+/// these make up for the cut of its waves, which looks at every job for every level. No wave of another level is given a
+/// second worker.
 pub fn levels_pay(jobs: &[Checked], levels: &[u32], chunk: u32) -> bool
     requires { IsChunk chunk }
+    ensures rule { result ≡ word.levels_pay chunk jobs.now levels.now }
 {
-    let depth = levels
-        .iter()
-        .map(|level| u64::from(*level) + 1)
-        .max()
-        .unwrap_or(0);
-    let shared = if depth > 1 {
-        shared_by_levels(jobs, levels, chunk)
-    } else {
-        Load::of_checked(jobs, chunk).shared
-    };
-    shared >= LEAST_SHARED.max(depth.saturating_mul(LOOK_BYTES * jobs.len() as u64))
+    let depth = depth(levels);
+    if depth <= 1 {
+        return true;
+    }
+    let cut = depth.saturating_mul(LOOK_BYTES * jobs.len() as u64);
+    brought_by_levels(jobs, levels, chunk) >= LEAST_SHARED.max(cut)
 }
 
 /// The bytes that the levels of a list share, as far as one of them shares enough for a second worker.
 #[inline(never)]
-fn shared_by_levels(jobs: &[Checked], levels: &[u32], chunk: u32) -> u64
+fn brought_by_levels(jobs: &[Checked], levels: &[u32], chunk: u32) -> u64
     requires { IsChunk chunk }
+    ensures { result ≡ word.brought_by_levels chunk jobs.now levels.now }
 {
-    let mut by_level = [0_u64; MOST_JOBS];
-    for (job, level) in jobs.iter().zip(levels) {
-        if let Some(shared) = by_level.get_mut(*level as usize) {
-            *shared = shared.saturating_add(Load::none().with(job, chunk).shared);
-        }
-    }
+    let by_level = shared_by_level(jobs, levels, chunk);
     let mut all = 0_u64;
-    for shared in by_level {
-        if shared >= LEAST_SHARED {
-            all = all.saturating_add(shared);
-        }
+    for shared in &by_level {
+        all = all.saturating_add(brought(*shared));
     }
     all
+}
+
+/// What a level brings whose jobs share so many bytes.
+fn brought(shared: u64) -> u64
+    ensures { result ≡ word.brought shared }
+{
+    if shared < LEAST_SHARED { 0 } else { shared }
+}
+
+/// The bytes that the jobs of each level share.
+#[inline(always)]
+fn shared_by_level(jobs: &[Checked], levels: &[u32], chunk: u32) -> [u64; MOST_JOBS]
+    requires { IsChunk chunk }
+    ensures { result ≡ map (λ level. capped (shared_at chunk jobs.now levels.now level)) (range_with_len 0 1024) }
+{
+    let mut by_level = [0_u64; MOST_JOBS];
+    for place in 0..jobs.len().min(levels.len()) {
+        let level = levels[place] as usize;
+        if level < MOST_JOBS {
+            let load = Load::none().with(&jobs[place], chunk);
+            by_level[level] = by_level[level].saturating_add(load.shared);
+        }
+    }
+    by_level
 }
 
 /// Whether the jobs name enough bytes for a second worker, before any of them is checked.

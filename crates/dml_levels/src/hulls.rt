@@ -1,4 +1,4 @@
-ghost use Rattle.std.specs.Prelude.{◌≡◌, ◌++◌, false};
+ghost use Rattle.std.specs.Prelude.{◌≡◌, false};
 ghost use Rattle.std.specs.List.{list_any};
 ghost use Rattle.dml_types.specs.Job.{is_past};
 ghost use Rattle.dml_levels.specs.Hulls.{hull_both, hull_of, hulls_meet, no_hull, no_reach, reach_both, reaches_meet};

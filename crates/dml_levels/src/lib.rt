@@ -28,4 +28,4 @@ pub use ranges::Spans;
 pub use tasks::task_count;
 pub use touched::Touches;
 pub use touching::touches;
-pub use waving::waves;
+pub use waving::{depth, waves};

@@ -77,7 +77,7 @@ fn find_waves(
 }
 
 /// How many levels there are.
-pub(crate) fn depth(levels: &[u32]) -> u64
+pub fn depth(levels: &[u32]) -> u64
     ensures { result ≡ depth levels.now }
 {
     let mut depth = 0;

@@ -4,7 +4,7 @@ ghost use Rattle.dml_types.specs.Refusal.{need};
 mod growths;
 
 use dml_desc::{Checked, check, check_in_batch};
-use dml_levels::{LevelError, Wave, conflict, levels, task_count, touches, waves};
+use dml_levels::{LevelError, Wave, conflict, depth, levels, task_count, touches, waves};
 use dml_types::{Job, Span, Status};
 use std::alloc::Global;
 use std::process::Abort;
@@ -72,6 +72,12 @@ fn conflict_chain(rt: HostRuntime) -> Result<(), Fail> {
 #[test]
 fn levels_of_four_jobs(rt: HostRuntime) -> Result<(), Fail> {
     expect_levels(&rt, rt.alloc(), &four_jobs(), &[0, 1, 0, 2]).ok_or("no memory")?;
+    Ok(())
+}
+
+#[test]
+fn levels_are_counted(rt: HostRuntime) -> Result<(), Fail> {
+    assert_eq!(rt; (depth(&[0, 1, 0, 2]), depth(&[0]), depth(&[])), (3, 1, 0));
     Ok(())
 }
 

@@ -1,5 +1,5 @@
 //! The workers of a wave: how they start and how they are joined.
-ghost use Rattle.std.specs.Prelude.{◌≡◌, ◌+◌, ◌-◌, ◌<◌, ◌≤◌, ◌++◌};
+ghost use Rattle.std.specs.Prelude.{◌≡◌, ◌+◌, ◌-◌, ◌<◌, ◌++◌};
 ghost use Rattle.std.specs.Thread.{IsSync};
 ghost use Rattle.crossbeam_deque.specs.Handles.{view, worker_view, worker_deque, IsPassOf};
 ghost use Rattle.dml_pool.specs.Crews.{HasWorked, HaveWorked, IsBench, IsPost};

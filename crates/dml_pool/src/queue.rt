@@ -1,5 +1,5 @@
 //! The deque of a wave before its start.
-ghost use Rattle.std.specs.Prelude.{◌≡◌, ◌+◌, ◌*◌, ◌^◌, ◌<◌, ◌≤◌, ◌++◌, ◌∷◌, [], length, IfOk};
+ghost use Rattle.std.specs.Prelude.{◌≡◌, ◌+◌, ◌^◌, ◌<◌, ◌≤◌, ◌++◌, ◌∷◌, [], length, IfOk};
 ghost use Rattle.crossbeam_deque.specs.Handles.{worker_view, worker_index, worker_capacity, worker_flavor, SameWorker};
 ghost use Rattle.dml_pool.specs.Rule.{hand, all_parts};
 

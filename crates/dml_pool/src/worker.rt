@@ -1,5 +1,5 @@
 //! What one worker does.
-ghost use Rattle.std.specs.Prelude.{◌≡◌, ◌<◌, MatchOption, vec_capacity};
+ghost use Rattle.std.specs.Prelude.{◌≡◌, ◌<◌, MatchOption};
 ghost use Rattle.std.specs.List.{All};
 ghost use Rattle.dml_pool.specs.Crews.{HasFilled, HasWorked, IsDesk, IsPost, TakesNext};
 ghost use Rattle.dml_pool.specs.Rule.{HasTakenAll};

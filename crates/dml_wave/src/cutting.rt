@@ -2,7 +2,6 @@
 ghost use Rattle.std.specs.Prelude.{◌≡◌, ◌+◌, ◌<◌, ◌≤◌, [], length, IfOk};
 ghost use Rattle.std.specs.List.{All};
 ghost use Rattle.dml_types.specs.Refusal.{need};
-ghost use Rattle.dml_desc.specs.Checked.{operation_of};
 ghost use Rattle.dml_levels.specs.Tasks.{IsChunk, task_count};
 ghost use Rattle.dml_levels.specs.Waves.{most_tasks, needs_of, tasks_of};
 ghost use Rattle.dml_pool.specs.Tasks.{IsRunnable};

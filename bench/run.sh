@@ -18,7 +18,7 @@ if [ ! -x "$proved" ]; then
 fi
 work=$(mktemp -d) || exit 2
 trap 'rm -rf "$work"' EXIT
-for name in memmove staged fill compare create compares; do
+for name in memmove staged fill compare create compares ruled; do
     "${CC:-clang}" ${CFLAGS:--O2} -pthread -o "$work/$name" "$here/$name.c" || exit 2
 done
 
@@ -33,10 +33,10 @@ echo "load before: $(cut -d ' ' -f 1-3 /proc/loadavg)"
 round=1
 while [ "$round" -le "$rounds" ]; do
     set -- "$proved" "$work/memmove" "$work/staged" "$work/fill" "$work/compare" "$work/create" \
-        "$work/compares"
+        "$work/compares" "$work/ruled"
     [ $((round % 2)) -eq 0 ] &&
-        set -- "$work/compares" "$work/create" "$work/compare" "$work/fill" "$work/staged" "$work/memmove" \
-            "$proved"
+        set -- "$work/ruled" "$work/compares" "$work/create" "$work/compare" "$work/fill" "$work/staged" \
+            "$work/memmove" "$proved"
     for program in "$@"; do
         one "$round" "$program"
     done
@@ -105,9 +105,9 @@ awk '
             printf "%-24s %9d %12.1f\n", part[1], part[2], middle(part[1], part[2])
         }
         printf "\n%-24s %12s %12s %12s %8s %8s\n", "list, by workers", "1, ns", "2, ns", "4, ns", "1 to 2", "1 to 4"
-        shapes = split("list_compares_64 threads_compares_64 list_compares_4 threads_compares_4 list_no_ops " \
-            "list_page_moves list_large_moves list_small_moves list_chain list_mixed list_compare_chain " \
-            "list_short_chain", shape)
+        shapes = split("list_compares_64 threads_compares_64 ruled_compares_64 list_compares_4 threads_compares_4 " \
+            "ruled_compares_4 list_no_ops list_page_moves list_large_moves list_small_moves list_chain list_mixed " \
+            "list_compare_chain list_short_chain", shape)
         for (n = 1; n <= shapes; n++)
             printf "%-24s %12.0f %12.0f %12.0f %7.2fx %7.2fx\n", shape[n], middle(shape[n], 1), middle(shape[n], 2), \
                 middle(shape[n], 4), speed(shape[n], 2), speed(shape[n], 4)

@@ -1,15 +1,19 @@
 /* The lists of compares.c by the rules of a wave, as plain C: threads take one task a time from a deque that holds them
    all before the first one starts; an outcome is a record, which a started thread puts into its own list, and which
-   goes from there into the slot of its task once the thread is joined; pages lie apart, and are compared 16 bytes at a
-   time. A list of one thread is compared page by page, with no task. Memory is kept from list to list. */
+   goes from there into the slot of its task once all threads have left their lists: their ends are not waited for.
+   Pages lie apart, and are compared 16 bytes at a time. A list of one thread is compared page by page, with no task.
+   Memory is kept from list to list. */
 #include <emmintrin.h>
+#include <linux/futex.h>
 #include <pthread.h>
 #include <stdatomic.h>
+#include <sys/syscall.h>
+#include <unistd.h>
 
 #include "timing.h"
 
 enum { CHUNK = 65536, CHUNKS = MEBIBYTE / CHUNK, MOST_TASKS = 64 * CHUNKS, PAIRS = 8, PAGE = 4096, STEP = 128 };
-enum { PAGES = PAIRS * 2 * MEBIBYTE / PAGE };
+enum { PAGES = PAIRS * 2 * MEBIBYTE / PAGE, LOOKS = 200 };
 
 struct task {
     uint64_t source, target, words[7];
@@ -27,6 +31,7 @@ static unsigned char *pages[PAGES];
 static struct task deque[MOST_TASKS];
 static _Alignas(128) atomic_uint front;
 static _Alignas(128) atomic_uint back;
+static _Alignas(128) atomic_uint left;
 static struct outcome slots[MOST_TASKS];
 static struct list {
     unsigned count;
@@ -79,7 +84,20 @@ static void *work(void *given) {
     while (take(&task))
         mine->outcomes[count++] = outcome_of(&task);
     mine->count = count;
+    if (atomic_fetch_sub(&left, 1) == 1)
+        syscall(SYS_futex, &left, FUTEX_WAKE_PRIVATE, 1, NULL, NULL, 0);
     return NULL;
+}
+
+/* Looks for a while, and then sleeps, until no thread is at its list. */
+static void wait_for_all(void) {
+    unsigned at = atomic_load(&left);
+    for (unsigned look = 0; at && look < LOOKS; look++) {
+        _mm_pause();
+        at = atomic_load(&left);
+    }
+    for (; at; at = atomic_load(&left))
+        syscall(SYS_futex, &left, FUTEX_WAIT_PRIVATE, at, NULL, NULL, 0);
 }
 
 static int alone(unsigned jobs) {
@@ -103,22 +121,22 @@ static void cut(unsigned tasks) {
 }
 
 static int list(unsigned jobs, unsigned threads) {
-    pthread_t started[3];
+    pthread_t started;
     struct task task;
     int all = 0;
     if (threads == 1)
         return alone(jobs);
     cut(jobs * CHUNKS);
+    atomic_store(&left, threads - 1);
     for (unsigned t = 1; t < threads; t++)
-        if (pthread_create(&started[t - 1], NULL, work, &lists[t - 1]))
+        if (pthread_create(&started, NULL, work, &lists[t - 1]) || pthread_detach(started))
             exit(1);
     while (take(&task))
         slots[task.number] = outcome_of(&task);
-    for (unsigned t = threads - 1; t > 0; t--) {
-        pthread_join(started[t - 1], NULL);
+    wait_for_all();
+    for (unsigned t = 1; t < threads; t++)
         for (unsigned k = 0; k < lists[t - 1].count; k++)
             slots[lists[t - 1].outcomes[k].task] = lists[t - 1].outcomes[k];
-    }
     for (unsigned t = 0; t < jobs * CHUNKS; t++)
         all |= slots[t].differs;
     return all;

@@ -1,120 +1,87 @@
-//! The workers of a wave: how they start and how they are joined.
-ghost use Rattle.std.specs.Prelude.{◌≡◌, ◌+◌, ◌-◌, ◌<◌, ◌++◌};
-ghost use Rattle.std.specs.Thread.{IsSync};
-ghost use Rattle.crossbeam_deque.specs.Handles.{view, worker_view, worker_deque, IsPassOf};
-ghost use Rattle.dml_pool.specs.Crews.{HasWorked, HaveWorked, IsBench, IsPost};
-ghost use Rattle.dml_pool.specs.Rule.{Accounts};
-ghost use Rattle.dml_pool.specs.Slots.{HoldTaken};
+//! The workers of a wave: how they start and how the calling thread waits for them.
+ghost use Rattle.std.specs.Prelude.{◌≡◌};
+ghost use Rattle.crossbeam_deque.specs.Handles.{view, stealer_deque};
+ghost use Rattle.dml_pool.specs.Crews.{AreCommon, HasFilled, IsDesk};
 
-use crate::lists::Lists;
-use crate::order::slots_of;
-use crate::rule::{Owner, Part, Place, Thief};
-use crate::worker::{Desk, Post, fill_slots, work};
+use crate::posts::{Common, Post};
+use crate::rule::{Place, Thief};
+use crate::worker::{Desk, fill_slots, work};
 use crate::{Gate, Outcome};
 use dml_image::Image;
-use std::sync::Wait;
-use std::thread::{Threads, join};
+use std::alloc::Global;
+use std::hint::spin_loop;
+use std::mem;
+use std::sync::{Mutex, Wait};
+use std::thread::{Threads, scope, scope_env};
 
-/// Both ends of a deque, a slot for each of its tasks, and for each worker but the last a list with room for the
-/// outcomes of them all.
-#[derive(Drop)]
-pub struct Bench<'t, 'a> {
-    pub thief: &'t Thief<'a>,
-    pub owner: Owner<'a>,
-    pub lists: Lists<'a>,
-    pub slots: Vec<Option<Outcome<'a>>>,
-}
+/// How often the calling thread looks at a post where a worker still is, some 50 ns each time, before it sleeps.
+const LOOKS: u32 = 200;
 
-/// Starts a worker for each level but the last, which is the calling thread's own, and joins them all. Each outcome is
-/// in the slot of its task then: those of the calling thread go there at once, those of the others out of their lists.
-/// No memory is taken but for the threads.
-#[cycle(levels)]
-#[tactic(auto, using(crate::proofs::Keeps::forks))]
-pub fn crew<'a, R: Threads + Wait + Sync, G: Gate + Sync>(
+/// Starts a worker at each post, works at the desk until no task is left, and waits until the workers have left theirs.
+/// That their threads end is not waited for. A worker for which no thread can be made leaves its post as it was, and the
+/// tasks to the others.
+pub fn crew<'a, R: Threads + Wait + Sync, G: Gate + Sync, W: Common + Send>(
     rt: &R,
+    alloc: Global,
     image: &Image,
     gate: &G,
-    workers: u32,
-    bench: Bench<'_, 'a>,
-) -> (Owner<'a>, Vec<Option<Outcome<'a>>>)
-    requires { IsBench bench workers }
-    ensures { HaveWorked image.now bench.entry result.0 result.1.items }
+    posts: &[Mutex<Post<'a, W>>],
+    desk: Desk<'_, 'a>,
+) -> (Place<'a>, Vec<Option<Outcome<'a>>>)
+    requires desk { IsDesk image.now desk }
+    requires memory { image.now ≡ W.memory }
+    requires deque { stealer_deque desk.thief.now ≡ W.deque }
+    requires tasks { (view desk.place).tasks ≡ W.tasks }
+    ensures done { HasFilled image.now desk.entry result.0 result.1.items }
 {
-    let Bench {
-        thief,
-        mut owner,
-        mut lists,
-        slots,
-    } = bench;
-    let place = owner.another::<Part>();
-    if workers == 1 {
-        let (place, slots) = fill_slots(
-            rt,
-            image,
-            gate,
-            Desk {
-                thief,
-                place,
-                slots,
-            },
-        );
-        return (absorbed(owner, place), slots);
+    if posts.is_empty() {
+        return fill_slots(rt, image, gate, desk);
     }
-    let done = lists.next_list();
-    let post = Post { thief, place, done };
-    let rest = Bench {
-        thief,
-        owner,
-        lists,
-        slots,
-    };
-    let ((place, mine), (owner, slots)) = join(
+    let thief = desk.thief;
+    scope(
+        scope_env(),
         rt,
-        || -> (Place, Vec<Outcome>)
-            requires { IsSync R.row × IsSync G.row × IsPost image.now post }
-            ensures { HasWorked image.entry.now post.entry result.0 result.1.items }
-        { work(rt, image, gate, post) },
-        || -> (Owner, Vec<Option<Outcome>>)
-            requires { IsSync R.row × IsSync G.row × (1 < workers) × IsBench rest (workers - 1) }
-            ensures { HaveWorked image.entry.now rest.entry result.0 result.1.items }
-        { crew(rt, image, gate, workers - 1, rest) },
-    );
-    gathered(image, owner, place, slots, mine)
+        |scope| -> (Place, Vec<Option<Outcome>>)
+            requires { IsDesk image.now desk × AreCommon W.memory W.deque W.tasks image.now thief.now }
+            ensures { HasFilled image.entry.now desk.entry result.0 result.1.items }
+        {
+            for post in posts {
+                let _ = scope.spawn(
+                    move || -> ()
+                        requires { AreCommon W.memory W.deque W.tasks image.now thief.now }
+                    { work_at(rt, alloc, image, gate, thief, post) },
+                );
+            }
+            let filled = fill_slots(rt, image, gate, desk);
+            posts.iter().for_each(look_for_end);
+            filled
+        },
+    )
 }
 
-/// Joins a worker's pass.
-#[tactic(auto, using(crate::proofs::Keeps::merges))]
-fn absorbed<'a>(mut owner: Owner<'a>, place: Place<'a>) -> Owner<'a>
-    requires table { IsPassOf (worker_deque owner) place }
-    requires tasks { (view place).tasks ≡ (worker_view owner).tasks }
-    requires part { 0 < (worker_view owner).parts }
-    ensures table { worker_deque result ≡ worker_deque owner.entry }
-    ensures tasks { (worker_view result).tasks ≡ (worker_view owner.entry).tasks }
-    ensures parts { (worker_view result).parts ≡ (worker_view owner.entry).parts + (view place.entry).parts }
-    ensures taken { (worker_view result).taken ≡ (worker_view owner.entry).taken ++ (view place.entry).taken }
-{
-    owner.absorb::<Part>(place);
-    owner
+/// Looks at a post for a while, until no worker is there: a thread that sleeps is woken late.
+fn look_for_end<T>(post: &Mutex<T>) {
+    for _ in 0..LOOKS {
+        if post.try_lock().is_some() {
+            return;
+        }
+        spin_loop();
+    }
 }
 
-/// Joins a worker's pass, and puts its outcomes into their slots.
-fn gathered<'a>(
-    _image: &Image,
-    owner: Owner<'a>,
-    place: Place<'a>,
-    slots: Vec<Option<Outcome<'a>>>,
-    mine: Vec<Outcome<'a>>,
-) -> (Owner<'a>, Vec<Option<Outcome<'a>>>)
-    requires table { IsPassOf (worker_deque owner) place }
-    requires tasks { (view place).tasks ≡ (worker_view owner).tasks }
-    requires part { 0 < (worker_view owner).parts }
-    requires so_far { HoldTaken _image.now (worker_view owner) slots.items }
-    requires mine { Accounts _image.now (view place) mine.items }
-    ensures table { worker_deque result.0 ≡ worker_deque owner.entry }
-    ensures tasks { (worker_view result.0).tasks ≡ (worker_view owner.entry).tasks }
-    ensures parts { (worker_view result.0).parts ≡ (worker_view owner.entry).parts + (view place.entry).parts }
-    ensures slots { HoldTaken _image.now (worker_view result.0) result.1.items }
+/// Works at a post until no task is left.
+fn work_at<'a, R: Wait, G: Gate, W: Common>(
+    rt: &R,
+    alloc: Global,
+    image: &Image,
+    gate: &G,
+    thief: &Thief<'a>,
+    post: &Mutex<Post<'a, W>>,
+)
+    requires { AreCommon W.memory W.deque W.tasks image.now thief.now }
 {
-    let slots = slots_of(slots, mine);
-    (absorbed(owner, place), slots)
+    let mut guard = post.lock(rt);
+    let mine = &mut *guard;
+    let done = mem::replace(&mut mine.done, Vec::new(alloc));
+    mine.done = work(rt, image, gate, thief, &mut mine.place, done);
 }

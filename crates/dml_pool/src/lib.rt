@@ -7,8 +7,8 @@
 mod crew;
 mod gate;
 mod kernels;
-mod lists;
 mod order;
+mod posts;
 mod queue;
 mod rule;
 mod tasks;

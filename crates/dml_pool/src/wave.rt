@@ -1,20 +1,20 @@
 //! A wave of tasks.
-ghost use Rattle.std.specs.Prelude.{◌≡◌, ◌≤◌, length, IfOk};
+ghost use Rattle.std.specs.Prelude.{◌≡◌, ◌≤◌, [], length, IfOk};
 ghost use Rattle.std.specs.List.{All, range_with_len};
-ghost use Rattle.crossbeam_deque.specs.Handles.{worker_view};
-ghost use Rattle.dml_pool.specs.Crews.{IsBench};
-ghost use Rattle.dml_pool.specs.Rule.{all_parts, tasks_done, AreTaskValues};
-ghost use Rattle.dml_pool.specs.Slots.{AreFilled};
+ghost use Rattle.crossbeam_deque.specs.Handles.{worker_view, worker_deque, stealer_deque, stealer_flavor};
+ghost use Rattle.dml_pool.specs.Rule.{all_parts, hand, tasks_done, AreTaskValues};
+ghost use Rattle.dml_pool.specs.Slots.{AreFilled, AreSlots};
 ghost use Rattle.dml_pool.specs.Tasks.{IsRunnable};
 
-use crate::crew::{Bench, crew};
-use crate::lists::Lists;
+use crate::crew::crew;
 use crate::order::{empty_slots, opened};
-use crate::rule::Whole;
+use crate::posts::{Common, absorbed, gathered, posts_for};
+use crate::rule::{Owner, Part, Thief, Whole};
 use crate::worker::{Desk, fill_slots};
 use crate::{Gate, Outcome, Queue, Task};
 use dml_image::Image;
 use std::alloc::{AllocError, Global};
+use std::marker::Brand;
 use std::sync::Wait;
 use std::thread::Threads;
 use thiserror::Error;
@@ -87,37 +87,52 @@ pub fn run_wave_into_slots<'a, R: Threads + Wait + Sync, G: Gate + Sync>(
 {
     let count = queue.len();
     let workers = workers.min(count).max(1);
-    let lists = Lists::new(alloc, workers - 1, count as usize)?;
     let slots = empty_slots(alloc, count as usize)?;
     let owner = queue.into_owner();
     let thief = owner.stealer()?;
-    let bench = Bench {
-        thief: &thief,
-        owner,
-        lists,
-        slots,
-    };
-    Ok(all_done(rt, image, gate, workers, bench))
+    all_done::<R, G, Brand>(rt, alloc, image, gate, workers, &thief, owner, slots)
 }
 
 /// The outcomes of all tasks of a deque, each in its slot.
 ///
 /// With all passes joined, one more look finds the deque empty; a task that it held would be carried out here.
-#[tactic(auto, using(crate::proofs::Keeps::forks_whole))]
-fn all_done<'a, R: Threads + Wait + Sync, G: Gate + Sync>(
+///
+/// # Errors
+///
+/// `Refused` where the allocator has no memory left for a list of outcomes.
+#[tactic(auto, using(crate::proofs::Keeps::forks, crate::proofs::Keeps::forks_whole))]
+fn all_done<'a, R: Threads + Wait + Sync, G: Gate + Sync, W: Common + Send>(
     rt: &R,
+    alloc: Global,
     image: &Image,
     gate: &G,
     workers: u32,
-    bench: Bench<'_, 'a>,
-) -> Vec<Option<Outcome<'a>>>
-    requires bench { IsBench bench workers }
-    requires whole { (worker_view bench.owner).parts ≡ all_parts }
-    ensures count { length result.items ≡ length bench.entry.slots.items }
-    ensures filled { AreFilled image.now (worker_view bench.entry.owner).tasks result.items }
+    thief: &Thief<'a>,
+    mut owner: Owner<'a>,
+    slots: Vec<Option<Outcome<'a>>>,
+) -> Result<Vec<Option<Outcome<'a>>>, PoolError>
+    requires least_workers { 1 ≤ workers }
+    requires most_workers { workers ≤ 16 }
+    requires memory { image.now ≡ W.memory }
+    requires deque { stealer_deque thief.now ≡ W.deque }
+    requires owner { worker_deque owner ≡ W.deque }
+    requires flavor { stealer_flavor thief.now ≡ 0 }
+    requires tasks { worker_view owner ≡ hand W.tasks all_parts [] }
+    requires runnable { All IsRunnable W.tasks }
+    requires count { length slots.items ≡ length W.tasks }
+    requires empty { AreSlots [] slots.items }
+    ensures count { IfOk result (λ slots. length slots.items ≡ length W.tasks) }
+    ensures filled { IfOk result (λ slots. AreFilled image.now W.tasks slots.items) }
 {
-    let thief = bench.thief;
-    let (mut owner, slots) = crew(rt, image, gate, workers, bench);
+    let posts = posts_for::<W>(alloc, &mut owner, workers - 1, slots.len())?;
+    let place = owner.another::<Part>();
+    let desk = Desk {
+        thief,
+        place,
+        slots,
+    };
+    let (place, slots) = crew(rt, alloc, image, gate, posts.as_slice(), desk);
+    let (mut owner, slots) = gathered(absorbed(owner, place), slots, posts);
     let place = owner.another::<Whole>();
     let desk = Desk {
         thief,
@@ -125,5 +140,5 @@ fn all_done<'a, R: Threads + Wait + Sync, G: Gate + Sync>(
         slots,
     };
     let (_, slots) = fill_slots(rt, image, gate, desk);
-    slots
+    Ok(slots)
 }

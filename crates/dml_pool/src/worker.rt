@@ -1,8 +1,8 @@
 //! What one worker does.
-ghost use Rattle.std.specs.Prelude.{◌≡◌, ◌<◌, MatchOption};
+ghost use Rattle.std.specs.Prelude.{◌≡◌, ◌<◌, ◌≤◌, length, vec_capacity, MatchOption};
 ghost use Rattle.std.specs.List.{All};
-ghost use Rattle.dml_pool.specs.Crews.{HasFilled, HasWorked, IsDesk, IsPost, TakesNext};
-ghost use Rattle.dml_pool.specs.Rule.{HasTakenAll};
+ghost use Rattle.dml_pool.specs.Crews.{HasFilled, IsDesk, TakesNext};
+ghost use Rattle.dml_pool.specs.Rule.{Accounts, HasTakenAll};
 ghost use Rattle.dml_pool.specs.Tasks.{IsRunnable};
 ghost use Rattle.crossbeam_deque.specs.Handles.{view, IsPassOf, SamePass, stealer_deque, stealer_flavor};
 
@@ -13,14 +13,6 @@ use crossbeam_deque::Steal;
 use dml_image::Image;
 use std::sync::Wait;
 
-/// Where a worker steals, what it knows of the deque, and its list of outcomes, which has room for all tasks.
-#[derive(Drop)]
-pub struct Post<'t, 'a> {
-    pub thief: &'t Thief<'a>,
-    pub place: Place<'a>,
-    pub done: Vec<Outcome<'a>>,
-}
-
 /// Where the calling thread steals, what it knows of the deque, and the slots of all tasks.
 #[derive(Drop)]
 pub struct Desk<'t, 'a> {
@@ -29,26 +21,32 @@ pub struct Desk<'t, 'a> {
     pub slots: Vec<Option<Outcome<'a>>>,
 }
 
-/// Takes one task after another and carries it out, until none is left; the outcomes join those so far. No memory is
-/// taken.
+/// Takes one task after another and carries it out, until none is left; the outcomes join those so far, in a list that
+/// has room for those of all tasks. No memory is taken.
 pub fn work<'a, R: Wait, G: Gate>(
     rt: &R,
     image: &Image,
     gate: &G,
-    post: Post<'_, 'a>,
-) -> (Place<'a>, Vec<Outcome<'a>>)
-    requires { IsPost image.now post }
-    ensures { HasWorked image.now post.entry result.0 result.1.items }
+    thief: &Thief<'a>,
+    place: &mut Place<'a>,
+    mut done: Vec<Outcome<'a>>,
+) -> Vec<Outcome<'a>>
+    requires table { IsPassOf (stealer_deque thief.now) place.old }
+    requires flavor { stealer_flavor thief.now ≡ 0 }
+    requires part { 0 < (view place.old).parts }
+    requires runnable { All IsRunnable (view place.old).tasks }
+    requires so_far { Accounts image.now (view place.old) done.items }
+    requires room { length (view place.old).tasks ≤ vec_capacity done }
+    ensures same { SamePass place.old place.new }
+    ensures tasks { (view place.new).tasks ≡ (view place.old).tasks }
+    ensures parts { (view place.new).parts ≡ (view place.old).parts }
+    ensures done { Accounts image.now (view place.new) result.items }
+    ensures room { vec_capacity result ≡ vec_capacity done.entry }
 {
-    let Post {
-        thief,
-        mut place,
-        mut done,
-    } = post;
-    while let Some(outcome) = next_outcome(rt, image, gate, thief, &mut place) {
+    while let Some(outcome) = next_outcome(rt, image, gate, thief, place) {
         done.push_reserved(outcome);
     }
-    (place, done)
+    done
 }
 
 /// Takes one task after another and carries it out, until none is left; each outcome goes into the slot of its task.

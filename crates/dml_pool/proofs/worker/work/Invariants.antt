@@ -1,16 +1,16 @@
 use Rattle.std.proofs.Common.{◌≡◌, ◌-◌, length, vec_capacity}
-use Rattle.crossbeam_deque.specs.Handles.{view, IsPassOf, stealer_deque}
+use Rattle.crossbeam_deque.specs.Handles.{view, SamePass}
 use Rattle.dml_pool.specs.Rule.{Accounts}
 use Rattle.dml_pool.proofs.worker.work.Given as goal
 
 abbrev pub invariant-loop-outcome : goal.invariant-loop-outcome
 invariant-loop-outcome g l =
     record {
-      table : IsPassOf (stealer_deque l.fn.post.thief.now) l.place;
-      tasks : (view l.place).tasks ≡ (view l.fn.post.place).tasks;
-      parts : (view l.place).parts ≡ (view l.fn.post.place).parts;
+      same : SamePass l.fn.place l.place;
+      tasks : (view l.place).tasks ≡ (view l.fn.place).tasks;
+      parts : (view l.place).parts ≡ (view l.fn.place).parts;
       so_far : Accounts l.image (view l.place) l.done.items;
-      room : vec_capacity l.done ≡ vec_capacity l.fn.post.done;
+      room : vec_capacity l.done ≡ vec_capacity l.fn.done;
     }
 
 -- how many tasks the worker has not taken

@@ -1,7 +1,9 @@
 /* Loaded before a program by LD_PRELOAD, counts the threads that it starts: at the program's end their number is
-   written to the file STARTED_LOG. Needs the GNU C library. */
+   written to the file STARTED_LOG. Where STARTED_MOST is a number, no more threads than that are started: for each
+   further one the system is said to have none left. Needs the GNU C library. */
 #define _GNU_SOURCE
 #include <dlfcn.h>
+#include <errno.h>
 #include <fcntl.h>
 #include <pthread.h>
 #include <stdatomic.h>
@@ -15,6 +17,9 @@ static atomic_ulong started;
 int pthread_create(pthread_t *thread, const pthread_attr_t *attributes, void *(*work)(void *), void *given)
 {
     int (*create)(pthread_t *, const pthread_attr_t *, void *(*)(void *), void *);
+    const char *most = getenv("STARTED_MOST");
+    if (most && *most && atomic_load(&started) >= strtoul(most, NULL, 10))
+        return EAGAIN;
     *(void **)&create = dlsym(RTLD_NEXT, "pthread_create");
     int refused = create(thread, attributes, work, given);
     if (!refused)

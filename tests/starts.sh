@@ -1,12 +1,13 @@
 #!/bin/sh
 # Counts the threads that `dmljob run` starts, by tests/started.c: no gate is given there, and no answer and no contract
-# tells how many workers a list had. Works on the program that the gate leaves in crates/dmljob/out; `check` calls it.
-# Needs the GNU C library and a C compiler (CC, or cc).
+# tells how many workers a list had. Where the system has no thread left, the answers are the same. Works on the program
+# that the gate leaves in crates/dmljob/out; `check` calls it. Needs the GNU C library and a C compiler (CC, or cc).
 cd "$(dirname "$0")/.." || exit 2
 work=$(mktemp -d) || exit 2
 trap 'rm -rf "$work"' EXIT
 dmljob=crates/dmljob/out/dmljob
 failed=0
+most=
 [ -x "$dmljob" ] || { echo "starts: $dmljob is missing: run rt ci first" >&2; exit 1; }
 "${CC:-cc}" -O2 -Wall -Wextra -Werror -shared -fPIC -o "$work/started.so" tests/started.c -ldl || exit 1
 
@@ -40,8 +41,8 @@ copies() {
 # with success and all bytes done
 expect() {
     { image; cat; } >"$work/in"
-    STARTED_LOG=$work/log LD_PRELOAD=$work/started.so "$dmljob" run --workers "$2" --chunk 65536 --arena 16777216 \
-        <"$work/in" >"$work/out" 2>&1
+    STARTED_MOST=$most STARTED_LOG=$work/log LD_PRELOAD=$work/started.so \
+        "$dmljob" run --workers "$2" --chunk 65536 --arena 16777216 <"$work/in" >"$work/out" 2>&1
     status=$?
     started=$(cat "$work/log" 2>/dev/null)
     equal=$(grep -c "status 01 result 0 completed $3 " "$work/out")
@@ -83,5 +84,12 @@ copies 64 'move 0 2097152 1048576' >"$work/jobs"
 expect 0 4 1048576 64 '64 moves of 1 MiB' <"$work/jobs"
 copies 1024 'fill 1 0 8' >"$work/jobs"
 expect 0 4 8 1024 '1,024 fills of 8 bytes' <"$work/jobs"
+# Where no thread is left, or too few are, the workers that there are carry out the rest.
+for most in 0 1 2; do
+    counted "$most" 4 4 1048576 0
+    counted "$most" 4 1024 65536 0
+    creates 24 >"$work/jobs"
+    expect "$most" 4 524288 24 "24 creates, at most $most threads" <"$work/jobs"
+done
 [ "$failed" -eq 0 ] && echo "starts: each list started its workers"
 exit "$failed"

@@ -2,7 +2,8 @@
    all before the first one starts; an outcome is a record, which a started thread puts into its own list, and which
    goes from there into the slot of its task once all threads have left their lists: their ends are not waited for.
    Pages lie apart, and are compared 16 bytes at a time. A list of one thread is compared page by page, with no task.
-   Memory is kept from list to list. */
+   Memory is kept from list to list. Needs Linux. */
+#define _GNU_SOURCE
 #include <emmintrin.h>
 #include <linux/futex.h>
 #include <pthread.h>

@@ -7,7 +7,6 @@ work=$(mktemp -d) || exit 2
 trap 'rm -rf "$work"' EXIT
 dmljob=crates/dmljob/out/dmljob
 failed=0
-most=
 [ -x "$dmljob" ] || { echo "starts: $dmljob is missing: run rt ci first" >&2; exit 1; }
 "${CC:-cc}" -O2 -Wall -Wextra -Werror -shared -fPIC -o "$work/started.so" tests/started.c -ldl || exit 1
 
@@ -32,22 +31,50 @@ creates() {
     }'
 }
 
+# different: a line that makes the creates find a difference, and one that ends its list; shown: the creates' records
+different() {
+    printf 'fill 1 4096 8\nshow 4096 8\n'
+}
+
+shown() {
+    echo 'show 12582912 1920'
+}
+
 # copies COUNT LINE: so many times a line
 copies() {
     awk -v count="$1" -v line="$2" 'BEGIN { for (job = 0; job < count; job++) print line }'
 }
 
+# run MOST WORKERS OUT: carries out the jobs on the standard input, where the system has no more than so many threads if
+# any number is given, into a file; sets `status` and `started`. No list may take a minute.
+run() {
+    { image; cat; } >"$work/in"
+    rm -f "$work/log"
+    timeout 60 env STARTED_MOST="$1" STARTED_LOG="$work/log" LD_PRELOAD="$work/started.so" \
+        "$dmljob" run --workers "$2" --chunk 65536 --arena 16777216 <"$work/in" >"$3" 2>&1
+    status=$?
+    started=$(cat "$work/log" 2>/dev/null)
+}
+
 # expect WANTED WORKERS DONE COUNT WHAT: the jobs on the standard input start so many threads, and so many of them end
 # with success and all bytes done
 expect() {
-    { image; cat; } >"$work/in"
-    STARTED_MOST=$most STARTED_LOG=$work/log LD_PRELOAD=$work/started.so \
-        "$dmljob" run --workers "$2" --chunk 65536 --arena 16777216 <"$work/in" >"$work/out" 2>&1
-    status=$?
-    started=$(cat "$work/log" 2>/dev/null)
+    run '' "$2" "$work/out"
     equal=$(grep -c "status 01 result 0 completed $3 " "$work/out")
     if [ "$status" -ne 0 ] || [ "$started" != "$1" ] || [ "$equal" -ne "$4" ]; then
         echo "starts: $5, $2 workers: status $status, $started threads started, not $1; $equal jobs were done, not $4" >&2
+        failed=1
+    fi
+}
+
+# limited MOST WORKERS WHAT: the jobs of the file `jobs` start so many threads where the system has no more, and are
+# answered byte for byte as they are where it has
+limited() {
+    run '' "$2" "$work/want" <"$work/jobs"
+    free=$status
+    run "$1" "$2" "$work/out" <"$work/jobs"
+    if [ "$free" -ne 0 ] || [ "$status" -ne 0 ] || [ "$started" != "$1" ] || ! cmp "$work/want" "$work/out" >&2; then
+        echo "starts: $3, $2 workers: status $status with $started threads of $1, and $free with all" >&2
         failed=1
     fi
 }
@@ -62,6 +89,7 @@ counted() {
 counted 0 1 4 1048576 0
 counted 1 2 4 1048576 0
 counted 3 4 4 1048576 0
+counted 15 16 64 1048576 0
 counted 1 4 2 1048576 0
 counted 0 4 1 1048576 0
 # A second worker pays from a mebibyte and a half on, less 2 KiB for a task and 16 for a job.
@@ -86,10 +114,14 @@ copies 1024 'fill 1 0 8' >"$work/jobs"
 expect 0 4 8 1024 '1,024 fills of 8 bytes' <"$work/jobs"
 # Where no thread is left, or too few are, the workers that there are carry out the rest.
 for most in 0 1 2; do
-    counted "$most" 4 4 1048576 0
-    counted "$most" 4 1024 65536 0
-    creates 24 >"$work/jobs"
-    expect "$most" 4 524288 24 "24 creates, at most $most threads" <"$work/jobs"
+    compares 4 1048576 0 >"$work/jobs"
+    limited "$most" 4 "4 compares, at most $most threads"
+    { different; compares 1024 65536 0; } >"$work/jobs"
+    limited "$most" 4 "1,024 compares, at most $most threads"
+    { different; creates 24; shown; } >"$work/jobs"
+    limited "$most" 4 "24 creates, at most $most threads"
 done
+compares 64 1048576 0 >"$work/jobs"
+limited 5 16 '64 compares, at most 5 threads'
 [ "$failed" -eq 0 ] && echo "starts: each list started its workers"
 exit "$failed"

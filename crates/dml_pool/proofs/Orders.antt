@@ -1,10 +1,10 @@
 -- Outcomes put into slots, one for each task, and taken out again.
-use Rattle.std.proofs.Common.{◌≡◌, ◌≢◌, ℕ, suc, ◌+◌, ◌<◌, List, [], ◌∷◌, ◌++◌, map, set, get_or, length, replicate, drop, Option, None, Some, IsSome, IsSomeAnd, unwrap_or, refl, sym, ap, ap₂, ◌∙◌, subst, ⊎_elim, arith, length-append, append_assoc}
+use Rattle.std.proofs.Common.{◌≡◌, ◌≢◌, ℕ, suc, ◌+◌, ◌<◌, List, [], ◌∷◌, ◌++◌, map, set, get_or, length, drop, Option, None, Some, IsSome, IsSomeAnd, unwrap_or, refl, sym, ap, ap₂, ◌∙◌, subst, ⊎_elim, arith, length-append, append_assoc}
 use Rattle.std.specs.List.{All, AllZip, Contains, range_with_len, slice_get}
 use Rattle.std.proofs.lemmas.Bool.Decides.{nat_tests}
 use Rattle.std.proofs.lemmas.List.{map-append, get_or-map, get_or-set_other, length-map, length-set}
 use Rattle.std.proofs.lemmas.Bool.{cases_eq}
-use Rattle.std.proofs.lemmas.List.Elements.{All-nil, All-cons, All-replicate, All-head, All-tail, All-weaker, All-contains, Contains-append_left, Contains-push}
+use Rattle.std.proofs.lemmas.List.Elements.{All-nil, All-cons, All-head, All-tail, All-weaker, All-contains, Contains-append_left, Contains-push}
 use Rattle.std.proofs.lemmas.Grind.{get_or-set_at}
 use Rattle.dml_types.specs.Memory.{Memory}
 use Rattle.dml_pool.specs.declared.tasks.Task.{Task}
@@ -15,11 +15,6 @@ use Rattle.dml_pool.specs.Rule.{tasks_done, AreTaskValues, IsDone}
 use Rattle.dml_pool.specs.Slots.{IsSlot, AreFilled, AreSlots}
 use Rattle.dml_pool.proofs.Counts.{times_append}
 use Rattle.dml_pool.proofs.Keeps.{get_longer, get_last}
-
-pub empty_slots : (n : ℕ) (slots : List (Option Outcome)) → slots ≡ replicate n None → AreSlots [] slots
-empty_slots n slots are k d inside =
-    let none : get_or slots k d ≡ None = subst (λ l. All (λ (s : Option Outcome). s ≡ None) l) (sym are) (All-replicate (λ (s : Option Outcome). s ≡ None) n None refl) k d inside in
-    subst (IsSlot [] k) (sym none) refl
 
 kept_slot : (outcomes : List Outcome) (outcome : Outcome) (k : ℕ) (slot : Option Outcome) → k ≢ outcome.task → IsSlot outcomes k slot → IsSlot (outcomes ++ outcome ∷ []) k slot
 kept_slot outcomes outcome k None other none =

@@ -1,9 +1,10 @@
--- The workers of a wave: what one may begin with, and what it and all of them leave.
+-- The workers of a wave: what the calling thread may begin with and leaves, and what all of them have in common.
 use Rattle.std.specs.Prelude.{◌≡◌, ℕ, ◌<◌, ◌≤◌, List, [], ◌∷◌, ◌++◌, length, Option}
 use Rattle.std.specs.Global.{Global}
 use Rattle.std.specs.List.{All}
-use Rattle.crossbeam_deque.specs.Handles.{Pass, view, IsPassOf, stealer_deque, stealer_flavor}
+use Rattle.crossbeam_deque.specs.Handles.{Pass, view, worker_view, worker_deque, IsPassOf, stealer_deque, stealer_flavor}
 use Rattle.crossbeam_deque.specs.declared.handles.Stealer.{Stealer}
+use Rattle.crossbeam_deque.specs.declared.handles.Worker.{Worker}
 use Rattle.dml_types.specs.Memory.{Memory}
 use Rattle.dml_pool.specs.declared.rule.Hand.{Hand}
 use Rattle.dml_pool.specs.declared.rule.Numbered.{Numbered}
@@ -45,3 +46,20 @@ AreCommon memory deque tasks image thief =
     × (stealer_deque thief ≡ deque)
     × (stealer_flavor thief ≡ 0)
     × All IsRunnable tasks
+
+-- the owner of this deque has a part of the right to know the whole, and took no task so far
+abbrev pub IsOwner : (ℕ × ℕ) × Global → List Task → Worker Numbered Global Hand Wave → Type 0
+IsOwner deque tasks owner =
+    (worker_deque owner ≡ deque)
+    × ((worker_view owner).tasks ≡ tasks)
+    × (0 < (worker_view owner).parts)
+    × ((worker_view owner).taken ≡ [])
+
+-- what is left once passes are joined: an owner of so many parts, and slots that hold an outcome for each task that these
+-- took
+abbrev pub HasJoined : Memory → (ℕ × ℕ) × Global → List Task → ℕ → Worker Numbered Global Hand Wave → List (Option Outcome) → Type 0
+HasJoined memory deque tasks parts owner slots =
+    (worker_deque owner ≡ deque)
+    × ((worker_view owner).tasks ≡ tasks)
+    × ((worker_view owner).parts ≡ parts)
+    × HoldTaken memory (worker_view owner) slots

@@ -33,7 +33,7 @@ use Rattle.dml_pool.specs.declared.tasks.Piece.TheVariants.{Scan, Create, Apply}
 use Rattle.dml_pool.specs.Rule.{Accounts, IsDone}
 use Rattle.dml_pool.specs.Tasks.{IsScanned, IsCreated, IsApplied, IsOperationValue, IsTaskValue}
 
-number_set : IsSet ℕ
+pub number_set : IsSet ℕ
 number_set = Coded-set coded_ℕ
 
 numbers_set : IsSet (List ℕ)

@@ -1,10 +1,11 @@
-//! The workers of a wave: how they start and how the calling thread waits for them.
-ghost use Rattle.std.specs.Prelude.{◌≡◌};
-ghost use Rattle.crossbeam_deque.specs.Handles.{view, stealer_deque};
-ghost use Rattle.dml_pool.specs.Crews.{AreCommon, HasFilled, IsDesk};
+//! The workers of a wave: how they start, and how the calling thread takes over what they leave.
+ghost use Rattle.std.specs.Prelude.{◌≡◌, ◌+◌, ◌<◌};
+ghost use Rattle.crossbeam_deque.specs.Handles.{view, worker_view, worker_deque, stealer_deque};
+ghost use Rattle.dml_pool.specs.Crews.{AreCommon, HasJoined, IsDesk, IsOwner};
+ghost use Rattle.dml_pool.specs.Slots.{HoldTaken};
 
-use crate::posts::{Common, Post};
-use crate::rule::{Place, Thief};
+use crate::posts::{Common, Post, absorbed, closed_post, joined};
+use crate::rule::{Owner, Thief};
 use crate::worker::{Desk, fill_slots, work};
 use crate::{Gate, Outcome};
 use dml_image::Image;
@@ -17,33 +18,41 @@ use std::thread::{Threads, scope, scope_env};
 /// How often the calling thread looks at a post where a worker still is, some 50 ns each time, before it sleeps.
 const LOOKS: u32 = 200;
 
-/// Starts a worker at each post, works at the desk until no task is left, and waits until the workers have left theirs.
-/// That their threads end is not waited for. A worker for which no thread can be made leaves its post as it was, and the
-/// tasks to the others.
+/// Starts a worker at each post, works at the desk until no task is left, and takes over from each worker once it has
+/// left its post. The ends of their threads are hardly ever waited for. A worker for which no thread can be made leaves
+/// its post as it was, and the tasks to the others; one that comes late finds its post closed.
 pub fn crew<'a, R: Threads + Wait + Sync, G: Gate + Sync, W: Common + Send>(
     rt: &R,
     alloc: Global,
     image: &Image,
     gate: &G,
     posts: &[Mutex<Post<'a, W>>],
+    owner: Owner<'a>,
     desk: Desk<'_, 'a>,
-) -> (Place<'a>, Vec<Option<Outcome<'a>>>)
+) -> (Owner<'a>, Vec<Option<Outcome<'a>>>)
     requires desk { IsDesk image.now desk }
     requires memory { image.now ≡ W.memory }
     requires deque { stealer_deque desk.thief.now ≡ W.deque }
     requires tasks { (view desk.place).tasks ≡ W.tasks }
-    ensures done { HasFilled image.now desk.entry result.0 result.1.items }
+    requires owner { IsOwner W.deque W.tasks owner }
+    ensures done { HasJoined W.memory W.deque W.tasks ((worker_view owner.entry).parts + (view desk.entry.place).parts)
+        result.0 result.1.items }
 {
     if posts.is_empty() {
-        return fill_slots(rt, image, gate, desk);
+        return lead(rt, alloc, image, gate, posts, owner, desk);
     }
     let thief = desk.thief;
     scope(
         scope_env(),
         rt,
-        |scope| -> (Place, Vec<Option<Outcome>>)
-            requires { IsDesk image.now desk × AreCommon W.memory W.deque W.tasks image.now thief.now }
-            ensures { HasFilled image.entry.now desk.entry result.0 result.1.items }
+        |scope| -> (Owner, Vec<Option<Outcome>>)
+            requires { IsDesk image.now desk
+                × AreCommon W.memory W.deque W.tasks image.now thief.now
+                × (stealer_deque desk.thief.now ≡ W.deque)
+                × ((view desk.place).tasks ≡ W.tasks)
+                × IsOwner W.deque W.tasks owner }
+            ensures { HasJoined W.memory W.deque W.tasks ((worker_view owner.entry).parts + (view desk.entry.place).parts)
+                result.0 result.1.items }
         {
             for post in posts {
                 let _ = scope.spawn(
@@ -52,14 +61,35 @@ pub fn crew<'a, R: Threads + Wait + Sync, G: Gate + Sync, W: Common + Send>(
                     { work_at(rt, alloc, image, gate, thief, post) },
                 );
             }
-            let filled = fill_slots(rt, image, gate, desk);
-            posts.iter().for_each(look_for_end);
-            filled
+            lead(rt, alloc, image, gate, posts, owner, desk)
         },
     )
 }
 
-/// Looks at a post for a while, until no worker is there: a thread that sleeps is woken late.
+/// Works at the desk until no task is left, and takes over from the workers at the posts.
+fn lead<'a, R: Wait, G: Gate, W: Common>(
+    rt: &R,
+    alloc: Global,
+    image: &Image,
+    gate: &G,
+    posts: &[Mutex<Post<'a, W>>],
+    owner: Owner<'a>,
+    desk: Desk<'_, 'a>,
+) -> (Owner<'a>, Vec<Option<Outcome<'a>>>)
+    requires desk { IsDesk image.now desk }
+    requires memory { image.now ≡ W.memory }
+    requires deque { stealer_deque desk.thief.now ≡ W.deque }
+    requires tasks { (view desk.place).tasks ≡ W.tasks }
+    requires owner { IsOwner W.deque W.tasks owner }
+    ensures done { HasJoined W.memory W.deque W.tasks ((worker_view owner.entry).parts + (view desk.entry.place).parts)
+        result.0 result.1.items }
+{
+    let (place, slots) = fill_slots(rt, image, gate, desk);
+    taken_over(rt, alloc, absorbed(owner, place), slots, posts)
+}
+
+/// Looks at a post for a while, until no worker is there: a thread that sleeps is woken late. A post whose worker has
+/// not come yet is free.
 fn look_for_end<T>(post: &Mutex<T>) {
     for _ in 0..LOOKS {
         if post.try_lock().is_some() {
@@ -69,7 +99,7 @@ fn look_for_end<T>(post: &Mutex<T>) {
     }
 }
 
-/// Works at a post until no task is left.
+/// Works at a post that is open, until no task is left.
 fn work_at<'a, R: Wait, G: Gate, W: Common>(
     rt: &R,
     alloc: Global,
@@ -82,6 +112,33 @@ fn work_at<'a, R: Wait, G: Gate, W: Common>(
 {
     let mut guard = post.lock(rt);
     let mine = &mut *guard;
-    let done = mem::replace(&mut mine.done, Vec::new(alloc));
-    mine.done = work(rt, image, gate, thief, &mut mine.place, done);
+    if mine.is_open {
+        let done = mem::replace(&mut mine.done, Vec::new(alloc));
+        mine.done = work(rt, image, gate, thief, &mut mine.place, done);
+    }
+}
+
+/// Takes over from the workers at all posts, one after another, as each leaves its post.
+fn taken_over<'a, R: Wait, W: Common>(
+    rt: &R,
+    alloc: Global,
+    mut owner: Owner<'a>,
+    mut slots: Vec<Option<Outcome<'a>>>,
+    posts: &[Mutex<Post<'a, W>>],
+) -> (Owner<'a>, Vec<Option<Outcome<'a>>>)
+    requires deque { worker_deque owner ≡ W.deque }
+    requires tasks { (worker_view owner).tasks ≡ W.tasks }
+    requires parts { 1 < (worker_view owner).parts }
+    requires so_far { HoldTaken W.memory (worker_view owner) slots.items }
+    ensures done { HasJoined W.memory W.deque W.tasks (worker_view owner.entry).parts result.0 result.1.items }
+{
+    for post in posts {
+        look_for_end(post);
+        let mut guard = post.lock(rt);
+        let left = mem::replace(&mut *guard, closed_post(alloc, &mut owner));
+        let (more, filled) = joined(owner, slots, left);
+        owner = more;
+        slots = filled;
+    }
+    (owner, slots)
 }

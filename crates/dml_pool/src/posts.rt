@@ -1,7 +1,8 @@
 //! Where the started workers of a wave stand, and what they leave there.
-ghost use Rattle.std.specs.Prelude.{◌≡◌, ◌+◌, ◌-◌, ◌<◌, ◌≤◌, ◌++◌, [], length, vec_capacity, IfOk};
+ghost use Rattle.std.specs.Prelude.{◌≡◌, ◌+◌, ◌-◌, ◌<◌, ◌≤◌, ◌++◌, [], IsTrue, length, vec_capacity, IfOk};
 ghost use Rattle.crossbeam_deque.specs.Handles.{view, worker_view, worker_deque, IsPassOf};
-ghost use Rattle.dml_pool.specs.Props.{Accounts-prop, IsPassOf-prop, tasks_set};
+ghost use Rattle.std.specs.Coded.{Π_prop};
+ghost use Rattle.dml_pool.specs.Props.{Accounts-prop, IsPassOf-prop, number_set, tasks_set};
 ghost use Rattle.dml_pool.specs.Rule.{hand, Accounts};
 ghost use Rattle.dml_pool.specs.Slots.{HoldTaken};
 
@@ -36,17 +37,18 @@ impl Common for Brand {
     ghost tasks = { [] };
 }
 
-/// What a started worker knows of the deque, and its list of outcomes, which has room for those of all tasks, and for no
-/// more.
+/// What a started worker knows of the deque, and its list of outcomes. While the post is open the list has room for those
+/// of all tasks, and for no more; at a closed one no worker begins.
 #[derive(Drop)]
 pub struct Post<'a, W: Common> {
     pub place: Place<'a>,
     pub done: Vec<Outcome<'a>>,
+    pub is_open: bool,
     pub of: PhantomData<W>,
     ghost table: { IsPassOf W.deque place } by { IsPassOf-prop W.deque place },
     ghost known: { (view place).tasks ≡ W.tasks } by { tasks_set _ _ },
     ghost part: { (view place).parts ≡ 1 },
-    ghost room: { vec_capacity done ≡ length W.tasks },
+    ghost room: { IsTrue is_open → vec_capacity done ≡ length W.tasks } by { Π_prop (λ _. number_set _ _) },
     ghost accounts: { Accounts W.memory (view place) done.items } by { Accounts-prop W.memory (view place) done.items },
 }
 
@@ -58,7 +60,7 @@ pub type Posts<'a, W> = Vec<Mutex<Post<'a, W>>>;
 ///
 /// # Errors
 ///
-/// Where the allocator has no memory left for a list.
+/// Where the allocator has no memory left for the posts or a list.
 pub fn posts_for<'a, W: Common>(
     alloc: Global,
     owner: &mut Owner<'a>,
@@ -78,18 +80,34 @@ pub fn posts_for<'a, W: Common>(
     let mut posts = Vec::with_capacity(alloc, workers as usize)?;
     for _ in 0..workers {
         let done = Vec::with_capacity(alloc, room)?;
-        posts.push_reserved(Mutex::new(post_of(owner, done)));
+        posts.push_reserved(Mutex::new(post_of(owner, done, true)));
     }
     Ok(posts)
 }
 
-/// A post with a part of the owner's pass and a list.
-#[tactic(auto, using(crate::proofs::Keeps::forks))]
-fn post_of<'a, W: Common>(owner: &mut Owner<'a>, done: Vec<Outcome<'a>>) -> Post<'a, W>
+/// A closed post, to be left in the place of one.
+pub fn closed_post<'a, W: Common>(alloc: Global, owner: &mut Owner<'a>) -> Post<'a, W>
     requires parts { 1 < (worker_view owner.old).parts }
     requires deque { worker_deque owner.old ≡ W.deque }
     requires tasks { (worker_view owner.old).tasks ≡ W.tasks }
-    requires room { vec_capacity done ≡ length W.tasks }
+    ensures deque { worker_deque owner.new ≡ worker_deque owner.old }
+    ensures left { worker_view owner.new
+        ≡ hand (worker_view owner.old).tasks ((worker_view owner.old).parts - 1) (worker_view owner.old).taken }
+{
+    post_of(owner, Vec::new(alloc), false)
+}
+
+/// A post with a part of the owner's pass and a list.
+#[tactic(auto, using(crate::proofs::Keeps::forks))]
+fn post_of<'a, W: Common>(
+    owner: &mut Owner<'a>,
+    done: Vec<Outcome<'a>>,
+    is_open: bool,
+) -> Post<'a, W>
+    requires parts { 1 < (worker_view owner.old).parts }
+    requires deque { worker_deque owner.old ≡ W.deque }
+    requires tasks { (worker_view owner.old).tasks ≡ W.tasks }
+    requires room { IsTrue is_open → vec_capacity done ≡ length W.tasks }
     requires empty { done.items ≡ [] }
     ensures deque { worker_deque owner.new ≡ worker_deque owner.old }
     ensures left { worker_view owner.new
@@ -99,6 +117,7 @@ fn post_of<'a, W: Common>(owner: &mut Owner<'a>, done: Vec<Outcome<'a>>) -> Post
     Post {
         place,
         done,
+        is_open,
         of: PhantomData,
     }
 }
@@ -127,7 +146,7 @@ pub fn gathered<'a, W: Common>(
 }
 
 /// Joins the pass of a post, and puts its outcomes into their slots.
-fn joined<'a, W: Common>(
+pub fn joined<'a, W: Common>(
     owner: Owner<'a>,
     slots: Vec<Option<Outcome<'a>>>,
     post: Post<'a, W>,

@@ -3,12 +3,12 @@ ghost use Rattle.std.specs.Prelude.{◌≡◌, ◌≤◌, [], length, IfOk};
 ghost use Rattle.std.specs.List.{All, range_with_len};
 ghost use Rattle.crossbeam_deque.specs.Handles.{worker_view, worker_deque, stealer_deque, stealer_flavor};
 ghost use Rattle.dml_pool.specs.Rule.{all_parts, hand, tasks_done, AreTaskValues};
-ghost use Rattle.dml_pool.specs.Slots.{AreFilled, AreSlots};
+ghost use Rattle.dml_pool.specs.Slots.{AreFilled, AreSlots, HoldTaken};
 ghost use Rattle.dml_pool.specs.Tasks.{IsRunnable};
 
 use crate::crew::crew;
 use crate::order::{empty_slots, opened};
-use crate::posts::{Common, absorbed, gathered, posts_for};
+use crate::posts::{Common, gathered, posts_for};
 use crate::rule::{Owner, Part, Thief, Whole};
 use crate::worker::{Desk, fill_slots};
 use crate::{Gate, Outcome, Queue, Task};
@@ -22,7 +22,7 @@ use thiserror::Error;
 /// Why a wave has no outcomes.
 #[derive(Clone, Copy, PartialEq, Eq, Debug, Error)]
 pub enum PoolError {
-    /// The allocator has no memory left for the deque, for a list of outcomes or for the slots.
+    /// The allocator has no memory left for the deque, the slots, the posts or a list of outcomes.
     #[error("out of memory")]
     Refused,
 }
@@ -95,12 +95,10 @@ pub fn run_wave_into_slots<'a, R: Threads + Wait + Sync, G: Gate + Sync>(
 
 /// The outcomes of all tasks of a deque, each in its slot.
 ///
-/// With all passes joined, one more look finds the deque empty; a task that it held would be carried out here.
-///
 /// # Errors
 ///
-/// `Refused` where the allocator has no memory left for a list of outcomes.
-#[tactic(auto, using(crate::proofs::Keeps::forks, crate::proofs::Keeps::forks_whole))]
+/// `Refused` where the allocator has no memory left for the posts or a list of outcomes.
+#[tactic(auto, using(crate::proofs::Keeps::forks))]
 fn all_done<'a, R: Threads + Wait + Sync, G: Gate + Sync, W: Common + Send>(
     rt: &R,
     alloc: Global,
@@ -131,14 +129,34 @@ fn all_done<'a, R: Threads + Wait + Sync, G: Gate + Sync, W: Common + Send>(
         place,
         slots,
     };
-    let (place, slots) = crew(rt, alloc, image, gate, posts.as_slice(), desk);
-    let (mut owner, slots) = gathered(absorbed(owner, place), slots, posts);
+    let (owner, slots) = crew(rt, alloc, image, gate, posts.as_slice(), owner, desk);
+    let (owner, slots) = gathered(owner, slots, posts);
+    Ok(last_look(rt, image, gate, thief, owner, slots))
+}
+
+/// One more look, with all passes joined, finds the deque empty; a task that it held would be carried out here.
+#[tactic(auto, using(crate::proofs::Keeps::forks_whole))]
+fn last_look<'a, R: Wait, G: Gate>(
+    rt: &R,
+    image: &Image,
+    gate: &G,
+    thief: &Thief<'a>,
+    mut owner: Owner<'a>,
+    slots: Vec<Option<Outcome<'a>>>,
+) -> Vec<Option<Outcome<'a>>>
+    requires deque { worker_deque owner ≡ stealer_deque thief.now }
+    requires flavor { stealer_flavor thief.now ≡ 0 }
+    requires parts { (worker_view owner).parts ≡ all_parts }
+    requires runnable { All IsRunnable (worker_view owner).tasks }
+    requires so_far { HoldTaken image.now (worker_view owner) slots.items }
+    ensures count { length result.items ≡ length (worker_view owner.entry).tasks }
+    ensures filled { AreFilled image.now (worker_view owner.entry).tasks result.items }
+{
     let place = owner.another::<Whole>();
     let desk = Desk {
         thief,
         place,
         slots,
     };
-    let (_, slots) = fill_slots(rt, image, gate, desk);
-    Ok(slots)
+    fill_slots(rt, image, gate, desk).1
 }

@@ -7,7 +7,9 @@
 # workers begin however little work there is. A move of 64 bytes has no bar here: how many memmoves it takes differs from
 # machine to machine, so bench/against.sh compares it with that of another build.
 # Each round runs every program once, every second round in the opposite order, and a ratio is taken within its
-# round. Exit status: 0 where all bars are met, 1 where one is missed, 2 where nothing was measured.
+# round. A round in which the host of a virtual machine took more than HOST_MOST percent of the processors' time (2,
+# where nothing else is said) is left out and run again, at most three such rounds for each one wanted.
+# Exit status: 0 where all bars are met, 1 where one is missed, 2 where nothing was measured.
 here=$(cd "$(dirname "$0")" && pwd)
 rounds=${1:-31}
 mebibytes=${2:-64}
@@ -25,13 +27,27 @@ done
 # Writes "ROUND NAME SIZE NANOSECONDS" for each row of a program.
 one() {
     "$2" "$mebibytes" 2>"$work/rows" >"$work/out" || exit 2
-    sed "s/^/$1 /" "$work/rows" >>"$work/times"
+    sed "s/^/$1 /" "$work/rows" >>"$work/round"
+}
+
+# The ticks that the host took so far, and all ticks.
+host() {
+    awk '/^cpu / { for (i = 2; i <= 9; i++) all += $i; print $9, all }' /proc/stat
+}
+
+# taken BEFORE AFTER: what the host took between two answers of `host`, in percent
+taken() {
+    echo "$1 $2" | awk '{ printf("%.2f\n", ($4 > $2) ? 100 * ($3 - $1) / ($4 - $2) : 0) }'
 }
 
 echo "machine: $(sed -n 's/^model name[^:]*: //p' /proc/cpuinfo | head -n 1), $(nproc) processors"
 echo "load before: $(cut -d ' ' -f 1-3 /proc/loadavg)"
+start=$(host)
 round=1
+left_out=0
 while [ "$round" -le "$rounds" ]; do
+    : >"$work/round"
+    before=$(host)
     set -- "$proved" "$work/memmove" "$work/staged" "$work/fill" "$work/compare" "$work/create" \
         "$work/compares" "$work/ruled"
     [ $((round % 2)) -eq 0 ] &&
@@ -40,8 +56,16 @@ while [ "$round" -le "$rounds" ]; do
     for program in "$@"; do
         one "$round" "$program"
     done
+    if taken "$before" "$(host)" | awk -v most="${HOST_MOST:-2}" '{ exit $1 <= most }'; then
+        left_out=$((left_out + 1))
+        [ "$left_out" -le $((3 * rounds)) ] && continue
+        echo "bench/run.sh: the host took too much in $left_out rounds; $((round - 1)) were quiet" >&2
+        exit 2
+    fi
+    cat "$work/round" >>"$work/times"
     round=$((round + 1))
 done
+echo "the host took $(taken "$start" "$(host)") percent in all; $left_out rounds were left out"
 
 awk '
     function median(list, count,    i, j, t) {

@@ -1,7 +1,8 @@
 #!/bin/sh
 # Counts the threads that `dmljob run` starts, by tests/started.c: no gate is given there, and no answer and no contract
 # tells how many workers a list had. Where the system has no thread left, the answers are the same. Works on the program
-# that the gate leaves in crates/dmljob/out; `check` calls it. Needs the GNU C library and a C compiler (CC, or cc).
+# that the gate leaves in crates/dmljob/out; `check` calls it. Needs the GNU C library, timeout, and a C compiler
+# (CC, or cc).
 cd "$(dirname "$0")/.." || exit 2
 work=$(mktemp -d) || exit 2
 trap 'rm -rf "$work"' EXIT
@@ -27,13 +28,15 @@ compares() {
 # creates COUNT: so many creates of 512 KiB, which do not conflict: each has a record of its own
 creates() {
     awk -v count="$1" 'BEGIN {
-        for (job = 0; job < count; job++) print "create 0 2097152 524288 " 12582912 + 80 * job " 80"
+        for (job = 0; job < count; job++)
+            print "create " 8 * job " " 2097152 + 8 * job " 524288 " 12582912 + 80 * job " 80"
     }'
 }
 
-# different: a line that makes the creates find a difference, and one that ends its list; shown: the creates' records
+# different: jobs behind which every create finds three blocks of two chunks that differ, and each compare that begins at
+# 2 or 6 MiB finds a difference; they are a list of their own. shown: the records of 24 creates
 different() {
-    printf 'fill 1 4096 8\nshow 4096 8\n'
+    printf 'fill 1 2101248 8\nfill 2 2228224 16\nfill 3 6295552 8\nshow 2101248 8\n'
 }
 
 shown() {
@@ -67,14 +70,17 @@ expect() {
     fi
 }
 
-# limited MOST WORKERS WHAT: the jobs of the file `jobs` start so many threads where the system has no more, and are
-# answered byte for byte as they are where it has
+# limited MOST WORKERS JOBS WITH WHAT: the jobs of the file `jobs` start so many threads where the system has no more, and
+# are answered byte for byte as they are where it has: so many end with success, so many of them with a difference
 limited() {
     run '' "$2" "$work/want" <"$work/jobs"
     free=$status
+    jobs=$(grep -c ' status 01 ' "$work/want") with=$(grep -c ' status 01 result 1 ' "$work/want")
     run "$1" "$2" "$work/out" <"$work/jobs"
-    if [ "$free" -ne 0 ] || [ "$status" -ne 0 ] || [ "$started" != "$1" ] || ! cmp "$work/want" "$work/out" >&2; then
-        echo "starts: $3, $2 workers: status $status with $started threads of $1, and $free with all" >&2
+    if [ "$free" -ne 0 ] || [ "$jobs" -ne "$3" ] || [ "$with" -ne "$4" ] || [ "$status" -ne 0 ] ||
+        [ "$started" != "$1" ] || ! cmp "$work/want" "$work/out" >&2; then
+        echo "starts: $5, $2 workers: status $status with $started threads of $1, and $free with all; $jobs jobs of $3," \
+            "$with with a difference of $4" >&2
         failed=1
     fi
 }
@@ -114,14 +120,14 @@ copies 1024 'fill 1 0 8' >"$work/jobs"
 expect 0 4 8 1024 '1,024 fills of 8 bytes' <"$work/jobs"
 # Where no thread is left, or too few are, the workers that there are carry out the rest.
 for most in 0 1 2; do
-    compares 4 1048576 0 >"$work/jobs"
-    limited "$most" 4 "4 compares, at most $most threads"
+    { different; compares 4 1048576 0; } >"$work/jobs"
+    limited "$most" 4 7 2 "4 compares, at most $most threads"
     { different; compares 1024 65536 0; } >"$work/jobs"
-    limited "$most" 4 "1,024 compares, at most $most threads"
+    limited "$most" 4 1027 256 "1,024 compares, at most $most threads"
     { different; creates 24; shown; } >"$work/jobs"
-    limited "$most" 4 "24 creates, at most $most threads"
+    limited "$most" 4 27 24 "24 creates, at most $most threads"
 done
-compares 64 1048576 0 >"$work/jobs"
-limited 5 16 '64 compares, at most 5 threads'
+{ different; compares 64 1048576 0; } >"$work/jobs"
+limited 5 16 67 16 '64 compares, at most 5 threads'
 [ "$failed" -eq 0 ] && echo "starts: each list started its workers"
 exit "$failed"

@@ -47,17 +47,23 @@ AreCommon memory deque tasks image thief =
     × (stealer_flavor thief ≡ 0)
     × All IsRunnable tasks
 
--- the owner of this deque has a part of the right to know the whole, and took no task so far
-abbrev pub IsOwner : (ℕ × ℕ) × Global → List Task → Worker Numbered Global Hand Wave → Type 0
-IsOwner deque tasks owner =
-    (worker_deque owner ≡ deque)
+-- the calling thread may lead: its desk and the owner are of this deque and its tasks, and the owner, with a part of the
+-- right to know the whole, took none so far
+abbrev pub MayLead : Memory → (ℕ × ℕ) × Global → List Task → Memory → Worker Numbered Global Hand Wave → Desk → Type 0
+MayLead memory deque tasks image owner desk =
+    IsDesk image desk
+    × (image ≡ memory)
+    × (stealer_deque desk.thief.now ≡ deque)
+    × ((view desk.place).tasks ≡ tasks)
+    × (worker_deque owner ≡ deque)
     × ((worker_view owner).tasks ≡ tasks)
     × (0 < (worker_view owner).parts)
     × ((worker_view owner).taken ≡ [])
 
--- what is left once passes are joined: an owner of so many parts, and slots that hold an outcome for each task that these
--- took
-abbrev pub HasJoined : Memory → (ℕ × ℕ) × Global → List Task → ℕ → Worker Numbered Global Hand Wave → List (Option Outcome) → Type 0
+-- what is left once passes are joined: an owner of so many parts, and slots that hold an outcome for each task that the
+-- passes took
+abbrev pub HasJoined : Memory → (ℕ × ℕ) × Global → List Task → ℕ → Worker Numbered Global Hand Wave
+    → List (Option Outcome) → Type 0
 HasJoined memory deque tasks parts owner slots =
     (worker_deque owner ≡ deque)
     × ((worker_view owner).tasks ≡ tasks)

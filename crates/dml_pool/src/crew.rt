@@ -1,7 +1,7 @@
 //! The workers of a wave: how they start, and how the calling thread takes over what they leave.
 ghost use Rattle.std.specs.Prelude.{◌≡◌, ◌+◌, ◌<◌};
-ghost use Rattle.crossbeam_deque.specs.Handles.{view, worker_view, worker_deque, stealer_deque};
-ghost use Rattle.dml_pool.specs.Crews.{AreCommon, HasJoined, IsDesk, IsOwner};
+ghost use Rattle.crossbeam_deque.specs.Handles.{view, worker_view, worker_deque};
+ghost use Rattle.dml_pool.specs.Crews.{AreCommon, HasJoined, MayLead};
 ghost use Rattle.dml_pool.specs.Slots.{HoldTaken};
 
 use crate::posts::{Common, Post, absorbed, closed_post, joined};
@@ -18,9 +18,9 @@ use std::thread::{Threads, scope, scope_env};
 /// How often the calling thread looks at a post where a worker still is, some 50 ns each time, before it sleeps.
 const LOOKS: u32 = 200;
 
-/// Starts a worker at each post, works at the desk until no task is left, and takes over from each worker once it has
-/// left its post. The ends of their threads are hardly ever waited for. A worker for which no thread can be made leaves
-/// its post as it was, and the tasks to the others; one that comes late finds its post closed.
+/// Starts a worker at each post, works at the desk until no task is left, and takes over from the workers, post by post,
+/// once each has left. The ends of their threads are hardly ever waited for. A worker for which no thread can be made
+/// leaves its tasks to the others; one that comes late finds its post closed.
 pub fn crew<'a, R: Threads + Wait + Sync, G: Gate + Sync, W: Common + Send>(
     rt: &R,
     alloc: Global,
@@ -30,11 +30,7 @@ pub fn crew<'a, R: Threads + Wait + Sync, G: Gate + Sync, W: Common + Send>(
     owner: Owner<'a>,
     desk: Desk<'_, 'a>,
 ) -> (Owner<'a>, Vec<Option<Outcome<'a>>>)
-    requires desk { IsDesk image.now desk }
-    requires memory { image.now ≡ W.memory }
-    requires deque { stealer_deque desk.thief.now ≡ W.deque }
-    requires tasks { (view desk.place).tasks ≡ W.tasks }
-    requires owner { IsOwner W.deque W.tasks owner }
+    requires { MayLead W.memory W.deque W.tasks image.now owner desk }
     ensures done { HasJoined W.memory W.deque W.tasks ((worker_view owner.entry).parts + (view desk.entry.place).parts)
         result.0 result.1.items }
 {
@@ -46,11 +42,8 @@ pub fn crew<'a, R: Threads + Wait + Sync, G: Gate + Sync, W: Common + Send>(
         scope_env(),
         rt,
         |scope| -> (Owner, Vec<Option<Outcome>>)
-            requires { IsDesk image.now desk
-                × AreCommon W.memory W.deque W.tasks image.now thief.now
-                × (stealer_deque desk.thief.now ≡ W.deque)
-                × ((view desk.place).tasks ≡ W.tasks)
-                × IsOwner W.deque W.tasks owner }
+            requires { MayLead W.memory W.deque W.tasks image.now owner desk
+                × AreCommon W.memory W.deque W.tasks image.now thief.now }
             ensures { HasJoined W.memory W.deque W.tasks ((worker_view owner.entry).parts + (view desk.entry.place).parts)
                 result.0 result.1.items }
         {
@@ -76,11 +69,7 @@ fn lead<'a, R: Wait, G: Gate, W: Common>(
     owner: Owner<'a>,
     desk: Desk<'_, 'a>,
 ) -> (Owner<'a>, Vec<Option<Outcome<'a>>>)
-    requires desk { IsDesk image.now desk }
-    requires memory { image.now ≡ W.memory }
-    requires deque { stealer_deque desk.thief.now ≡ W.deque }
-    requires tasks { (view desk.place).tasks ≡ W.tasks }
-    requires owner { IsOwner W.deque W.tasks owner }
+    requires { MayLead W.memory W.deque W.tasks image.now owner desk }
     ensures done { HasJoined W.memory W.deque W.tasks ((worker_view owner.entry).parts + (view desk.entry.place).parts)
         result.0 result.1.items }
 {
@@ -118,7 +107,7 @@ fn work_at<'a, R: Wait, G: Gate, W: Common>(
     }
 }
 
-/// Takes over from the workers at all posts, one after another, as each leaves its post.
+/// Takes over from the workers, post by post, once each has left its own.
 fn taken_over<'a, R: Wait, W: Common>(
     rt: &R,
     alloc: Global,
@@ -136,8 +125,8 @@ fn taken_over<'a, R: Wait, W: Common>(
         look_for_end(post);
         let mut guard = post.lock(rt);
         let left = mem::replace(&mut *guard, closed_post(alloc, &mut owner));
-        let (more, filled) = joined(owner, slots, left);
-        owner = more;
+        let (whole, filled) = joined(owner, slots, left);
+        owner = whole;
         slots = filled;
     }
     (owner, slots)

@@ -37,8 +37,8 @@ impl Common for Brand {
     ghost tasks = { [] };
 }
 
-/// What a started worker knows of the deque, and its list of outcomes. While the post is open the list has room for those
-/// of all tasks, and for no more; at a closed one no worker begins.
+/// What a started worker knows of the deque, and its list of outcomes. While the post is open the list has room for
+/// those of all tasks, and for no more; at a closed one no worker begins.
 #[derive(Drop)]
 pub struct Post<'a, W: Common> {
     pub place: Place<'a>,
@@ -109,6 +109,7 @@ fn post_of<'a, W: Common>(
     requires tasks { (worker_view owner.old).tasks ≡ W.tasks }
     requires room { IsTrue is_open → vec_capacity done ≡ length W.tasks }
     requires empty { done.items ≡ [] }
+    ensures open { result.is_open ≡ is_open }
     ensures deque { worker_deque owner.new ≡ worker_deque owner.old }
     ensures left { worker_view owner.new
         ≡ hand (worker_view owner.old).tasks ((worker_view owner.old).parts - 1) (worker_view owner.old).taken }
@@ -138,8 +139,8 @@ pub fn gathered<'a, W: Common>(
     ensures slots { HoldTaken W.memory (worker_view result.0) result.1.items }
 {
     while let Some(post) = posts.pop() {
-        let (joined, filled) = joined(owner, slots, post.into_inner());
-        owner = joined;
+        let (whole, filled) = joined(owner, slots, post.into_inner());
+        owner = whole;
         slots = filled;
     }
     (owner, slots)

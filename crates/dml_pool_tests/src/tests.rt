@@ -25,22 +25,22 @@ const STAGING: u32 = 4096;
 /// The turns after which a gate gives up.
 const TURNS: u32 = 10_000;
 
-/// What a gate counts for each of four tasks: a byte of a word.
-const MARKS: [u64; 4] = [0x1, 0x100, 0x1_0000, 0x100_0000];
+/// What a gate has counted once each of its sixteen tasks has entered.
+const ALL_ENTERED: u64 = 0x1111_1111_1111_1111;
 
-/// A gate that holds each of four tasks until others have entered, too.
+/// A gate that holds each of sixteen tasks until others have entered, too. It counts four bits of a word for each.
 #[derive(Drop)]
 struct Meeting<'c, C> {
     clock: &'c C,
     /// For each task the marks of those that it waits for.
-    waits_for: [u64; 4],
+    waits_for: [u64; 16],
     /// How often each task entered.
     entered: AtomicU64,
     given_up: AtomicU64,
 }
 
 impl<'c, C: Clock> Meeting<'c, C> {
-    fn new(clock: &'c C, waits_for: [u64; 4]) -> Meeting<'c, C> {
+    fn new(clock: &'c C, waits_for: [u64; 16]) -> Meeting<'c, C> {
         Meeting {
             clock,
             waits_for,
@@ -59,10 +59,10 @@ impl<'c, C: Clock> Meeting<'c, C> {
 
 impl<'c, C: Clock> Gate for Meeting<'c, C> {
     fn enter(&self, task: usize) {
-        let (Some(mark), Some(wanted)) = (MARKS.get(task), self.waits_for.get(task)) else {
+        let Some(wanted) = self.waits_for.get(task) else {
             return;
         };
-        self.entered.fetch_add(*mark, Ordering::SeqCst);
+        self.entered.fetch_add(1 << (4 * task), Ordering::SeqCst);
         for _ in 0..TURNS {
             if self.entered.load(Ordering::SeqCst) & *wanted == *wanted {
                 return;
@@ -192,7 +192,7 @@ fn two_tasks_at_once(rt: HostRuntime) -> Result<(), Fail> {
     for turn in 0..10 {
         let mut arena = Arena::new(rt.alloc(), 0)?;
         let tasks = tasks_of(&rt, rt.alloc(), &chunks, arena.open())?;
-        let gate = Meeting::new(&rt, [0x101, 0x101, 0, 0]);
+        let gate = Meeting::new(&rt, [0x11; 16]);
         let outcomes = run_wave(&rt, rt.alloc(), &image, tasks, 2, &gate)?;
         assert_eq!(rt; outcomes.len(), 2, "turn {turn}");
         for task in 0..2 {
@@ -202,7 +202,23 @@ fn two_tasks_at_once(rt: HostRuntime) -> Result<(), Fail> {
                 "turn {turn}"
             );
         }
-        assert_eq!(rt; gate.counts(), (0x101, 0), "turn {turn}");
+        assert_eq!(rt; gate.counts(), (0x11, 0), "turn {turn}");
+    }
+    Ok(())
+}
+
+#[test]
+fn as_many_tasks_as_workers_at_once(rt: HostRuntime) -> Result<(), Fail> {
+    let image = image(rt.alloc())?;
+    let chunks = [(Job::fill(1, 0, 8), 0, 8); 16];
+    for (workers, all) in [(4, 0x1111), (16, ALL_ENTERED)] {
+        let mut arena = Arena::new(rt.alloc(), 0)?;
+        let count = workers as usize;
+        let tasks = tasks_of(&rt, rt.alloc(), &chunks[..count], arena.open())?;
+        let gate = Meeting::new(&rt, [all; 16]);
+        let outcomes = run_wave(&rt, rt.alloc(), &image, tasks, workers, &gate)?;
+        assert_eq!(rt; outcomes.len(), count, "{workers} workers");
+        assert_eq!(rt; gate.counts(), (all, 0), "{workers} workers");
     }
     Ok(())
 }
@@ -216,10 +232,12 @@ fn stealing_splits_freely(rt: HostRuntime) -> Result<(), Fail> {
         (Job::fill(3, 16, 8), 0, 8),
         (Job::fill(4, 24, 8), 0, 8),
     ];
+    let mut waits_for = [0; 16];
+    waits_for[0] = 0x1110;
     for turn in 0..10 {
         let mut arena = Arena::new(rt.alloc(), 0)?;
         let tasks = tasks_of(&rt, rt.alloc(), &chunks, arena.open())?;
-        let gate = Meeting::new(&rt, [0x101_0100, 0, 0, 0]);
+        let gate = Meeting::new(&rt, waits_for);
         let outcomes = run_wave(&rt, rt.alloc(), &image, tasks, 2, &gate)?;
         assert_eq!(rt; outcomes.len(), 4, "turn {turn}");
         for task in 0..4 {
@@ -229,7 +247,7 @@ fn stealing_splits_freely(rt: HostRuntime) -> Result<(), Fail> {
                 "turn {turn}"
             );
         }
-        assert_eq!(rt; gate.counts(), (0x101_0101, 0), "turn {turn}");
+        assert_eq!(rt; gate.counts(), (0x1111, 0), "turn {turn}");
     }
     Ok(())
 }
@@ -363,14 +381,14 @@ fn wave_or_refused<R: Abort + Clock + Threads + Wait + Sync>(rt: &R, alloc: Glob
     let Ok(tasks) = tasks_of(rt, alloc, &fills(), arena.open()) else {
         return;
     };
-    let gate = Meeting::new(rt, [0; 4]);
+    let gate = Meeting::new(rt, [0; 16]);
     match run_wave(rt, alloc, &image, tasks, workers, &gate) {
         Ok(outcomes) => {
             assert_eq!(rt; outcomes.len(), 40);
             for task in 0..40 {
                 assert_eq!(rt; scan_at(&outcomes, task as usize), filled(task));
             }
-            assert_eq!(rt; gate.counts(), (0x101_0101, 0));
+            assert_eq!(rt; gate.counts(), (ALL_ENTERED, 0));
         }
         Err(PoolError::Refused) => assert_eq!(rt; gate.counts(), (0, 0)),
     }
@@ -429,14 +447,14 @@ fn refused_run_wave_into_slots(rt: HostRuntime) -> Result<(), Fail> {
     let mut arena = Arena::new(rt.alloc(), 0)?;
     let tasks = tasks_of(&rt, rt.alloc(), &fills(), arena.open())?;
     let queue = Queue::of_list(rt.alloc(), tasks)?;
-    let gate = Meeting::new(&rt, [0; 4]);
+    let gate = Meeting::new(&rt, [0; 16]);
     match run_wave_into_slots(&rt, rt.alloc(), &image, queue, 3, &gate) {
         Ok(slots) => {
             assert_eq!(rt; slots.len(), 40);
             for (task, slot) in (0..40).zip(slots.as_slice()) {
                 assert!(rt; slot.as_ref().is_some_and(|outcome| outcome.task == task));
             }
-            assert_eq!(rt; gate.counts(), (0x101_0101, 0));
+            assert_eq!(rt; gate.counts(), (ALL_ENTERED, 0));
         }
         Err(PoolError::Refused) => assert_eq!(rt; gate.counts(), (0, 0)),
     }

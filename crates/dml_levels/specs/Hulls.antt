@@ -1,5 +1,5 @@
 -- The least range of addresses around some ranges. It decides quickly that two jobs are apart.
-use Rattle.std.specs.Prelude.{ℕ, ◌+◌, ◌-◌, ◌^◌, max, min, Bool, true, not, ◌&&◌, ◌||◌, List, [], ◌∷◌, zero, suc, fold, slice_index_or, nat_le}
+use Rattle.std.specs.Prelude.{ℕ, ◌+◌, ◌-◌, ◌^◌, max, min, Bool, ◌&&◌, ◌||◌, List, zero, suc, fold, slice_index_or, nat_le}
 use Rattle.dml_types.specs.declared.jobs.Job.{Job}
 use Rattle.dml_types.specs.declared.spans.Span.{Span}
 use Rattle.dml_types.specs.Job.{no_op_job}
@@ -36,11 +36,6 @@ reach_both a b = record { reads = hull_both a.reads b.reads; writes = hull_both 
 
 abbrev pub reaches_meet : Reach → Reach → Bool
 reaches_meet a b = hulls_meet a.writes b.reads || hulls_meet a.writes b.writes || hulls_meet a.reads b.writes
-
--- whether each of these is apart from what was seen before it
-abbrev pub are_apart : Reach → List Reach → Bool
-are_apart seen [] = true
-are_apart seen (reach ∷ reaches) = not (reaches_meet seen reach) && are_apart (reach_both seen reach) reaches
 
 -- around the first n jobs
 abbrev pub reach_so_far : List Job → ℕ → Reach

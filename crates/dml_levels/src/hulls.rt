@@ -109,17 +109,3 @@ impl Reach {
             | self.reads.meets(other.writes)
     }
 }
-
-/// Whether no job may meet one before it.
-pub fn are_apart(reaches: &[Reach]) -> bool
-    ensures { result ≡ word.are_apart no_reach reaches.now }
-{
-    let mut seen = Reach::none();
-    for reach in reaches {
-        if seen.meets(*reach) {
-            return false;
-        }
-        seen = seen.both(*reach);
-    }
-    true
-}

@@ -1,4 +1,4 @@
-ghost use Rattle.std.specs.Prelude.{◌≡◌, ◌^◌, ◌<◌, ◌≤◌, IfOk, length, map};
+ghost use Rattle.std.specs.Prelude.{◌≡◌, ◌^◌, ◌<◌, ◌≤◌, IfOk, IfSome, length, map};
 ghost use Rattle.dml_types.specs.Conflict.{clash_of, level_over, clash_levels};
 ghost use Rattle.dml_types.specs.Conflict as word;
 ghost use Rattle.std.specs.List.Sorted.{IsPermutation};
@@ -9,7 +9,7 @@ ghost use Rattle.dml_levels.specs.Touched.{touched_by};
 use crate::cells::find_starts;
 use crate::covers::{Footprint, find_footprints};
 use crate::heights::Heights;
-use crate::hulls::{Reach, are_apart};
+use crate::hulls::Reach;
 use crate::touched::Touches;
 use dml_desc::Checked;
 use std::alloc::{AllocError, Global};
@@ -27,13 +27,34 @@ pub(crate) fn find_levels(alloc: Global, jobs: &[Checked]) -> Result<Vec<u32>, A
     requires { length jobs.now ≤ 2 ^ 32 }
     ensures { IfOk result (λ list. list.items ≡ word.levels jobs.now) }
 {
-    let reaches = find_reaches(alloc, jobs)?;
-    if jobs.len() > FEW_JOBS && jobs.len() <= MANY_JOBS && !are_apart(reaches.as_slice()) {
+    if let Some(levels) = levels_apart(alloc, jobs)? {
+        return Ok(levels);
+    }
+    if jobs.len() > FEW_JOBS && jobs.len() <= MANY_JOBS {
         let starts = find_starts(alloc, jobs)?;
         let footprints = find_footprints(alloc, starts.as_slice(), jobs)?;
         return levels_by_cells(alloc, jobs, starts.as_slice(), footprints.as_slice());
     }
+    let reaches = find_reaches(alloc, jobs)?;
     levels_by_pairs(alloc, jobs, reaches.as_slice())
+}
+
+/// The levels of jobs by their hulls alone, where those of none meet those of one before it; `None` where some do.
+fn levels_apart(alloc: Global, jobs: &[Checked]) -> Result<Option<Vec<u32>>, AllocError>
+    requires few { length jobs.now ≤ 2 ^ 32 }
+    ensures { IfOk result (λ found. IfSome found (λ list. list.items ≡ word.levels jobs.now)) }
+{
+    let mut levels = Vec::with_capacity(alloc, jobs.len())?;
+    let mut seen = Reach::none();
+    for i in 0..jobs.len() {
+        let reach = Reach::of(&jobs[i]);
+        if seen.meets(reach) {
+            return Ok(None);
+        }
+        levels.push_reserved(0);
+        seen = seen.both(reach);
+    }
+    Ok(Some(levels))
 }
 
 /// The levels by pairs of jobs.

@@ -1,5 +1,5 @@
 -- The workers of a wave: what the calling thread may begin with and leaves, and what all of them have in common.
-use Rattle.std.specs.Prelude.{◌≡◌, ℕ, ◌<◌, ◌≤◌, List, [], ◌∷◌, ◌++◌, length, Option}
+use Rattle.std.specs.Prelude.{◌≡◌, ℕ, ◌<◌, ◌≤◌, List, [], ◌∷◌, ◌++◌, length, vec_capacity, Option}
 use Rattle.std.specs.Global.{Global}
 use Rattle.std.specs.List.{All}
 use Rattle.crossbeam_deque.specs.Handles.{Pass, view, worker_view, worker_deque, IsPassOf, stealer_deque, stealer_flavor}
@@ -47,14 +47,15 @@ AreCommon memory deque tasks image thief =
     × (stealer_flavor thief ≡ 0)
     × All IsRunnable tasks
 
--- the calling thread may lead: its desk and the owner are of this deque and its tasks, and the owner, with a part of the
--- right to know the whole, took none so far
+-- the calling thread may lead: its pass has one part of the right to know the whole, the owner has others, and neither
+-- took a task so far; its list has room for a slot of each task, and none yet
 abbrev pub MayLead : Memory → (ℕ × ℕ) × Global → List Task → Memory → Worker Numbered Global Hand Wave → Desk → Type 0
 MayLead memory deque tasks image owner desk =
-    IsDesk image desk
-    × (image ≡ memory)
-    × (stealer_deque desk.thief.now ≡ deque)
-    × ((view desk.place).tasks ≡ tasks)
+    AreCommon memory deque tasks image desk.thief.now
+    × IsPassOf deque desk.place
+    × (view desk.place ≡ hand tasks 1 [])
+    × (desk.slots.items ≡ [])
+    × (vec_capacity desk.slots ≡ length tasks)
     × (worker_deque owner ≡ deque)
     × ((worker_view owner).tasks ≡ tasks)
     × (0 < (worker_view owner).parts)

@@ -4,6 +4,7 @@ ghost use Rattle.crossbeam_deque.specs.Handles.{view, worker_view, worker_deque}
 ghost use Rattle.dml_pool.specs.Crews.{AreCommon, HasJoined, MayLead};
 ghost use Rattle.dml_pool.specs.Slots.{HoldTaken};
 
+use crate::order::empty_slots;
 use crate::posts::{Common, Post, absorbed, closed_post, joined};
 use crate::rule::{Owner, Thief};
 use crate::worker::{Desk, fill_slots, work};
@@ -13,14 +14,18 @@ use std::alloc::Global;
 use std::hint::spin_loop;
 use std::mem;
 use std::sync::{Mutex, Wait};
-use std::thread::{Threads, scope, scope_env};
+use std::thread::{Builder, Threads, scope, scope_env};
 
-/// How often the calling thread looks at a post where a worker still is, some 50 ns each time, before it sleeps.
+/// How often the calling thread looks whether workers have left, some 20 ns for each post, before it sleeps.
 const LOOKS: u32 = 200;
 
-/// Starts a worker at each post, works at the desk until no task is left, and takes over from the workers, post by post,
-/// once each has left. The ends of their threads are hardly ever waited for. A worker for which no thread can be made
-/// leaves its tasks to the others; one that comes late finds its post closed.
+/// The bytes of a started worker's stack, as many as Rust gives its threads. The GNU C library keeps stacks of 40 MiB
+/// in all for threads to come; six and more of its usual 8 MiB would be mapped anew in each wave.
+const STACK: usize = 2 << 20;
+
+/// Starts a worker at each post, works at the desk, whose list has room for the slots and none yet, until no task is
+/// left, and takes over from each worker once it has left. The ends of their threads are hardly ever waited for. A
+/// worker for which no thread can be made leaves its tasks to the others; one that comes late finds its post closed.
 pub fn crew<'a, R: Threads + Wait + Sync, G: Gate + Sync, W: Common + Send>(
     rt: &R,
     alloc: Global,
@@ -48,7 +53,8 @@ pub fn crew<'a, R: Threads + Wait + Sync, G: Gate + Sync, W: Common + Send>(
                 result.0 result.1.items }
         {
             for post in posts {
-                let _ = scope.spawn(
+                let _ = Builder::new().stack_size(STACK).spawn_scoped(
+                    scope,
                     move || -> ()
                         requires { AreCommon W.memory W.deque W.tasks image.now thief.now }
                     { work_at(rt, alloc, image, gate, thief, post) },
@@ -59,7 +65,8 @@ pub fn crew<'a, R: Threads + Wait + Sync, G: Gate + Sync, W: Common + Send>(
     )
 }
 
-/// Works at the desk until no task is left, and takes over from the workers at the posts.
+/// Makes the slots while the workers are at it, works at the desk until no task is left, and takes over from the
+/// workers at the posts.
 fn lead<'a, R: Wait, G: Gate, W: Common>(
     rt: &R,
     alloc: Global,
@@ -73,19 +80,18 @@ fn lead<'a, R: Wait, G: Gate, W: Common>(
     ensures done { HasJoined W.memory W.deque W.tasks ((worker_view owner.entry).parts + (view desk.entry.place).parts)
         result.0 result.1.items }
 {
+    let Desk {
+        thief,
+        place,
+        slots,
+    } = desk;
+    let desk = Desk {
+        thief,
+        place,
+        slots: empty_slots(slots),
+    };
     let (place, slots) = fill_slots(rt, image, gate, desk);
     taken_over(rt, alloc, absorbed(owner, place), slots, posts)
-}
-
-/// Looks at a post for a while, until no worker is there: a thread that sleeps is woken late. A post whose worker has
-/// not come yet is free.
-fn look_for_end<T>(post: &Mutex<T>) {
-    for _ in 0..LOOKS {
-        if post.try_lock().is_some() {
-            return;
-        }
-        spin_loop();
-    }
 }
 
 /// Works at a post that is open, until no task is left.
@@ -107,7 +113,8 @@ fn work_at<'a, R: Wait, G: Gate, W: Common>(
     }
 }
 
-/// Takes over from the workers, post by post, once each has left its own.
+/// Takes over from the workers, from each once it has left its post. A thread that sleeps is woken late, so this one
+/// looks for a while before it waits at one post after another.
 fn taken_over<'a, R: Wait, W: Common>(
     rt: &R,
     alloc: Global,
@@ -121,13 +128,68 @@ fn taken_over<'a, R: Wait, W: Common>(
     requires so_far { HoldTaken W.memory (worker_view owner) slots.items }
     ensures done { HasJoined W.memory W.deque W.tasks (worker_view owner.entry).parts result.0 result.1.items }
 {
+    for _ in 0..LOOKS {
+        let (whole, filled, all_left) = left_so_far(alloc, owner, slots, posts);
+        owner = whole;
+        slots = filled;
+        if all_left {
+            return (owner, slots);
+        }
+        spin_loop();
+    }
     for post in posts {
-        look_for_end(post);
         let mut guard = post.lock(rt);
-        let left = mem::replace(&mut *guard, closed_post(alloc, &mut owner));
-        let (whole, filled) = joined(owner, slots, left);
+        let (whole, filled) = cleared(alloc, owner, slots, &mut guard);
         owner = whole;
         slots = filled;
     }
     (owner, slots)
+}
+
+/// Takes over from the workers that have left by now, and tells whether those are all. A post whose worker has not come
+/// yet counts as left.
+fn left_so_far<'a, W: Common>(
+    alloc: Global,
+    mut owner: Owner<'a>,
+    mut slots: Vec<Option<Outcome<'a>>>,
+    posts: &[Mutex<Post<'a, W>>],
+) -> (Owner<'a>, Vec<Option<Outcome<'a>>>, bool)
+    requires deque { worker_deque owner ≡ W.deque }
+    requires tasks { (worker_view owner).tasks ≡ W.tasks }
+    requires parts { 1 < (worker_view owner).parts }
+    requires so_far { HoldTaken W.memory (worker_view owner) slots.items }
+    ensures done { HasJoined W.memory W.deque W.tasks (worker_view owner.entry).parts result.0 result.1.items }
+{
+    let mut all_left = true;
+    for post in posts {
+        match post.try_lock() {
+            Some(mut guard) => {
+                let (whole, filled) = cleared(alloc, owner, slots, &mut guard);
+                owner = whole;
+                slots = filled;
+            }
+            None => all_left = false,
+        }
+    }
+    (owner, slots, all_left)
+}
+
+/// Takes over what the worker of this post left, and closes the post. A closed one stays as it is.
+fn cleared<'a, W: Common>(
+    alloc: Global,
+    mut owner: Owner<'a>,
+    slots: Vec<Option<Outcome<'a>>>,
+    post: &mut Post<'a, W>,
+) -> (Owner<'a>, Vec<Option<Outcome<'a>>>)
+    requires deque { worker_deque owner ≡ W.deque }
+    requires tasks { (worker_view owner).tasks ≡ W.tasks }
+    requires parts { 1 < (worker_view owner).parts }
+    requires so_far { HoldTaken W.memory (worker_view owner) slots.items }
+    ensures done { HasJoined W.memory W.deque W.tasks (worker_view owner.entry).parts result.0 result.1.items }
+{
+    if !post.is_open {
+        return (owner, slots);
+    }
+    let left = mem::replace(post, closed_post(alloc, &mut owner));
+    joined(owner, slots, left)
 }

@@ -1,25 +1,21 @@
 //! Outcomes in the order of their tasks.
-ghost use Rattle.std.specs.Prelude.{◌≡◌, ◌<◌, ◌≤◌, ◌++◌, List, [], IfOk, IsSome, None, Some, length, map, replicate, vec_capacity};
+ghost use Rattle.std.specs.Prelude.{◌≡◌, ◌<◌, ◌≤◌, ◌++◌, List, [], IsSome, Some, length, map, vec_capacity};
 ghost use Rattle.std.specs.List.{All};
 ghost use Rattle.dml_pool.specs.declared.tasks.Outcome.{Outcome};
 ghost use Rattle.dml_pool.specs.Slots.{AreSlots};
 
 use crate::Outcome;
-use std::alloc::{AllocError, Global};
 
-/// A slot for each of so many tasks, with no outcome yet.
-///
-/// # Errors
-///
-/// Where the allocator has no memory left for the list.
-pub fn empty_slots<'a>(alloc: Global, count: usize) -> Result<Vec<Option<Outcome<'a>>>, AllocError>
-    ensures { IfOk result (λ slots. slots.items ≡ replicate count None) }
+/// An empty slot for each outcome that the list has room for.
+pub fn empty_slots<'a>(mut slots: Vec<Option<Outcome<'a>>>) -> Vec<Option<Outcome<'a>>>
+    requires { slots.items ≡ [] }
+    ensures count { length result.items ≡ vec_capacity slots.entry }
+    ensures empty { AreSlots [] result.items }
 {
-    let mut slots = Vec::with_capacity(alloc, count)?;
-    for _ in 0..count {
+    for _ in 0..slots.capacity() {
         slots.push_reserved(None);
     }
-    Ok(slots)
+    slots
 }
 
 /// Puts each outcome in the slot of its task.

@@ -1,13 +1,13 @@
 //! A wave of tasks.
-ghost use Rattle.std.specs.Prelude.{◌≡◌, ◌≤◌, [], length, IfOk};
+ghost use Rattle.std.specs.Prelude.{◌≡◌, ◌≤◌, [], length, vec_capacity, IfOk};
 ghost use Rattle.std.specs.List.{All, range_with_len};
 ghost use Rattle.crossbeam_deque.specs.Handles.{worker_view, worker_deque, stealer_deque, stealer_flavor};
 ghost use Rattle.dml_pool.specs.Rule.{all_parts, hand, tasks_done, AreTaskValues};
-ghost use Rattle.dml_pool.specs.Slots.{AreFilled, AreSlots, HoldTaken};
+ghost use Rattle.dml_pool.specs.Slots.{AreFilled, HoldTaken};
 ghost use Rattle.dml_pool.specs.Tasks.{IsRunnable};
 
 use crate::crew::crew;
-use crate::order::{empty_slots, opened};
+use crate::order::opened;
 use crate::posts::{Common, gathered, posts_for};
 use crate::rule::{Owner, Part, Thief, Whole};
 use crate::worker::{Desk, fill_slots};
@@ -87,13 +87,13 @@ pub fn run_wave_into_slots<'a, R: Threads + Wait + Sync, G: Gate + Sync>(
 {
     let count = queue.len();
     let workers = workers.min(count).max(1);
-    let slots = empty_slots(alloc, count as usize)?;
+    let slots = Vec::with_capacity(alloc, count as usize)?;
     let owner = queue.into_owner();
     let thief = owner.stealer()?;
     all_done::<R, G, Brand>(rt, alloc, image, gate, workers, &thief, owner, slots)
 }
 
-/// The outcomes of all tasks of a deque, each in its slot.
+/// The outcomes of all tasks of a deque, each in its slot; the list has room for the slots.
 ///
 /// # Errors
 ///
@@ -117,12 +117,12 @@ fn all_done<'a, R: Threads + Wait + Sync, G: Gate + Sync, W: Common + Send>(
     requires flavor { stealer_flavor thief.now ≡ 0 }
     requires tasks { worker_view owner ≡ hand W.tasks all_parts [] }
     requires runnable { All IsRunnable W.tasks }
-    requires count { length slots.items ≡ length W.tasks }
-    requires empty { AreSlots [] slots.items }
+    requires empty { slots.items ≡ [] }
+    requires room { vec_capacity slots ≡ length W.tasks }
     ensures count { IfOk result (λ slots. length slots.items ≡ length W.tasks) }
     ensures filled { IfOk result (λ slots. AreFilled image.now W.tasks slots.items) }
 {
-    let posts = posts_for::<W>(alloc, &mut owner, workers - 1, slots.len())?;
+    let posts = posts_for::<W>(alloc, &mut owner, workers - 1, slots.capacity())?;
     let place = owner.another::<Part>();
     let desk = Desk {
         thief,

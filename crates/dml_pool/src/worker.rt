@@ -13,7 +13,7 @@ use crossbeam_deque::Steal;
 use dml_image::Image;
 use std::sync::Wait;
 
-/// Where the calling thread steals, what it knows of the deque, and the slots of all tasks.
+/// Where the calling thread steals, what it knows of the deque, and the slots of all tasks, or room for them.
 #[derive(Drop)]
 pub struct Desk<'t, 'a> {
     pub thief: &'t Thief<'a>,

@@ -2,6 +2,10 @@ use Rattle.crossbeam_deque.specs.Handles.{worker_view}
 use Rattle.dml_pool.specs.Crews.{HasJoined}
 use Rattle.dml_pool.proofs.crew.taken_over.Given as goal
 
+abbrev pub invariant-loop : goal.invariant-loop
+invariant-loop g l =
+    HasJoined g.W.Common.memory g.W.Common.deque g.W.Common.tasks (worker_view l.fn.owner).parts l.owner l.slots.items
+
 abbrev pub invariant-loop-post : goal.invariant-loop-post
 invariant-loop-post g l =
     HasJoined g.W.Common.memory g.W.Common.deque g.W.Common.tasks (worker_view l.fn.owner).parts l.owner l.slots.items

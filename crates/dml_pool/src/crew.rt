@@ -19,9 +19,21 @@ use std::thread::{Builder, Threads, scope, scope_env};
 /// How often the calling thread looks whether workers have left, some 20 ns for each post, before it sleeps.
 const LOOKS: u32 = 200;
 
-/// The bytes of a started worker's stack, as many as Rust gives its threads. The GNU C library keeps stacks of 40 MiB
-/// in all for threads to come; six and more of its usual 8 MiB would be mapped anew in each wave.
+/// The GNU C library keeps the stacks of so many workers, at its usual 8 MiB each, from one wave to the next.
+const KEPT: usize = 5;
+
+/// The bytes of a worker's stack where more are started, as many as Rust gives its threads. Of larger ones some would be
+/// mapped anew in each wave.
 const STACK: usize = 2 << 20;
+
+/// How the thread of one of so many workers starts.
+fn builder(workers: usize) -> Builder {
+    if workers > KEPT {
+        Builder::new().stack_size(STACK)
+    } else {
+        Builder::new()
+    }
+}
 
 /// Starts a worker at each post, works at the desk, whose list has room for the slots and none yet, until no task is
 /// left, and takes over from each worker once it has left. The ends of their threads are hardly ever waited for. A
@@ -53,7 +65,7 @@ pub fn crew<'a, R: Threads + Wait + Sync, G: Gate + Sync, W: Common + Send>(
                 result.0 result.1.items }
         {
             for post in posts {
-                let _ = Builder::new().stack_size(STACK).spawn_scoped(
+                let _ = builder(posts.len()).spawn_scoped(
                     scope,
                     move || -> ()
                         requires { AreCommon W.memory W.deque W.tasks image.now thief.now }

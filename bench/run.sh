@@ -2,10 +2,12 @@
 # Runs the proved benchmark and the C programs of this folder alternately, and prints the medians of their ratios.
 #
 # Usage: bench/run.sh [ROUNDS [MEBIBYTES]]   31 rounds of 64 mebibytes a row, where nothing else is said.
-# Wants the program dml_bench built (rt run in crates/dml_bench), clang or another C compiler as $CC, with $CFLAGS or -O2.
+# Wants the program dml_bench built (rt run in crates/dml_bench, with --cpu x86-64-v3 where the processor has AVX2, since
+# the C library's functions choose their instructions by the processor), clang or another C compiler as $CC, with
+# $CFLAGS or -O2.
 # The second table has lists with 1, 2 and 4 workers as the engine takes them, the third lists of jobs of 64 KiB whose
-# workers begin however little work there is. A move of 64 bytes has no bar here: how many memmoves it takes differs from
-# machine to machine, so bench/against.sh compares it with that of another build.
+# workers begin however little work there is. A move of 64 bytes has no bar here: how many memmoves it takes differs
+# from machine to machine, so bench/against.sh compares it with that of another build.
 # Each round runs every program once, every second round in the opposite order, and a ratio is taken within its
 # round. A round in which the host of a virtual machine took more than HOST_MOST percent of the processors' time (2,
 # where nothing else is said) is left out and run again, at most three such rounds for each one wanted.
@@ -96,13 +98,12 @@ awk '
         return median(list, rounds)
     }
     function atleast(text, value, least) {
-        least += 0
         if (value < least) missed = 1
-        printf("%-48s %8.2f, at least %s: %s\n", text, value, least, (value < least) ? "missed" : "met")
+        printf("%-48s %9.3f, at least %.3f: %s\n", text, value, least, (value < least) ? "missed" : "met")
     }
     function bar(text, value, most) {
         if (value > most) missed = 1
-        printf("%-48s %8.2f, at most %s: %s\n", text, value, most, (value > most) ? "missed" : "met")
+        printf("%-48s %9.3f, at most %s: %s\n", text, value, most, (value > most) ? "missed" : "met")
     }
     { times[$1, $2, $3] = $4; if ($1 > rounds) rounds = $1 }
     END {
@@ -166,7 +167,7 @@ awk '
         atleast("64 compares of 1 MiB, 4 workers, speed of one", speed("list_compares_64", 4), 2.3)
         bar("64 compares of 1 MiB, 4 workers, of C threads", ratio("list_compares_64", "threads_compares_64", 4), 1.15)
         atleast("4 compares of 1 MiB, 4 workers, speed of one", speed("list_compares_4", 4), \
-            sprintf("%.2f", speed("threads_compares_4", 4)))
+            speed("threads_compares_4", 4))
         bar("no-op in a list of 1,024, in nanoseconds", middle("list_no_ops", 1) / 1024, 60)
         bar("no-op, an engine with 4 workers", middle("list_no_ops", 4) / 1024, 60)
         bar("1,024 moves of a page in a list, of one by one", both("list_page_moves", 1, "each_page_moves", 1), 1.2)
@@ -179,6 +180,7 @@ awk '
             if (part[1] ~ /^levels/ && part[2] == 1024)
                 bar(part[1] " of 1,024 jobs, in nanoseconds", middle(part[1], 1024), 500000)
         }
+        bar("levels_in_order of 1,024 jobs, of those of 64", both("levels_in_order", 1024, "levels_in_order", 64), 20)
         bar("try_submit, of a push to a bare ring", ratio("seat_submit", "ring_push", 1024), 3)
         bar("poll, of a pop from a bare ring", ratio("seat_poll", "ring_pop", 1024), 3)
         bar("round of 128 no-ops, in nanoseconds a job", middle("round_no_ops", 1024) / 1024, 150)

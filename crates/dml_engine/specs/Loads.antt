@@ -21,7 +21,7 @@ shared_by ComparePattern job tasks = job.size - 2048 * (tasks + 8)
 shared_by CreateDelta job tasks = job.size - 2048 * (tasks + 8)
 shared_by _ job tasks = 0
 
--- the bytes that workers have to stage, where one worker writes them at once
+-- the bytes that the calling thread writes alone behind a wave, at most, where one worker writes them at once
 abbrev pub staged_by : Op → Job → ℕ
 staged_by Move job = job.size
 staged_by Fill job = job.size

@@ -32,7 +32,7 @@ const JOB_TASKS: u64 = 8;
 /// measured.
 const LOOK_BYTES: u64 = 32;
 
-/// How many shared bytes make up for a byte that workers stage and one worker does not, as measured.
+/// How many shared bytes make up for a byte that the calling thread writes alone behind a wave, as measured.
 const STAGED_COST: u64 = 3;
 
 /// The work of jobs, about. No answer depends on it.
@@ -40,7 +40,7 @@ const STAGED_COST: u64 = 3;
 pub struct Load {
     /// The bytes that workers share, less what the tasks cost.
     pub shared: u64,
-    /// The bytes that workers would stage.
+    /// The bytes that the calling thread would write alone behind a wave, at most.
     pub staged: u64,
     pub tasks: u64,
 }

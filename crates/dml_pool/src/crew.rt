@@ -20,10 +20,10 @@ use std::thread::{Builder, Threads, scope, scope_env};
 const LOOKS: u32 = 200;
 
 /// The GNU C library keeps the stacks of so many workers, at its usual 8 MiB each, from one wave to the next.
-const KEPT: usize = 5;
+const KEPT: usize = 4;
 
-/// The bytes of a worker's stack where more are started, as many as Rust gives its threads. Of larger ones some would be
-/// mapped anew in each wave.
+/// The bytes of a worker's stack where more are started, as many as Rust gives its threads. Larger ones would in part
+/// be mapped anew in each wave.
 const STACK: usize = 2 << 20;
 
 /// How the thread of one of so many workers starts.

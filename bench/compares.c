@@ -41,7 +41,7 @@ static int list(unsigned jobs, unsigned threads) {
 
 int main(int argc, char **argv) {
     static const struct { const char *name; unsigned jobs, calls; } rows[] = {
-        {"threads_compares_64", 64, 3}, {"threads_compares_4", 4, 20}};
+        {"threads_compares_64", 64, 16}, {"threads_compares_4", 4, 200}};
     int measures = argc > 1 && strtoul(argv[1], NULL, 10) > 0;
     image = malloc(PAIRS * 2 * (size_t)MEBIBYTE);
     if (!image)
@@ -50,8 +50,9 @@ int main(int argc, char **argv) {
     for (unsigned r = 0; r < sizeof rows / sizeof *rows; r++)
         for (unsigned threads = 1; threads <= 4; threads *= 2) {
             unsigned calls = measures ? rows[r].calls : 1;
-            if (list(rows[r].jobs, threads))
-                return 1;
+            for (unsigned k = 0; k < calls / 10 + 1; k++)
+                if (list(rows[r].jobs, threads))
+                    return 1;
             double start = now();
             for (unsigned k = 0; k < calls; k++)
                 if (list(rows[r].jobs, threads))

@@ -172,7 +172,7 @@ fn each_submitted<T: Threads + Wait + Sync>(
     Ok(())
 }
 
-/// Submits a list once, and then times so many more of it: the nanoseconds of one.
+/// Submits a list some times, a tenth of the calls and one, and then times so many more of it: the nanoseconds of one.
 fn time_of<T: Threads + Wait + Sync + Clock>(
     rt: &T,
     alloc: Global,
@@ -182,7 +182,9 @@ fn time_of<T: Threads + Wait + Sync + Clock>(
 ) -> io::Result<u128>
     requires { 0 < calls }
 {
-    listed(rt, alloc, engine, jobs)?;
+    for _ in 0..calls / 10 + 1 {
+        listed(rt, alloc, engine, jobs)?;
+    }
     let start = Instant::now(rt)?;
     for _ in 0..calls {
         listed(rt, alloc, engine, jobs)?;
@@ -220,8 +222,8 @@ pub(crate) fn time_shapes<T: Threads + Wait + Sync + Clock + Eprint>(
     measures: bool,
 ) -> io::Result<Image<'static>> {
     let rows = [
-        ("list_compares_64", Shape::Compares, 64, 3),
-        ("list_compares_4", Shape::Compares, 4, 20),
+        ("list_compares_64", Shape::Compares, 64, 16),
+        ("list_compares_4", Shape::Compares, 4, 200),
         ("list_no_ops", Shape::NoOps, 1024, 100),
         ("list_page_moves", Shape::PageMoves, 1024, 20),
         ("list_large_moves", Shape::LargeMoves, 8, 10),

@@ -211,14 +211,16 @@ fn two_tasks_at_once(rt: HostRuntime) -> Result<(), Fail> {
 fn as_many_tasks_as_workers_at_once(rt: HostRuntime) -> Result<(), Fail> {
     let image = image(rt.alloc())?;
     let chunks = [(Job::fill(1, 0, 8), 0, 8); 16];
-    for (workers, all) in [(4, 0x1111), (16, ALL_ENTERED)] {
-        let mut arena = Arena::new(rt.alloc(), 0)?;
-        let count = workers as usize;
-        let tasks = tasks_of(&rt, rt.alloc(), &chunks[..count], arena.open())?;
-        let gate = Meeting::new(&rt, [all; 16]);
-        let outcomes = run_wave(&rt, rt.alloc(), &image, tasks, workers, &gate)?;
-        assert_eq!(rt; outcomes.len(), count, "{workers} workers");
-        assert_eq!(rt; gate.counts(), (all, 0), "{workers} workers");
+    for turn in 0..10 {
+        for (workers, all) in [(4, 0x1111), (16, ALL_ENTERED)] {
+            let mut arena = Arena::new(rt.alloc(), 0)?;
+            let count = workers as usize;
+            let tasks = tasks_of(&rt, rt.alloc(), &chunks[..count], arena.open())?;
+            let gate = Meeting::new(&rt, [all; 16]);
+            let outcomes = run_wave(&rt, rt.alloc(), &image, tasks, workers, &gate)?;
+            assert_eq!(rt; outcomes.len(), count, "turn {turn}: {workers} workers");
+            assert_eq!(rt; gate.counts(), (all, 0), "turn {turn}: {workers} workers");
+        }
     }
     Ok(())
 }

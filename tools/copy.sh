@@ -1,9 +1,11 @@
-# Read by tools/controls.sh and tools/test_edits.sh at the top of the repository: a copy of it in $room, with the work
-# that checks have kept, which goes when the script ends; and what rewrites a place of that copy. $top is the repository.
+# Read by tools/controls.sh and tools/test_edits.sh at the top of the repository, whose folder is then $top: a copy of
+# it in $room, with the libraries that checks have built, which goes when the script ends; and what rewrites a place of
+# the copy.
 top=$(pwd)
 room=$(mktemp -d) || exit 2
 trap 'rm -rf "$room"' EXIT
 trap 'exit 2' HUP INT TERM
+
 # copied CRATE PART..: these parts of the crate in the copy are those of the repository
 copied() {
     crate=$1
@@ -15,7 +17,7 @@ copied() {
     done
 }
 
-# rewritten CONTROL: makes its rewrites in the current folder; says why where one cannot be made
+# rewritten FILE: makes its rewrites in the current folder; says why where one cannot be made
 rewritten() {
     awk '
         function fails(why) { print why; failed = 1; exit 1 }

@@ -3,44 +3,51 @@
 # [CRATE..]; with none, all crates.
 #
 # A contract says nothing of threads that run at once, nor of memory that is there. So a wrong body of that kind stands
-# as crates/CRATE/must-fail/EDIT.tests.md, by lines `file:`, `old:` and `new:` as in an edit, and lines `tests:` with the
-# name of a crate of tests and the names of tests there; any other line is a remark. With it `rt check` still proves the
-# crate, and each of these tests must fail.
+# as crates/CRATE/must-fail/EDIT.tests.md, by lines `file:`, `old:` and `new:` as in an edit, and lines `tests:` with
+# the name of a crate of tests and the names of tests there; any other line is a remark. Without it each of these tests
+# passes. With it `rt check` still proves the crate, and each of these tests must fail.
 #
 # Each is tried on a copy of the repository with the work that checks have kept, and nothing here is changed. A line is
 # printed for each, with its seconds, and last 'N refused by tests, M not'. Status 0 only where all are refused.
 cd "$(dirname "$0")/.." || exit 2
 for crate in "$@"; do
-    [ -n "$(ls "crates/$crate"/must-fail/*.tests.md 2>/dev/null)" ] || { echo "test_edits: $crate has none" >&2; exit 2; }
+    [ -n "$(ls "crates/$crate"/must-fail/*.tests.md 2>/dev/null)" ] ||
+        { echo "test_edits: $crate has none" >&2; exit 2; }
 done
 . tools/copy.sh
 refused=0
 others=0
 
-# passing EDIT: what of its tests does not fail with it, or why none could be tried; nothing where all fail
-passing() {
-    sed -n 's/^tests: //p' "$1" | while read -r place names; do
-        if (cd "$room/crates/$place" && rt try --test) >"$room/log" 2>&1; then
-            echo "all tests of $place pass"
-        fi
+# others_than ENDS EDIT FOLDER: which of the edit's tests do not end so ('ok' or 'FAILED'), by the logs in the folder;
+# the tests of a crate are run where there is no log yet
+others_than() {
+    mkdir -p "$3"
+    sed -n 's/^tests: //p' "$2" | while read -r place names || [ -n "$place" ]; do
+        [ -f "$3/$place" ] || (cd "$room/crates/$place" && rt try --test) >"$3/$place" 2>&1 </dev/null
+        [ -n "$names" ] || printf 'no test of %s is named; ' "$place"
         for test in $names; do
-            grep -q "^test .*::$test \.\.\. FAILED" "$room/log" || echo "$test of $place does not fail"
+            grep -q "^test .*::$test \.\.\. $1" "$3/$place" ||
+                printf '%s of %s does not end by %s; ' "$test" "$place" "$1"
         done
     done
-    grep -q '^tests: ' "$1" || echo "it names no tests"
+    grep -q '^tests: ' "$2" || printf 'it names no tests; '
 }
 
 # tried CRATE EDIT: one wrong body
 tried() {
     name=$(basename "$2" .tests.md)
     copied "$1" src specs proofs
+    rm -rf "$room/with"
     start=$(date +%s)
-    if ! said=$(cd "$room/crates/$1" && rewritten "$top/$2"); then
+    said=$(others_than ok "$top/$2" "$room/without")
+    if [ -n "$said" ]; then
+        said="before it, $said"
+    elif ! said=$(cd "$room/crates/$1" && rewritten "$top/$2"); then
         said="it cannot be applied: $said"
     elif ! (cd "$room/crates/$1" && rt check) >"$room/log" 2>&1; then
-        said="it is not proved, so the prover refuses it"
+        said="it is not proved: $(grep -m 1 -E ':[0-9]+:[0-9]+: error|^error' "$room/log" || tail -n 1 "$room/log")"
     else
-        said=$(passing "$top/$2")
+        said=$(others_than FAILED "$top/$2" "$room/with")
     fi
     if [ -z "$said" ]; then
         refused=$((refused + 1))
@@ -53,6 +60,7 @@ tried() {
 }
 
 for edit in crates/*/must-fail/*.tests.md; do
+    [ -f "$edit" ] || continue
     folder=${edit%%/must-fail/*}
     changed=${folder#crates/}
     case " ${*:-$changed} " in

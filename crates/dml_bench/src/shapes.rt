@@ -253,7 +253,9 @@ fn time_each<T: Threads + Wait + Sync + Clock + Eprint>(
 {
     let list = list_of(alloc, Shape::PageMoves, 1024)?;
     let mut engine = engine_of(alloc, image, 1, false)?;
-    each_submitted(rt, alloc, &mut engine, list.as_slice())?;
+    for _ in 0..calls / 10 + 1 {
+        each_submitted(rt, alloc, &mut engine, list.as_slice())?;
+    }
     let start = Instant::now(rt)?;
     for _ in 0..calls {
         each_submitted(rt, alloc, &mut engine, list.as_slice())?;

@@ -14,7 +14,7 @@ use Rattle.dml_pool.specs.declared.tasks.Task.{Task}
 use Rattle.dml_pool.specs.declared.rule.Hand.{Hand}
 use Rattle.dml_pool.specs.declared.rule.Numbered.{Numbered}
 use Rattle.dml_pool.specs.Numbers.{times, once_below}
-use Rattle.dml_pool.specs.Rule.{hand, all_parts, numbers_of, HasTaken, HasTakenAll, IsOf, Knows, Kept}
+use Rattle.dml_pool.specs.Rule.{hand, all_parts, numbers_of, task_of, HasTaken, HasTakenAll, IsOf, Knows, Kept}
 use Rattle.dml_pool.proofs.Counts.{few_below, once_more, times_append}
 use Rattle.dml_pool.proofs.Totals.{total_set, total_snoc, part_of_total, every_set, every_snoc, only_one, whole_total}
 
@@ -45,15 +45,15 @@ begins =
     ([], omega arith, one, All-nil (IsOf []), λ x. grind (arith, nat_tests))
 
 pub pushes : (port : ℕ) (v : Hand) (item : Numbered) → v.parts ≡ all_parts → item.number ≡ length v.tasks
-    → Pushes Kept port v (item ∷ []) (λ w. w ≡ hand (v.tasks ++ item.task ∷ []) v.parts v.taken)
+    → Pushes Kept port v (item ∷ []) (λ w. w ≡ hand (v.tasks ++ task_of item ∷ []) v.parts v.taken)
 pushes port v item every number items views h at =
-    let w = hand (v.tasks ++ item.task ∷ []) v.parts v.taken in
+    let w = hand (v.tasks ++ task_of item ∷ []) v.parts v.taken in
     let mine : v.tasks ≡ h.0 = (h.2 port v at).0 (omega (arith, every)) in
-    let more : List Task = h.0 ++ item.task ∷ [] in
+    let more : List Task = h.0 ++ task_of item ∷ [] in
     let parts = total_set (λ u. u.parts) views port v w at in
-    let same : w.tasks ≡ more = ap (λ tasks. tasks ++ item.task ∷ []) mine in
-    let last : slice_get more item.number ≡ Some item.task =
-    ap (slice_get more) (number ∙ ap length mine) ∙ get_last h.0 item.task in (
+    let same : w.tasks ≡ more = ap (λ tasks. tasks ++ task_of item ∷ []) mine in
+    let last : slice_get more item.number ≡ Some (task_of item) =
+    ap (slice_get more) (number ∙ ap length mine) ∙ get_last h.0 (task_of item) in (
       w,
       (
         more,
@@ -62,7 +62,7 @@ pushes port v item every number items views h at =
             (λ j u other there.
             let idle = only_one views port v at (h.1 ∙ sym every) j u other there in
             ((λ some_part. absurd (omega (arith, idle, some_part))), (h.2 j u there).1)),
-        All-push (IsOf more) items item (All-weaker (IsOf h.0) (IsOf more) (λ (y : Numbered) is. get_longer h.0 (item.task ∷ []) y.number y.task is) items h.3) last,
+        All-push (IsOf more) items item (All-weaker (IsOf h.0) (IsOf more) (λ (y : Numbered) is. get_longer h.0 (task_of item ∷ []) y.number (task_of y) is) items h.3) last,
         λ x.
             let taken = total_set (λ u. times x u.taken) views port v w at in
             let place : item.number ≡ length h.0 = number ∙ ap length mine in
@@ -70,7 +70,7 @@ pushes port v item every number items views h at =
             let split : times x (numbers_of (items ++ item ∷ [])) ≡ times x (numbers_of items) + times x (numbers_of (item ∷ [])) =
             ap (times x) (map-append (λ (y : Numbered). y.number) items (item ∷ [])) ∙ times_append x (numbers_of items) (numbers_of (item ∷ [])) in
             let count : once_below x (length more) ≡ once_below x (length h.0) + times x (length h.0 ∷ []) =
-            ap (once_below x) (length-append h.0 (item.task ∷ [])) ∙ once_more x (length h.0) in
+            ap (once_below x) (length-append h.0 (task_of item ∷ [])) ∙ once_more x (length h.0) in
             let before = h.4 x in
             omega (arith, taken, one, split, count, before),
       ),

@@ -10,7 +10,7 @@ use Rattle.dml_pool.specs.declared.tasks.Outcome.{Outcome}
 use Rattle.dml_pool.specs.declared.rule.Numbered.{Numbered}
 use Rattle.dml_pool.specs.Tasks.{IsTaskValue}
 use Rattle.dml_pool.specs.declared.rule.Hand.{Hand}
-use Rattle.dml_pool.specs.Rule.{hand, tasks_done, IsOf, IsDone, Accounts, HasTaken, HasTakenAll, Kept}
+use Rattle.dml_pool.specs.Rule.{hand, tasks_done, task_of, IsOf, IsDone, Accounts, HasTaken, HasTakenAll, Kept}
 use Rattle.dml_pool.specs.Crews.{TakesNext}
 use Rattle.crossbeam_deque.specs.Tasks.{FindsFew}
 use Rattle.dml_pool.proofs.Keeps.{finds_few}
@@ -34,17 +34,17 @@ pub finds : (flavor port : ℕ) (v : Hand) → flavor ≡ 0 → FindsFew Kept (m
 finds flavor port v fifo = let none : min flavor 1 ≡ 0 = omega (arith, fifo) in rw none (finds_few port v)
 
 -- what is asked of all tasks holds of one that was taken
-pub task_at : (P : Task → Type 0) (tasks : List Task) (item : Numbered) (rest : List Numbered) → All P tasks → All (IsOf tasks) (item ∷ rest) → P item.task
+pub task_at : (P : Task → Type 0) (tasks : List Task) (item : Numbered) (rest : List Numbered) → All P tasks → All (IsOf tasks) (item ∷ rest) → P (task_of item)
 task_at P tasks item rest all of =
-    let at : slice_get tasks item.number ≡ Some item.task = All-head (IsOf tasks) item rest of in
-    subst P (get_or_from_slice_get tasks item.number item.task item.task at) (all item.number item.task (slice_get_within tasks item.number item.task at))
+    let at : slice_get tasks item.number ≡ Some (task_of item) = All-head (IsOf tasks) item rest of in
+    subst P (get_or_from_slice_get tasks item.number (task_of item) (task_of item) at) (all item.number (task_of item) (slice_get_within tasks item.number (task_of item) at))
 
 -- a task taken and carried out
 pub takes_next : (memory : Memory) (u v w : Hand) (item : Numbered) (outcome : Outcome) → v ≡ u → HasTaken v (item ∷ []) w → outcome.task ≡ item.number
-    → IsTaskValue memory item.task outcome.piece → TakesNext memory u w outcome
+    → IsTaskValue memory (task_of item) outcome.piece → TakesNext memory u w outcome
 takes_next memory u v w item outcome known took same value =
     let of : All (IsOf u.tasks) (item ∷ []) = subst (λ (h : Hand). All (IsOf h.tasks) (item ∷ [])) known took.1 in
-    let at : slice_get u.tasks outcome.task ≡ Some item.task = ap (slice_get u.tasks) same ∙ All-head (IsOf u.tasks) item [] of in record {
+    let at : slice_get u.tasks outcome.task ≡ Some (task_of item) = ap (slice_get u.tasks) same ∙ All-head (IsOf u.tasks) item [] of in record {
       taken =
           took.0
           ∙ (ap (λ (h : Hand). hand h.tasks h.parts (h.taken ++ item.number ∷ [])) known

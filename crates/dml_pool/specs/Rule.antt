@@ -8,7 +8,7 @@ use lib.ListN.{get_elem?}
 use Rattle.dml_types.specs.Memory.{Memory}
 use Rattle.dml_pool.specs.declared.tasks.Task.{Task}
 use Rattle.dml_pool.specs.declared.tasks.Outcome.{Outcome}
-use Rattle.dml_pool.specs.Tasks.{IsTaskValue}
+use Rattle.dml_pool.specs.Tasks.{IsTaskValue, task_with}
 use Rattle.dml_pool.specs.declared.rule.Hand.{Hand}
 use Rattle.dml_pool.specs.declared.rule.Numbered.{Numbered}
 use Rattle.dml_pool.specs.Numbers.{times, once_below}
@@ -25,12 +25,16 @@ abbrev pub total : (Hand → ℕ) → List Hand → ℕ
 total count [] = 0
 total count (v ∷ views) = count v + total count views
 
+-- the task of an item
+abbrev pub task_of : Numbered → Task
+task_of item = task_with item.job.now item.from item.to item.room
+
 abbrev pub numbers_of : List Numbered → List ℕ
 numbers_of items = map (λ item. item.number) items
 
 -- an item is the task with its number
 abbrev pub IsOf : List Task → Numbered → Type 0
-IsOf tasks item = slice_get tasks item.number ≡ Some item.task
+IsOf tasks item = slice_get tasks item.number ≡ Some (task_of item)
 
 -- a pass with a part knows all tasks, and one without any took nothing
 abbrev pub Knows : List Task → Hand → Type 0

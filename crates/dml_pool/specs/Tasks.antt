@@ -1,5 +1,6 @@
 -- A task, which is one chunk of a job, and what its worker gives for it.
 use Rattle.std.specs.Prelude.{◌≡◌, ◌≢◌, ℕ, ◌-◌, ◌*◌, ◌≤◌, [], option_map}
+use Rattle.dml_types.specs.declared.jobs.Job.{Job}
 use Rattle.dml_types.specs.declared.operations.Op.{Op}
 use Rattle.dml_types.specs.declared.operations.Op.TheVariants.{NoOp, Move, CreateDelta, ApplyDelta, Dualcast}
 use Rattle.dml_types.specs.Memory.{Memory}
@@ -7,6 +8,7 @@ pub use Rattle.dml_types.specs.Chunk.{units}
 use Rattle.dml_types.specs.Chunk.{scan_found, scan_staged, create_staged, create_fault, apply_staged, apply_bad, apply_first, apply_last}
 use Rattle.dml_desc.specs.Checked.{operation_of}
 use Rattle.dml_arena.specs.Piece.{SamePlace}
+use Rattle.dml_arena.specs.Piece as region
 use Rattle.dml_scan.specs.declared.scans.ScanPiece.{ScanPiece}
 use Rattle.dml_delta.specs.declared.applies.ApplyPiece.{ApplyPiece}
 use Rattle.dml_delta.specs.declared.creates.CreatePiece.{CreatePiece}
@@ -14,6 +16,10 @@ use Rattle.dml_delta.specs.Bad.{bad_of}
 use Rattle.dml_pool.specs.declared.tasks.Task.{Task}
 use Rattle.dml_pool.specs.declared.tasks.Piece.{Piece}
 use Rattle.dml_pool.specs.declared.tasks.Piece.TheVariants.{Scan, Create, Apply}
+
+-- the task that has this job, these offsets and this region
+abbrev pub task_with : Job → ℕ → ℕ → region.Piece → Task
+task_with job from to room = record { job = job; from = from; to = to; room = room }
 
 -- how many bytes a chunk of n of these may stage
 abbrev pub room_for : Op → ℕ → ℕ

@@ -38,15 +38,15 @@ fn builder(workers: usize) -> Builder {
 /// Starts a worker at each post, works at the desk, whose list has room for the slots and none yet, until no task is
 /// left, and takes over from each worker once it has left. The ends of their threads are hardly ever waited for. A
 /// worker for which no thread can be made leaves its tasks to the others; one that comes late finds its post closed.
-pub fn crew<'a, R: Threads + Wait + Sync, G: Gate + Sync, W: Common + Send>(
+pub fn crew<'j, 'a, R: Threads + Wait + Sync, G: Gate + Sync, W: Common + Send>(
     rt: &R,
     alloc: Global,
     image: &Image,
     gate: &G,
-    posts: &[Mutex<Post<'a, W>>],
-    owner: Owner<'a>,
-    desk: Desk<'_, 'a>,
-) -> (Owner<'a>, Vec<Option<Outcome<'a>>>)
+    posts: &[Mutex<Post<'j, 'a, W>>],
+    owner: Owner<'j, 'a>,
+    desk: Desk<'_, 'j, 'a>,
+) -> (Owner<'j, 'a>, Vec<Option<Outcome<'a>>>)
     requires { MayLead W.memory W.deque W.tasks image.now owner desk }
     ensures done { HasJoined W.memory W.deque W.tasks ((worker_view owner.entry).parts + (view desk.entry.place).parts)
         result.0 result.1.items }
@@ -79,15 +79,15 @@ pub fn crew<'a, R: Threads + Wait + Sync, G: Gate + Sync, W: Common + Send>(
 
 /// Makes the slots while the workers are at it, works at the desk until no task is left, and takes over from the
 /// workers at the posts.
-fn lead<'a, R: Wait, G: Gate, W: Common>(
+fn lead<'j, 'a, R: Wait, G: Gate, W: Common>(
     rt: &R,
     alloc: Global,
     image: &Image,
     gate: &G,
-    posts: &[Mutex<Post<'a, W>>],
-    owner: Owner<'a>,
-    desk: Desk<'_, 'a>,
-) -> (Owner<'a>, Vec<Option<Outcome<'a>>>)
+    posts: &[Mutex<Post<'j, 'a, W>>],
+    owner: Owner<'j, 'a>,
+    desk: Desk<'_, 'j, 'a>,
+) -> (Owner<'j, 'a>, Vec<Option<Outcome<'a>>>)
     requires { MayLead W.memory W.deque W.tasks image.now owner desk }
     ensures done { HasJoined W.memory W.deque W.tasks ((worker_view owner.entry).parts + (view desk.entry.place).parts)
         result.0 result.1.items }
@@ -107,13 +107,13 @@ fn lead<'a, R: Wait, G: Gate, W: Common>(
 }
 
 /// Works at a post that is open, until no task is left.
-fn work_at<'a, R: Wait, G: Gate, W: Common>(
+fn work_at<'j, 'a, R: Wait, G: Gate, W: Common>(
     rt: &R,
     alloc: Global,
     image: &Image,
     gate: &G,
-    thief: &Thief<'a>,
-    post: &Mutex<Post<'a, W>>,
+    thief: &Thief<'j, 'a>,
+    post: &Mutex<Post<'j, 'a, W>>,
 )
     requires { AreCommon W.memory W.deque W.tasks image.now thief.now }
 {
@@ -127,13 +127,13 @@ fn work_at<'a, R: Wait, G: Gate, W: Common>(
 
 /// Takes over from the workers, from each once it has left its post. A thread that sleeps is woken late, so this one
 /// looks for a while before it waits at one post after another.
-fn taken_over<'a, R: Wait, W: Common>(
+fn taken_over<'j, 'a, R: Wait, W: Common>(
     rt: &R,
     alloc: Global,
-    mut owner: Owner<'a>,
+    mut owner: Owner<'j, 'a>,
     mut slots: Vec<Option<Outcome<'a>>>,
-    posts: &[Mutex<Post<'a, W>>],
-) -> (Owner<'a>, Vec<Option<Outcome<'a>>>)
+    posts: &[Mutex<Post<'j, 'a, W>>],
+) -> (Owner<'j, 'a>, Vec<Option<Outcome<'a>>>)
     requires deque { worker_deque owner ≡ W.deque }
     requires tasks { (worker_view owner).tasks ≡ W.tasks }
     requires parts { 1 < (worker_view owner).parts }
@@ -160,12 +160,12 @@ fn taken_over<'a, R: Wait, W: Common>(
 
 /// Takes over from the workers that have left by now, and tells whether those are all. A post whose worker has not come
 /// yet counts as left.
-fn left_so_far<'a, W: Common>(
+fn left_so_far<'j, 'a, W: Common>(
     alloc: Global,
-    mut owner: Owner<'a>,
+    mut owner: Owner<'j, 'a>,
     mut slots: Vec<Option<Outcome<'a>>>,
-    posts: &[Mutex<Post<'a, W>>],
-) -> (Owner<'a>, Vec<Option<Outcome<'a>>>, bool)
+    posts: &[Mutex<Post<'j, 'a, W>>],
+) -> (Owner<'j, 'a>, Vec<Option<Outcome<'a>>>, bool)
     requires deque { worker_deque owner ≡ W.deque }
     requires tasks { (worker_view owner).tasks ≡ W.tasks }
     requires parts { 1 < (worker_view owner).parts }
@@ -187,12 +187,12 @@ fn left_so_far<'a, W: Common>(
 }
 
 /// Takes over what the worker of this post left, and closes the post. A closed one stays as it is.
-fn cleared<'a, W: Common>(
+fn cleared<'j, 'a, W: Common>(
     alloc: Global,
-    mut owner: Owner<'a>,
+    mut owner: Owner<'j, 'a>,
     slots: Vec<Option<Outcome<'a>>>,
-    post: &mut Post<'a, W>,
-) -> (Owner<'a>, Vec<Option<Outcome<'a>>>)
+    post: &mut Post<'j, 'a, W>,
+) -> (Owner<'j, 'a>, Vec<Option<Outcome<'a>>>)
     requires deque { worker_deque owner ≡ W.deque }
     requires tasks { (worker_view owner).tasks ≡ W.tasks }
     requires parts { 1 < (worker_view owner).parts }

@@ -40,8 +40,8 @@ impl Common for Brand {
 /// What a started worker knows of the deque, and its list of outcomes. While the post is open the list has room for
 /// those of all tasks, and for no more; at a closed one no worker begins.
 #[derive(Drop)]
-pub struct Post<'a, W: Common> {
-    pub place: Place<'a>,
+pub struct Post<'j, 'a, W: Common> {
+    pub place: Place<'j, 'a>,
     pub done: Vec<Outcome<'a>>,
     pub is_open: bool,
     pub of: PhantomData<W>,
@@ -53,7 +53,7 @@ pub struct Post<'a, W: Common> {
 }
 
 /// A post for each worker that is to be started. The thread that has its lock works there.
-pub type Posts<'a, W> = Vec<Mutex<Post<'a, W>>>;
+pub type Posts<'j, 'a, W> = Vec<Mutex<Post<'j, 'a, W>>>;
 
 /// A post for each of so many workers, each with a part of the owner's pass and an empty list with room for so many
 /// outcomes.
@@ -61,12 +61,12 @@ pub type Posts<'a, W> = Vec<Mutex<Post<'a, W>>>;
 /// # Errors
 ///
 /// Where the allocator has no memory left for the posts or a list.
-pub fn posts_for<'a, W: Common>(
+pub fn posts_for<'j, 'a, W: Common>(
     alloc: Global,
-    owner: &mut Owner<'a>,
+    owner: &mut Owner<'j, 'a>,
     workers: u32,
     room: usize,
-) -> Result<Posts<'a, W>, AllocError>
+) -> Result<Posts<'j, 'a, W>, AllocError>
     requires workers { workers ≤ 16 }
     requires parts { workers < (worker_view owner.old).parts }
     requires deque { worker_deque owner.old ≡ W.deque }
@@ -86,7 +86,7 @@ pub fn posts_for<'a, W: Common>(
 }
 
 /// A closed post, to be left in the place of one.
-pub fn closed_post<'a, W: Common>(alloc: Global, owner: &mut Owner<'a>) -> Post<'a, W>
+pub fn closed_post<'j, 'a, W: Common>(alloc: Global, owner: &mut Owner<'j, 'a>) -> Post<'j, 'a, W>
     requires parts { 1 < (worker_view owner.old).parts }
     requires deque { worker_deque owner.old ≡ W.deque }
     requires tasks { (worker_view owner.old).tasks ≡ W.tasks }
@@ -99,11 +99,11 @@ pub fn closed_post<'a, W: Common>(alloc: Global, owner: &mut Owner<'a>) -> Post<
 
 /// A post with a part of the owner's pass and a list.
 #[tactic(auto, using(crate::proofs::Keeps::forks))]
-fn post_of<'a, W: Common>(
-    owner: &mut Owner<'a>,
+fn post_of<'j, 'a, W: Common>(
+    owner: &mut Owner<'j, 'a>,
     done: Vec<Outcome<'a>>,
     is_open: bool,
-) -> Post<'a, W>
+) -> Post<'j, 'a, W>
     requires parts { 1 < (worker_view owner.old).parts }
     requires deque { worker_deque owner.old ≡ W.deque }
     requires tasks { (worker_view owner.old).tasks ≡ W.tasks }
@@ -124,11 +124,11 @@ fn post_of<'a, W: Common>(
 }
 
 /// Joins the passes of all posts, and puts their outcomes into their slots.
-pub fn gathered<'a, W: Common>(
-    mut owner: Owner<'a>,
+pub fn gathered<'j, 'a, W: Common>(
+    mut owner: Owner<'j, 'a>,
     mut slots: Vec<Option<Outcome<'a>>>,
-    mut posts: Posts<'a, W>,
-) -> (Owner<'a>, Vec<Option<Outcome<'a>>>)
+    mut posts: Posts<'j, 'a, W>,
+) -> (Owner<'j, 'a>, Vec<Option<Outcome<'a>>>)
     requires deque { worker_deque owner ≡ W.deque }
     requires tasks { (worker_view owner).tasks ≡ W.tasks }
     requires part { 0 < (worker_view owner).parts }
@@ -147,11 +147,11 @@ pub fn gathered<'a, W: Common>(
 }
 
 /// Joins the pass of a post, and puts its outcomes into their slots.
-pub fn joined<'a, W: Common>(
-    owner: Owner<'a>,
+pub fn joined<'j, 'a, W: Common>(
+    owner: Owner<'j, 'a>,
     slots: Vec<Option<Outcome<'a>>>,
-    post: Post<'a, W>,
-) -> (Owner<'a>, Vec<Option<Outcome<'a>>>)
+    post: Post<'j, 'a, W>,
+) -> (Owner<'j, 'a>, Vec<Option<Outcome<'a>>>)
     requires deque { worker_deque owner ≡ W.deque }
     requires tasks { (worker_view owner).tasks ≡ W.tasks }
     requires part { 0 < (worker_view owner).parts }
@@ -168,7 +168,7 @@ pub fn joined<'a, W: Common>(
 
 /// Joins a worker's pass.
 #[tactic(auto, using(crate::proofs::Keeps::merges))]
-pub fn absorbed<'a>(mut owner: Owner<'a>, place: Place<'a>) -> Owner<'a>
+pub fn absorbed<'j, 'a>(mut owner: Owner<'j, 'a>, place: Place<'j, 'a>) -> Owner<'j, 'a>
     requires table { IsPassOf (worker_deque owner) place }
     requires tasks { (view place).tasks ≡ (worker_view owner).tasks }
     requires part { 0 < (worker_view owner).parts }

@@ -1,22 +1,26 @@
 //! The deque of a wave before its start.
-ghost use Rattle.std.specs.Prelude.{◌≡◌, ◌+◌, ◌^◌, ◌<◌, ◌≤◌, ◌++◌, ◌∷◌, [], length, IfOk};
+ghost use Rattle.std.specs.Prelude.{◌≡◌, ◌+◌, ◌^◌, ◌<◌, ◌≤◌, ◌++◌, ◌∷◌, [], length, map, IfOk};
 ghost use Rattle.crossbeam_deque.specs.Handles.{worker_view, worker_index, worker_capacity, worker_flavor, SameWorker};
-ghost use Rattle.dml_pool.specs.Rule.{hand, all_parts};
+ghost use Rattle.dml_pool.specs.Rule.{hand, all_parts, task_of};
+ghost use Rattle.dml_pool.specs.Tasks.{task_with};
 
 use crate::Task;
 use crate::rule::{Numbered, Owner, Pushed};
+use dml_arena::Region;
+use dml_desc::Checked;
 use std::alloc::{AllocError, Global};
 use std::marker::Model;
 
 /// The tasks of a wave that has not started, on the deque that its workers steal from. Each has its place in the wave.
+/// Their jobs stay where they are.
 #[derive(Drop)]
-pub struct Queue<'a> {
-    owner: Owner<'a>,
+pub struct Queue<'j, 'a> {
+    owner: Owner<'j, 'a>,
     count: u32,
     room: u32,
 }
 
-impl<'a> Model for Queue<'a> {
+impl<'j, 'a> Model for Queue<'j, 'a> {
     ghost use Rattle.dml_pool.specs.Queues.{Waiting};
     ghost use Rattle.crossbeam_deque.specs.Handles.{worker_view, worker_index, worker_capacity, worker_flavor};
 
@@ -36,13 +40,13 @@ impl<'a> Model for Queue<'a> {
         × (q.room ≤ worker_capacity q.owner) };
 }
 
-impl<'a> Queue<'a> {
+impl<'j, 'a> Queue<'j, 'a> {
     /// A queue that holds no task and has room for so many.
     ///
     /// # Errors
     ///
     /// Where the allocator has no memory left for it.
-    pub fn new(alloc: Global, room: u32) -> Result<Queue<'a>, AllocError>
+    pub fn new(alloc: Global, room: u32) -> Result<Queue<'j, 'a>, AllocError>
         ensures empty { IfOk result (λ queue. queue.tasks ≡ []) }
         ensures room { IfOk result (λ queue. queue.room ≡ room) }
     {
@@ -54,19 +58,27 @@ impl<'a> Queue<'a> {
         })
     }
 
-    /// A queue of the tasks of a list.
+    /// A queue of the tasks of a list. Their jobs lie in a list of their own.
     ///
     /// # Errors
     ///
     /// Where the allocator has no memory left for it.
-    pub fn of_list(alloc: Global, tasks: Vec<Task<'a>>) -> Result<Queue<'a>, AllocError>
-        requires { length tasks.items ≤ 131072 }
+    pub(crate) fn of_list(
+        alloc: Global,
+        jobs: &'j [Checked],
+        tasks: Vec<Task<'a>>,
+    ) -> Result<Queue<'j, 'a>, AllocError>
+        requires most { length tasks.items ≤ 131072 }
+        requires jobs { jobs.now ≡ map (λ task. task.job) tasks.items }
         ensures tasks { IfOk result (λ queue. queue.tasks ≡ tasks.entry.items) }
         ensures room { IfOk result (λ queue. queue.room ≡ length tasks.entry.items) }
     {
         let mut queue = Queue::new(alloc, tasks.len() as u32)?;
+        let mut place = 0;
         for task in tasks {
-            queue.push(task);
+            let Task { from, to, room, .. } = task;
+            queue.push(&jobs[place], from, to, room);
+            place += 1;
         }
         Ok(queue)
     }
@@ -85,19 +97,28 @@ impl<'a> Queue<'a> {
         self.room
     }
 
-    /// Puts a task behind those that it holds.
-    pub fn push(&mut self, task: Task<'a>)
+    /// Puts the task that has this job, these offsets and this region behind those that it holds.
+    pub fn push(&mut self, job: &'j Checked, from: u32, to: u32, room: Region<'a>)
         requires { length self.old.tasks < self.old.room }
-        ensures tasks { self.new.tasks ≡ self.old.tasks ++ task.entry ∷ [] }
+        ensures tasks { self.new.tasks ≡ self.old.tasks ++ task_with job.now from to room.entry ∷ [] }
         ensures room { self.new.room ≡ self.old.room }
     {
         let number = self.count;
-        push_next(&mut self.owner, Numbered { task, number });
+        push_next(
+            &mut self.owner,
+            Numbered {
+                job,
+                from,
+                to,
+                number,
+                room,
+            },
+        );
         self.count = number + 1;
     }
 
     /// The end of the deque that pushes, with all tasks on it.
-    pub(crate) fn into_owner(self) -> Owner<'a>
+    pub(crate) fn into_owner(self) -> Owner<'j, 'a>
         ensures tasks { worker_view result ≡ hand self.entry.tasks all_parts [] }
         ensures flavor { worker_flavor result ≡ 0 }
     {
@@ -109,12 +130,12 @@ impl<'a> Queue<'a> {
 /// Pushes the next task of a wave. There is room for it.
 #[inline(always)]
 #[tactic(auto, using(crate::proofs::Keeps::pushes))]
-fn push_next<'a>(owner: &mut Owner<'a>, item: Numbered<'a>)
+fn push_next<'j, 'a>(owner: &mut Owner<'j, 'a>, item: Numbered<'j, 'a>)
     requires whole { (worker_view owner.old).parts ≡ all_parts }
     requires next { item.number ≡ length (worker_view owner.old).tasks }
     requires room { worker_index owner.old < worker_capacity owner.old }
     ensures same { SameWorker owner.old owner.new × (worker_index owner.new ≡ worker_index owner.old + 1) }
-    ensures pushed { worker_view owner.new ≡ hand ((worker_view owner.old).tasks ++ item.entry.task ∷ []) all_parts (worker_view owner.old).taken }
+    ensures pushed { worker_view owner.new ≡ hand ((worker_view owner.old).tasks ++ task_of item.entry ∷ []) all_parts (worker_view owner.old).taken }
 {
     match owner.push_as::<Pushed>(item) {
         Ok(()) => {}

@@ -3,14 +3,19 @@
 use crate::Task;
 use crossbeam_deque::protocol::{Join, Outcome, Protocol, Split};
 use crossbeam_deque::{Pass, Stealer, Worker};
+use dml_arena::Region;
+use dml_desc::Checked;
 use std::alloc::Global;
 use std::collections::LinkedList;
 
-/// A task with its place in the wave's list.
+/// A task with its place in the wave's list. Its job stays where it is, so that little is moved on and off the deque.
 #[derive(Drop)]
-pub struct Numbered<'a> {
-    pub task: Task<'a>,
+pub struct Numbered<'j, 'a> {
+    pub job: &'j Checked,
+    pub from: u32,
+    pub to: u32,
     pub number: u32,
+    pub room: Region<'a>,
 }
 
 /// What a pass of the deque knows: the tasks pushed so far, how many parts it has of the right to know the whole, and
@@ -24,7 +29,7 @@ pub struct Hand<'a> {
 /// The rule: each task is in the deque or was taken, once.
 pub struct Wave;
 
-impl<'a> Protocol<Numbered<'a>, Hand<'a>> for Wave {
+impl<'j, 'a> Protocol<Numbered<'j, 'a>, Hand<'a>> for Wave {
     ghost use Rattle.std.specs.Prelude.{[]};
     ghost use Rattle.dml_pool.specs.Rule.{Kept, hand, all_parts};
 
@@ -38,17 +43,17 @@ impl<'a> Protocol<Numbered<'a>, Hand<'a>> for Wave {
 /// A push before the start.
 pub struct Pushed;
 
-impl<'a> Outcome<Numbered<'a>, Hand<'a>> for Pushed {
+impl<'j, 'a> Outcome<Numbered<'j, 'a>, Hand<'a>> for Pushed {
     ghost use Rattle.std.specs.Prelude.{◌≡◌, ◌++◌, map};
-    ghost use Rattle.dml_pool.specs.Rule.{hand};
+    ghost use Rattle.dml_pool.specs.Rule.{hand, task_of};
 
-    ghost then = { λ v items w. w ≡ hand (v.tasks ++ map (λ item. item.task) items) v.parts v.taken };
+    ghost then = { λ v items w. w ≡ hand (v.tasks ++ map task_of items) v.parts v.taken };
 }
 
 /// A steal: one that takes, and one that finds the deque empty.
 pub struct Taken;
 
-impl<'a> Outcome<Numbered<'a>, Hand<'a>> for Taken {
+impl<'j, 'a> Outcome<Numbered<'j, 'a>, Hand<'a>> for Taken {
     ghost use Rattle.dml_pool.specs.Rule.{HasTaken, HasTakenAll};
 
     ghost then = { HasTaken };
@@ -90,10 +95,10 @@ impl<'a> Split<Hand<'a>> for Whole {
 }
 
 /// The end that pushes.
-pub type Owner<'a> = Worker<Numbered<'a>, Global, Hand<'a>, Wave>;
+pub type Owner<'j, 'a> = Worker<Numbered<'j, 'a>, Global, Hand<'a>, Wave>;
 
 /// The end that steals.
-pub type Thief<'a> = Stealer<Numbered<'a>, Global, Hand<'a>, Wave>;
+pub type Thief<'j, 'a> = Stealer<Numbered<'j, 'a>, Global, Hand<'a>, Wave>;
 
 /// What one thread knows of the deque.
-pub type Place<'a> = Pass<Numbered<'a>, Hand<'a>>;
+pub type Place<'j, 'a> = Pass<Numbered<'j, 'a>, Hand<'a>>;

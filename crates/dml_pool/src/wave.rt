@@ -1,5 +1,5 @@
 //! A wave of tasks.
-ghost use Rattle.std.specs.Prelude.{◌≡◌, ◌≤◌, [], length, vec_capacity, IfOk};
+ghost use Rattle.std.specs.Prelude.{◌≡◌, ◌≤◌, [], length, map, vec_capacity, IfOk};
 ghost use Rattle.std.specs.List.{All, range_with_len};
 ghost use Rattle.crossbeam_deque.specs.Handles.{worker_view, worker_deque, stealer_deque, stealer_flavor};
 ghost use Rattle.dml_pool.specs.Rule.{all_parts, hand, tasks_done, AreTaskValues};
@@ -12,6 +12,7 @@ use crate::posts::{Common, gathered, posts_for};
 use crate::rule::{Owner, Part, Thief, Whole};
 use crate::worker::{Desk, fill_slots};
 use crate::{Gate, Outcome, Queue, Task};
+use dml_desc::Checked;
 use dml_image::Image;
 use std::alloc::{AllocError, Global};
 use std::marker::Brand;
@@ -22,7 +23,7 @@ use thiserror::Error;
 /// Why a wave has no outcomes.
 #[derive(Clone, Copy, PartialEq, Eq, Debug, Error)]
 pub enum PoolError {
-    /// The allocator has no memory left for the deque, the slots, the posts or a list of outcomes.
+    /// The allocator has no memory left for the jobs, the deque, the slots, the posts or a list of outcomes.
     #[error("out of memory")]
     Refused,
 }
@@ -60,9 +61,21 @@ pub fn run_wave<'a, R: Threads + Wait + Sync, G: Gate + Sync>(
     ensures values { IfOk result (λ outcomes. AreTaskValues image.now tasks.entry.items outcomes.items) }
 {
     let all = Vec::with_capacity(alloc, tasks.len())?;
-    let queue = Queue::of_list(alloc, tasks)?;
+    let jobs = jobs_of(alloc, &tasks)?;
+    let queue = Queue::of_list(alloc, &jobs, tasks)?;
     let slots = run_wave_into_slots(rt, alloc, image, queue, workers, gate)?;
     Ok(opened(slots, all))
+}
+
+/// The jobs of tasks.
+fn jobs_of(alloc: Global, tasks: &[Task<'_>]) -> Result<Vec<Checked>, AllocError>
+    ensures { IfOk result (λ jobs. jobs.items ≡ map (λ task. task.job) tasks.now) }
+{
+    let mut jobs = Vec::with_capacity(alloc, tasks.len())?;
+    for task in tasks {
+        jobs.push_reserved(task.job);
+    }
+    Ok(jobs)
 }
 
 /// As `run_wave`, but the tasks are on their deque already, and each outcome stays in a slot of its own, so that it
@@ -71,11 +84,11 @@ pub fn run_wave<'a, R: Threads + Wait + Sync, G: Gate + Sync>(
 /// # Errors
 ///
 /// As of `run_wave`.
-pub fn run_wave_into_slots<'a, R: Threads + Wait + Sync, G: Gate + Sync>(
+pub fn run_wave_into_slots<'j, 'a, R: Threads + Wait + Sync, G: Gate + Sync>(
     rt: &R,
     alloc: Global,
     image: &Image,
-    queue: Queue<'a>,
+    queue: Queue<'j, 'a>,
     workers: u32,
     gate: &G,
 ) -> Result<Vec<Option<Outcome<'a>>>, PoolError>
@@ -99,14 +112,14 @@ pub fn run_wave_into_slots<'a, R: Threads + Wait + Sync, G: Gate + Sync>(
 ///
 /// `Refused` where the allocator has no memory left for the posts or a list of outcomes.
 #[tactic(auto, using(crate::proofs::Keeps::forks))]
-fn all_done<'a, R: Threads + Wait + Sync, G: Gate + Sync, W: Common + Send>(
+fn all_done<'j, 'a, R: Threads + Wait + Sync, G: Gate + Sync, W: Common + Send>(
     rt: &R,
     alloc: Global,
     image: &Image,
     gate: &G,
     workers: u32,
-    thief: &Thief<'a>,
-    mut owner: Owner<'a>,
+    thief: &Thief<'j, 'a>,
+    mut owner: Owner<'j, 'a>,
     slots: Vec<Option<Outcome<'a>>>,
 ) -> Result<Vec<Option<Outcome<'a>>>, PoolError>
     requires least_workers { 1 ≤ workers }
@@ -136,12 +149,12 @@ fn all_done<'a, R: Threads + Wait + Sync, G: Gate + Sync, W: Common + Send>(
 
 /// One more look, with all passes joined, finds the deque empty; a task that it held would be carried out here.
 #[tactic(auto, using(crate::proofs::Keeps::forks_whole))]
-fn last_look<'a, R: Wait, G: Gate>(
+fn last_look<'j, 'a, R: Wait, G: Gate>(
     rt: &R,
     image: &Image,
     gate: &G,
-    thief: &Thief<'a>,
-    mut owner: Owner<'a>,
+    thief: &Thief<'j, 'a>,
+    mut owner: Owner<'j, 'a>,
     slots: Vec<Option<Outcome<'a>>>,
 ) -> Vec<Option<Outcome<'a>>>
     requires deque { worker_deque owner ≡ stealer_deque thief.now }

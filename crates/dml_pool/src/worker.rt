@@ -15,20 +15,20 @@ use std::sync::Wait;
 
 /// Where the calling thread steals, what it knows of the deque, and the slots of all tasks, or room for them.
 #[derive(Drop)]
-pub struct Desk<'t, 'a> {
-    pub thief: &'t Thief<'a>,
-    pub place: Place<'a>,
+pub struct Desk<'t, 'j, 'a> {
+    pub thief: &'t Thief<'j, 'a>,
+    pub place: Place<'j, 'a>,
     pub slots: Vec<Option<Outcome<'a>>>,
 }
 
 /// Takes one task after another and carries it out, until none is left; the outcomes join those so far, in a list that
 /// has room for those of all tasks. No memory is taken.
-pub fn work<'a, R: Wait, G: Gate>(
+pub fn work<'j, 'a, R: Wait, G: Gate>(
     rt: &R,
     image: &Image,
     gate: &G,
-    thief: &Thief<'a>,
-    place: &mut Place<'a>,
+    thief: &Thief<'j, 'a>,
+    place: &mut Place<'j, 'a>,
     mut done: Vec<Outcome<'a>>,
 ) -> Vec<Outcome<'a>>
     requires table { IsPassOf (stealer_deque thief.now) place.old }
@@ -51,12 +51,12 @@ pub fn work<'a, R: Wait, G: Gate>(
 
 /// Takes one task after another and carries it out, until none is left; each outcome goes into the slot of its task.
 /// No memory is taken.
-pub fn fill_slots<'a, R: Wait, G: Gate>(
+pub fn fill_slots<'j, 'a, R: Wait, G: Gate>(
     rt: &R,
     image: &Image,
     gate: &G,
-    desk: Desk<'_, 'a>,
-) -> (Place<'a>, Vec<Option<Outcome<'a>>>)
+    desk: Desk<'_, 'j, 'a>,
+) -> (Place<'j, 'a>, Vec<Option<Outcome<'a>>>)
     requires { IsDesk image.now desk }
     ensures done { HasFilled image.now desk.entry result.0 result.1.items }
     ensures all { HasTakenAll (view result.0) }
@@ -75,12 +75,12 @@ pub fn fill_slots<'a, R: Wait, G: Gate>(
 
 /// Takes the next task and carries it out; none where no task is left.
 #[tactic(auto, using(crate::proofs::Keeps::takes, crate::proofs::Works::finds))]
-fn next_outcome<'a, R: Wait, G: Gate>(
+fn next_outcome<'j, 'a, R: Wait, G: Gate>(
     rt: &R,
     image: &Image,
     gate: &G,
-    thief: &Thief<'a>,
-    place: &mut Place<'a>,
+    thief: &Thief<'j, 'a>,
+    place: &mut Place<'j, 'a>,
 ) -> Option<Outcome<'a>>
     requires table { IsPassOf (stealer_deque thief.now) place.old }
     requires flavor { stealer_flavor thief.now ≡ 0 }

@@ -1,8 +1,8 @@
 //! Waves that workers carry out side by side, and what they answer.
-ghost use Rattle.std.specs.Prelude.{◌≡◌, ◌≤◌, length, IfOk};
+ghost use Rattle.std.specs.Prelude.{◌≡◌, ◌≤◌, [], length, IfOk};
 ghost use Rattle.std.specs.List.{All};
 ghost use Rattle.dml_desc.specs.Checked.{operation_of};
-ghost use Rattle.dml_pool.specs.Tasks.{IsRunnable, units, room_for};
+ghost use Rattle.dml_pool.specs.Tasks.{IsRunnable, task_with, units, room_for};
 
 use dml_arena::{Arena, Region};
 use dml_desc::{Checked, check};
@@ -98,15 +98,22 @@ fn room_of(job: &Checked, count: u32) -> u64
     }
 }
 
-/// The task of a chunk, in a region with room for it.
-fn task_of<'a>(rt: &impl Abort, job: Checked, from: u32, to: u32, room: Region<'a>) -> Task<'a>
-    ensures { IsRunnable result }
+/// Wants a chunk of a job, with an empty region that has room for it.
+fn want_chunk(rt: &impl Abort, job: &Checked, from: u32, to: u32, room: &Region<'_>)
+    ensures { IsRunnable (task_with job.now from to room.now) }
 {
     if let Op::NoOp = job.op() {
         panic!(rt; "a no-op has no chunk");
     }
-    assert!(rt; from <= to && to <= units_of(&job));
-    assert!(rt; room.bytes().is_empty() && room_of(&job, to - from) <= u64::from(room.room()));
+    assert!(rt; from <= to && to <= units_of(job));
+    assert!(rt; room.bytes().is_empty() && room_of(job, to - from) <= u64::from(room.room()));
+}
+
+/// The task of a chunk, in a region with room for it.
+fn task_of<'a>(rt: &impl Abort, job: Checked, from: u32, to: u32, room: Region<'a>) -> Task<'a>
+    ensures { IsRunnable result }
+{
+    want_chunk(rt, &job, from, to, &room);
     Task {
         job,
         from,
@@ -362,6 +369,32 @@ fn fills() -> [(Job, u32, u32); 40] {
     [(Job::fill(1, 0, 8), 0, 8); 40]
 }
 
+/// That fill, checked.
+fn accepted_fill(rt: &impl Abort) -> Checked {
+    check(&Job::fill(1, 0, 8), STAGING).expect(rt, "an accepted job")
+}
+
+/// Forty times the same fill of eight bytes on the deque.
+fn queued_fills<'j, 'a>(
+    rt: &impl Abort,
+    alloc: Global,
+    job: &'j Checked,
+    region: Region<'a>,
+) -> Result<Queue<'j, 'a>, AllocError>
+    requires { region.bytes ≡ [] }
+    ensures runnable { IfOk result (λ queue. All IsRunnable queue.tasks) }
+{
+    let mut queue = Queue::new(alloc, 40)?;
+    let mut rest = region;
+    for _ in 0..40_u32 {
+        let (room, behind) = rest.cut(0);
+        want_chunk(rt, job, 0, 8, &room);
+        queue.push(job, 0, 8, room);
+        rest = behind;
+    }
+    Ok(queue)
+}
+
 /// A wave of fills over an image and an arena of its own, dropped again.
 fn made_and_dropped(rt: &impl Abort, alloc: Global) -> Result<(), Fail> {
     let _image = image(alloc)?;
@@ -418,16 +451,18 @@ fn refused_run_wave_of_three(rt: HostRuntime) {
 
 #[test]
 fn set_up_of_queue(rt: HostRuntime) -> Result<(), Fail> {
-    made_and_dropped(&rt, rt.alloc())
+    let _image = image(rt.alloc())?;
+    let _arena = Arena::new(rt.alloc(), 0)?;
+    Ok(())
 }
 
-/// The tasks of a list on the deque, or want of memory.
+/// Tasks on the deque, or want of memory.
 #[test]
 fn refused_queue(rt: HostRuntime) -> Result<(), Fail> {
     let _image = image(rt.alloc())?;
     let mut arena = Arena::new(rt.alloc(), 0)?;
-    let tasks = tasks_of(&rt, rt.alloc(), &fills(), arena.open())?;
-    if let Ok(queue) = Queue::of_list(rt.alloc(), tasks) {
+    let job = accepted_fill(&rt);
+    if let Ok(queue) = queued_fills(&rt, rt.alloc(), &job, arena.open()) {
         assert_eq!(rt; (queue.len(), queue.room()), (40, 40));
     }
     Ok(())
@@ -437,8 +472,8 @@ fn refused_queue(rt: HostRuntime) -> Result<(), Fail> {
 fn set_up_of_run_wave_into_slots(rt: HostRuntime) -> Result<(), Fail> {
     let _image = image(rt.alloc())?;
     let mut arena = Arena::new(rt.alloc(), 0)?;
-    let tasks = tasks_of(&rt, rt.alloc(), &fills(), arena.open())?;
-    let _queue = Queue::of_list(rt.alloc(), tasks)?;
+    let job = accepted_fill(&rt);
+    let _queue = queued_fills(&rt, rt.alloc(), &job, arena.open())?;
     Ok(())
 }
 
@@ -447,8 +482,8 @@ fn set_up_of_run_wave_into_slots(rt: HostRuntime) -> Result<(), Fail> {
 fn refused_run_wave_into_slots(rt: HostRuntime) -> Result<(), Fail> {
     let image = image(rt.alloc())?;
     let mut arena = Arena::new(rt.alloc(), 0)?;
-    let tasks = tasks_of(&rt, rt.alloc(), &fills(), arena.open())?;
-    let queue = Queue::of_list(rt.alloc(), tasks)?;
+    let job = accepted_fill(&rt);
+    let queue = queued_fills(&rt, rt.alloc(), &job, arena.open())?;
     let gate = Meeting::new(&rt, [0; 16]);
     match run_wave_into_slots(&rt, rt.alloc(), &image, queue, 3, &gate) {
         Ok(slots) => {

@@ -11,7 +11,7 @@ use crate::units::{chunk_units, room_for, units};
 use dml_arena::Region;
 use dml_desc::Checked;
 use dml_levels::task_count;
-use dml_pool::{Queue, Task};
+use dml_pool::Queue;
 use std::alloc::{AllocError, Global};
 
 /// The tasks of the jobs at a wave's places, job after job in the wave's order, on the deque of their workers: each job
@@ -20,13 +20,13 @@ use std::alloc::{AllocError, Global};
 /// # Errors
 ///
 /// Where the allocator has no memory left for the deque.
-pub fn cut_tasks<'a>(
+pub fn cut_tasks<'j, 'a>(
     alloc: Global,
-    jobs: &[Checked],
+    jobs: &'j [Checked],
     wave: &[u32],
     chunk: u32,
     room: Region<'a>,
-) -> Result<Queue<'a>, AllocError>
+) -> Result<Queue<'j, 'a>, AllocError>
     requires places { All (λ i. i < length jobs.now) wave.now }
     requires chunk { IsChunk chunk }
     requires empty { room.bytes ≡ [] }
@@ -60,7 +60,12 @@ fn count_tasks(jobs: &[Checked], wave: &[u32], chunk: u32) -> u32
 }
 
 /// Puts the tasks of a job behind those that wait, each with its region of the room, and answers what is left of it.
-fn cut_job<'a>(job: &Checked, chunk: u32, room: Region<'a>, queue: &mut Queue<'a>) -> Region<'a>
+fn cut_job<'j, 'a>(
+    job: &'j Checked,
+    chunk: u32,
+    room: Region<'a>,
+    queue: &mut Queue<'j, 'a>,
+) -> Region<'a>
     requires chunk { IsChunk chunk }
     requires empty { room.bytes ≡ [] }
     requires fits { need job.now ≤ room.room }
@@ -78,12 +83,7 @@ fn cut_job<'a>(job: &Checked, chunk: u32, room: Region<'a>, queue: &mut Queue<'a
     for _ in 0..count {
         let to = units.min(from + step);
         let (front, rest) = room.cut(room_for(op, to - from));
-        queue.push(Task {
-            job: *job,
-            from,
-            to,
-            room: front,
-        });
+        queue.push(job, from, to, front);
         room = rest;
         from = to;
     }

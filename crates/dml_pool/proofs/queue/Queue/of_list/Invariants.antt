@@ -8,5 +8,6 @@ invariant-loop-task l =
       ends : (goal.iterator-loop-task).is_finite l.task-iterator;
       split : l.fn.tasks.items ≡ l.yielded ++ l.task-iterator.rest.items;
       pushed : l.queue.tasks ≡ l.yielded;
+      place : l.place ≡ length l.yielded;
       room : l.queue.room ≡ length l.fn.tasks.items;
     }

@@ -1,8 +1,8 @@
-/* The lists of compares.c by the rules of a wave, as plain C: threads take one task a time from a deque that holds them
-   all before the first one starts; an outcome is a record, which a started thread puts into its own list, and which
-   goes from there into the slot of its task once all threads have left their lists: their ends are not waited for.
-   Pages lie apart, and are compared 16 bytes at a time. A list of one thread is compared page by page, with no task.
-   Memory is kept from list to list. Needs Linux. */
+/* The lists of compares.c by the rules of a wave, as plain C: threads take one task a time from a deque that holds
+   them all before the first one starts, each with its job by reference; an outcome is a record, which a started
+   thread puts into its own list, and which goes from there into the slot of its task once all threads have left their
+   lists: their ends are not waited for. Pages lie apart, and are compared 16 bytes at a time. A list of one thread is
+   compared page by page, with no task. Memory is kept from list to list. Needs Linux. */
 #define _GNU_SOURCE
 #include <emmintrin.h>
 #include <linux/futex.h>
@@ -16,8 +16,12 @@
 enum { CHUNK = 65536, CHUNKS = MEBIBYTE / CHUNK, MOST_TASKS = 64 * CHUNKS, PAIRS = 8, PAGE = 4096, STEP = 128 };
 enum { PAGES = PAIRS * 2 * MEBIBYTE / PAGE, LOOKS = 200 };
 
+struct job {
+    uint64_t source, target, words[5];
+};
+
 struct task {
-    uint64_t source, target, words[7];
+    const struct job *job;
     uint32_t from, to, number;
     void *room[3];
 };
@@ -29,6 +33,7 @@ struct outcome {
 };
 
 static unsigned char *pages[PAGES];
+static struct job list_jobs[MOST_TASKS / CHUNKS];
 static struct task deque[MOST_TASKS];
 static _Alignas(128) atomic_uint front;
 static _Alignas(128) atomic_uint back;
@@ -73,7 +78,7 @@ static int take(struct task *task) {
 
 static struct outcome outcome_of(const struct task *task) {
     return (struct outcome){.task = task->number,
-                            .differs = differs(task->source, task->target, task->from, task->to),
+                            .differs = differs(task->job->source, task->job->target, task->from, task->to),
                             .words = {task->from, task->to},
                             .room = {task->room[0], task->room[1], task->room[2]}};
 }
@@ -108,14 +113,17 @@ static int alone(unsigned jobs) {
     return all;
 }
 
-static void cut(unsigned tasks) {
+static void cut(unsigned jobs) {
     atomic_store(&front, 0);
     atomic_store(&back, 0);
-    for (unsigned t = 0; t < tasks; t++) {
-        uint64_t pair = t / CHUNKS % PAIRS * 2 * (uint64_t)MEBIBYTE;
+    for (unsigned t = 0; t < jobs * CHUNKS; t++) {
+        struct job *job = &list_jobs[t / CHUNKS];
         uint32_t from = t % CHUNKS * CHUNK;
-        deque[t] = (struct task){
-            .source = pair, .target = pair + MEBIBYTE, .from = from, .to = from + CHUNK, .number = t};
+        if (from == 0) {
+            uint64_t pair = t / CHUNKS % PAIRS * 2 * (uint64_t)MEBIBYTE;
+            *job = (struct job){.source = pair, .target = pair + MEBIBYTE};
+        }
+        deque[t] = (struct task){.job = job, .from = from, .to = from + CHUNK, .number = t};
         atomic_store(&back, t + 1);
         slots[t].differs = 1;
     }
@@ -127,7 +135,7 @@ static int list(unsigned jobs, unsigned threads) {
     int all = 0;
     if (threads == 1)
         return alone(jobs);
-    cut(jobs * CHUNKS);
+    cut(jobs);
     atomic_store(&left, threads - 1);
     for (unsigned t = 1; t < threads; t++)
         if (pthread_create(&started, NULL, work, &lists[t - 1]) || pthread_detach(started))

@@ -98,7 +98,7 @@ fn room_of(job: &Checked, count: u32) -> u64
     }
 }
 
-/// Wants a chunk of a job, with an empty region that has room for it.
+/// Stops the test unless this is a chunk of a job, and the region is empty and has room for it.
 fn want_chunk(rt: &impl Abort, job: &Checked, from: u32, to: u32, room: &Region<'_>)
     ensures { IsRunnable (task_with job.now from to room.now) }
 {

@@ -1,10 +1,10 @@
 -- Outcomes put into slots, one for each task, and taken out again.
-use Rattle.std.proofs.Common.{◌≡◌, ◌≢◌, ℕ, suc, ◌+◌, ◌<◌, List, [], ◌∷◌, ◌++◌, map, set, get_or, length, drop, Option, None, Some, IsSome, IsSomeAnd, unwrap_or, refl, sym, ap, ap₂, ◌∙◌, subst, ⊎_elim, arith, length-append, append_assoc}
+use Rattle.std.proofs.Common.{◌≡◌, ◌≢◌, ℕ, suc, ◌+◌, ◌<◌, List, [], ◌∷◌, ◌++◌, map, set, get_or, length, drop, Option, None, Some, IsSome, IsSomeAnd, refl, sym, ap, ap₂, ◌∙◌, subst, ⊎_elim, arith, length-append, append_assoc}
 use Rattle.std.specs.List.{All, AllZip, Contains, range_with_len, slice_get}
 use Rattle.std.proofs.lemmas.Bool.Decides.{nat_tests}
 use Rattle.std.proofs.lemmas.List.{map-append, get_or-map, get_or-set_other, length-map, length-set}
 use Rattle.std.proofs.lemmas.Bool.{cases_eq}
-use Rattle.std.proofs.lemmas.List.Elements.{All-nil, All-cons, All-head, All-tail, All-weaker, All-contains, Contains-append_left, Contains-push}
+use Rattle.std.proofs.lemmas.List.Elements.{All-head, All-tail, All-weaker, All-contains, Contains-append_left, Contains-push}
 use Rattle.std.proofs.lemmas.Grind.{get_or-set_at}
 use Rattle.dml_types.specs.Memory.{Memory}
 use Rattle.dml_pool.specs.declared.tasks.Task.{Task}
@@ -12,7 +12,8 @@ use Rattle.dml_pool.specs.declared.tasks.Outcome.{Outcome}
 use Rattle.dml_pool.specs.Tasks.{IsTaskValue}
 use Rattle.dml_pool.specs.Numbers.{times, once_below}
 use Rattle.dml_pool.specs.Rule.{tasks_done, AreTaskValues, IsDone}
-use Rattle.dml_pool.specs.Slots.{IsSlot, AreFilled, AreSlots}
+use Rattle.std.specs.Global.{Vec as List'}
+use Rattle.dml_pool.specs.Slots.{IsSlot, AreFilled, AreOutcomes, AreSlots, HoldAll, all_held, held}
 use Rattle.dml_pool.proofs.Counts.{times_append}
 use Rattle.dml_pool.proofs.Keeps.{get_longer, get_last}
 
@@ -125,34 +126,17 @@ slots_filled memory tasks count done slots same once each long are =
       values = zipped memory tasks done all.0 order (opened_known done all.0 slots all.1 are) each;
     }
 
-pub all_some : (slots : List (Option Outcome)) (outcomes : List Outcome) → slots ≡ map (λ o. Some o) outcomes → All IsSome slots
-all_some slots outcomes full = subst (λ l. All IsSome l) (sym full) (each outcomes)
-  where
-    each : (xs : List Outcome) → All IsSome (map (λ o. Some o) xs)
-    each [] = All-nil IsSome
-    each (x ∷ xs) = All-cons IsSome (Some x) (map (λ o. Some o) xs) refl (each xs)
+-- what filled slots hold
+some_held : (outcomes : List Outcome) → held (map (λ o. Some o) outcomes) ≡ outcomes
+some_held [] = refl
+some_held (o ∷ outcomes) = ap (λ l. o ∷ l) (some_held outcomes)
 
-pub same_outcomes : (xs ys : List Outcome) → map (λ o. Some o) xs ≡ map (λ o. Some o) ys → xs ≡ ys
-same_outcomes [] [] same = refl
-same_outcomes [] (y ∷ ys) same = absurd (let long = ap length same in omega (arith, long))
-same_outcomes (x ∷ xs) [] same = absurd (let long = ap length same in omega (arith, long))
-same_outcomes (x ∷ xs) (y ∷ ys) same =
-    ap₂ (λ o l. o ∷ l) (ap (λ l. unwrap_or (get_or l 0 None) x) same) (same_outcomes xs ys (ap (drop 1) same))
-
--- what is opened of filled slots
-pub opened_filled : (memory : Memory) (tasks : List Task) (slots : List (Option Outcome)) (all : List Outcome) → AreFilled memory tasks slots
-    → map (λ o. Some o) all ≡ slots → (tasks_done all ≡ range_with_len 0 (length tasks)) × AreTaskValues memory tasks all
-opened_filled memory tasks slots all filled same =
-    let is : filled.outcomes ≡ all = sym (same_outcomes all filled.outcomes (same ∙ filled.full)) in
+pub opened_filled : (memory : Memory) (tasks : List Task) (slots : List (Option Outcome)) → AreFilled memory tasks slots → AreOutcomes memory tasks (held slots)
+opened_filled memory tasks slots filled =
+    let is : filled.outcomes ≡ held slots = sym (ap held filled.full ∙ some_held filled.outcomes) in
     (subst (λ l. tasks_done l ≡ range_with_len 0 (length tasks)) is filled.order, subst (AreTaskValues memory tasks) is filled.values)
 
-pub filled_full : (memory : Memory) (tasks : List Task) (slots : List (Option Outcome)) → AreFilled memory tasks slots → All IsSome slots
-filled_full memory tasks slots filled = all_some slots filled.outcomes filled.full
-
-pub filled_order : (memory : Memory) (tasks : List Task) (slots : List (Option Outcome)) (all : List Outcome) → AreFilled memory tasks slots
-    → map (λ o. Some o) all ≡ slots → tasks_done all ≡ range_with_len 0 (length tasks)
-filled_order memory tasks slots all filled same = (opened_filled memory tasks slots all filled same).0
-
-pub filled_values : (memory : Memory) (tasks : List Task) (slots : List (Option Outcome)) (all : List Outcome) → AreFilled memory tasks slots
-    → map (λ o. Some o) all ≡ slots → AreTaskValues memory tasks all
-filled_values memory tasks slots all filled same = (opened_filled memory tasks slots all filled same).1
+-- the slots of lists that hold all
+pub filled : (memory : Memory) (tasks : List Task) (lists : List (List' (Option Outcome))) (slots : List (Option Outcome)) → HoldAll memory tasks lists
+    → length slots ≡ length tasks → AreSlots (all_held lists) slots → AreFilled memory tasks slots
+filled memory tasks lists slots hold long are = slots_filled memory tasks (length tasks) (all_held lists) slots refl hold.once hold.done long are

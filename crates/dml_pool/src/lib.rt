@@ -16,6 +16,7 @@ mod wave;
 mod worker;
 
 pub use gate::{Free, Gate};
+pub use order::{Outcomes, Slot, empty_slots, in_order};
 pub use queue::Queue;
 pub use tasks::{Outcome, Piece, Task};
-pub use wave::{PoolError, run_wave, run_wave_into_slots};
+pub use wave::{PoolError, run_wave, run_wave_into_lists};

@@ -1,13 +1,11 @@
 //! Where the started workers of a wave stand, and what they leave there.
-ghost use Rattle.std.specs.Prelude.{◌≡◌, ◌+◌, ◌-◌, ◌<◌, ◌≤◌, ◌++◌, [], IsTrue, length, vec_capacity, IfOk};
+ghost use Rattle.std.specs.Prelude.{◌≡◌, ◌+◌, ◌-◌, ◌<◌, ◌≤◌, ◌++◌, [], length, vec_capacity, IfOk};
 ghost use Rattle.crossbeam_deque.specs.Handles.{view, worker_view, worker_deque, IsPassOf};
-ghost use Rattle.std.specs.Coded.{Π_prop};
-ghost use Rattle.dml_pool.specs.Props.{Accounts-prop, IsPassOf-prop, number_set, tasks_set};
+ghost use Rattle.dml_pool.specs.Props.{Accounts-prop, IsPassOf-prop, tasks_set};
 ghost use Rattle.dml_pool.specs.Rule.{hand, Accounts};
-ghost use Rattle.dml_pool.specs.Slots.{HoldTaken};
+ghost use Rattle.dml_pool.specs.Slots.{all_held, held};
 
-use crate::Outcome;
-use crate::order::slots_of;
+use crate::order::Outcomes;
 use crate::rule::{Owner, Part, Place};
 use std::alloc::{AllocError, Global};
 use std::marker::{Brand, PhantomData};
@@ -37,19 +35,19 @@ impl Common for Brand {
     ghost tasks = { [] };
 }
 
-/// What a started worker knows of the deque, and its list of outcomes. While the post is open the list has room for
-/// those of all tasks, and for no more; at a closed one no worker begins.
+/// What a started worker knows of the deque, and its list of outcomes, which has room for those of all tasks, and for no
+/// more.
 #[derive(Drop)]
 pub struct Post<'j, 'a, W: Common> {
     pub place: Place<'j, 'a>,
-    pub done: Vec<Outcome<'a>>,
-    pub is_open: bool,
+    pub done: Outcomes<'a>,
     pub of: PhantomData<W>,
     ghost table: { IsPassOf W.deque place } by { IsPassOf-prop W.deque place },
     ghost known: { (view place).tasks ≡ W.tasks } by { tasks_set _ _ },
     ghost part: { (view place).parts ≡ 1 },
-    ghost room: { IsTrue is_open → vec_capacity done ≡ length W.tasks } by { Π_prop (λ _. number_set _ _) },
-    ghost accounts: { Accounts W.memory (view place) done.items } by { Accounts-prop W.memory (view place) done.items },
+    ghost room: { vec_capacity done ≡ length W.tasks },
+    ghost count: { length done.items ≡ length (view place).taken },
+    ghost accounts: { Accounts W.memory (view place) (held done.items) } by { Accounts-prop W.memory (view place) (held done.items) },
 }
 
 /// A post for each worker that is to be started. The thread that has its lock works there.
@@ -80,36 +78,19 @@ pub fn posts_for<'j, 'a, W: Common>(
     let mut posts = Vec::with_capacity(alloc, workers as usize)?;
     for _ in 0..workers {
         let done = Vec::with_capacity(alloc, room)?;
-        posts.push_reserved(Mutex::new(post_of(owner, done, true)));
+        posts.push_reserved(Mutex::new(post_of(owner, done)));
     }
     Ok(posts)
 }
 
-/// A closed post, to be left in the place of one.
-pub fn closed_post<'j, 'a, W: Common>(alloc: Global, owner: &mut Owner<'j, 'a>) -> Post<'j, 'a, W>
-    requires parts { 1 < (worker_view owner.old).parts }
-    requires deque { worker_deque owner.old ≡ W.deque }
-    requires tasks { (worker_view owner.old).tasks ≡ W.tasks }
-    ensures deque { worker_deque owner.new ≡ worker_deque owner.old }
-    ensures left { worker_view owner.new
-        ≡ hand (worker_view owner.old).tasks ((worker_view owner.old).parts - 1) (worker_view owner.old).taken }
-{
-    post_of(owner, Vec::new(alloc), false)
-}
-
 /// A post with a part of the owner's pass and a list.
-#[tactic(auto, using(crate::proofs::Keeps::forks))]
-fn post_of<'j, 'a, W: Common>(
-    owner: &mut Owner<'j, 'a>,
-    done: Vec<Outcome<'a>>,
-    is_open: bool,
-) -> Post<'j, 'a, W>
+#[tactic(auto, using(crate::proofs::Keeps::forks, crate::proofs::Works::none_held))]
+fn post_of<'j, 'a, W: Common>(owner: &mut Owner<'j, 'a>, done: Outcomes<'a>) -> Post<'j, 'a, W>
     requires parts { 1 < (worker_view owner.old).parts }
     requires deque { worker_deque owner.old ≡ W.deque }
     requires tasks { (worker_view owner.old).tasks ≡ W.tasks }
-    requires room { IsTrue is_open → vec_capacity done ≡ length W.tasks }
+    requires room { vec_capacity done ≡ length W.tasks }
     requires empty { done.items ≡ [] }
-    ensures open { result.is_open ≡ is_open }
     ensures deque { worker_deque owner.new ≡ worker_deque owner.old }
     ensures left { worker_view owner.new
         ≡ hand (worker_view owner.old).tasks ((worker_view owner.old).parts - 1) (worker_view owner.old).taken }
@@ -118,52 +99,57 @@ fn post_of<'j, 'a, W: Common>(
     Post {
         place,
         done,
-        is_open,
         of: PhantomData,
     }
 }
 
-/// Joins the passes of all posts, and puts their outcomes into their slots.
+/// Joins the passes of all posts, and puts their lists behind those so far.
 pub fn gathered<'j, 'a, W: Common>(
     mut owner: Owner<'j, 'a>,
-    mut slots: Vec<Option<Outcome<'a>>>,
+    mut lists: Vec<Outcomes<'a>>,
     mut posts: Posts<'j, 'a, W>,
-) -> (Owner<'j, 'a>, Vec<Option<Outcome<'a>>>)
+) -> (Owner<'j, 'a>, Vec<Outcomes<'a>>)
     requires deque { worker_deque owner ≡ W.deque }
     requires tasks { (worker_view owner).tasks ≡ W.tasks }
     requires part { 0 < (worker_view owner).parts }
-    requires so_far { HoldTaken W.memory (worker_view owner) slots.items }
+    requires so_far { Accounts W.memory (worker_view owner) (all_held lists.items) }
+    requires room { length lists.items + length posts.items ≤ vec_capacity lists }
     ensures deque { worker_deque result.0 ≡ worker_deque owner.entry }
     ensures tasks { (worker_view result.0).tasks ≡ (worker_view owner.entry).tasks }
     ensures parts { (worker_view result.0).parts ≡ (worker_view owner.entry).parts + length posts.entry.items }
-    ensures slots { HoldTaken W.memory (worker_view result.0) result.1.items }
+    ensures lists { Accounts W.memory (worker_view result.0) (all_held result.1.items) }
+    ensures count { length result.1.items ≡ length lists.entry.items + length posts.entry.items }
+    ensures room { vec_capacity result.1 ≡ vec_capacity lists.entry }
 {
     while let Some(post) = posts.pop() {
-        let (whole, filled) = joined(owner, slots, post.into_inner());
+        let (whole, more) = joined(owner, lists, post.into_inner());
         owner = whole;
-        slots = filled;
+        lists = more;
     }
-    (owner, slots)
+    (owner, lists)
 }
 
-/// Joins the pass of a post, and puts its outcomes into their slots.
-pub fn joined<'j, 'a, W: Common>(
+/// Joins the pass of a post, and puts its list behind those so far.
+fn joined<'j, 'a, W: Common>(
     owner: Owner<'j, 'a>,
-    slots: Vec<Option<Outcome<'a>>>,
+    mut lists: Vec<Outcomes<'a>>,
     post: Post<'j, 'a, W>,
-) -> (Owner<'j, 'a>, Vec<Option<Outcome<'a>>>)
+) -> (Owner<'j, 'a>, Vec<Outcomes<'a>>)
     requires deque { worker_deque owner ≡ W.deque }
     requires tasks { (worker_view owner).tasks ≡ W.tasks }
     requires part { 0 < (worker_view owner).parts }
-    requires so_far { HoldTaken W.memory (worker_view owner) slots.items }
+    requires so_far { Accounts W.memory (worker_view owner) (all_held lists.items) }
+    requires room { length lists.items < vec_capacity lists }
     ensures deque { worker_deque result.0 ≡ worker_deque owner.entry }
     ensures tasks { (worker_view result.0).tasks ≡ (worker_view owner.entry).tasks }
     ensures parts { (worker_view result.0).parts ≡ (worker_view owner.entry).parts + 1 }
-    ensures slots { HoldTaken W.memory (worker_view result.0) result.1.items }
+    ensures lists { Accounts W.memory (worker_view result.0) (all_held result.1.items) }
+    ensures count { length result.1.items ≡ length lists.entry.items + 1 }
+    ensures room { vec_capacity result.1 ≡ vec_capacity lists.entry }
 {
     let Post { place, done, .. } = post;
-    let slots = slots_of(slots, done);
-    (absorbed(owner, place), slots)
+    lists.push_reserved(done);
+    (absorbed(owner, place), lists)
 }
 
 /// Joins a worker's pass.

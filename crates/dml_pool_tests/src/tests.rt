@@ -7,7 +7,9 @@ ghost use Rattle.dml_pool.specs.Tasks.{IsRunnable, task_with, units, room_for};
 use dml_arena::{Arena, Region};
 use dml_desc::{Checked, check};
 use dml_image::{Image, ImageError};
-use dml_pool::{Free, Gate, Outcome, Piece, PoolError, Queue, Task, run_wave, run_wave_into_slots};
+use dml_pool::{
+    Free, Gate, Outcome, Piece, PoolError, Queue, Slot, Task, run_wave, run_wave_into_lists,
+};
 use dml_scan::Found;
 use dml_types::{Job, Op};
 use std::alloc::{AllocError, Global};
@@ -469,7 +471,7 @@ fn refused_queue(rt: HostRuntime) -> Result<(), Fail> {
 }
 
 #[test]
-fn set_up_of_run_wave_into_slots(rt: HostRuntime) -> Result<(), Fail> {
+fn set_up_of_run_wave_into_lists(rt: HostRuntime) -> Result<(), Fail> {
     let _image = image(rt.alloc())?;
     let mut arena = Arena::new(rt.alloc(), 0)?;
     let job = accepted_fill(&rt);
@@ -477,20 +479,26 @@ fn set_up_of_run_wave_into_slots(rt: HostRuntime) -> Result<(), Fail> {
     Ok(())
 }
 
-/// Each outcome in the slot of its task, or want of memory with no task begun.
+/// The outcome of each task in some list, or want of memory with no task begun.
 #[test]
-fn refused_run_wave_into_slots(rt: HostRuntime) -> Result<(), Fail> {
+fn refused_run_wave_into_lists(rt: HostRuntime) -> Result<(), Fail> {
     let image = image(rt.alloc())?;
     let mut arena = Arena::new(rt.alloc(), 0)?;
     let job = accepted_fill(&rt);
     let queue = queued_fills(&rt, rt.alloc(), &job, arena.open())?;
     let gate = Meeting::new(&rt, [0; 16]);
-    match run_wave_into_slots(&rt, rt.alloc(), &image, queue, 3, &gate) {
-        Ok(slots) => {
-            assert_eq!(rt; slots.len(), 40);
-            for (task, slot) in (0..40).zip(slots.as_slice()) {
-                assert!(rt; slot.as_ref().is_some_and(|outcome| outcome.task == task));
+    match run_wave_into_lists(&rt, rt.alloc(), &image, queue, 3, &gate) {
+        Ok(lists) => {
+            let (mut count, mut sum) = (0u32, 0u32);
+            for list in lists.as_slice() {
+                for place in list.as_slice() {
+                    if let Some(outcome) = place {
+                        count = count.wrapping_add(1);
+                        sum = sum.wrapping_add(outcome.task);
+                    }
+                }
             }
+            assert_eq!(rt; (lists.len(), count, sum), (3, 40, 780));
             assert_eq!(rt; gate.counts(), (ALL_ENTERED, 0));
         }
         Err(PoolError::Refused) => assert_eq!(rt; gate.counts(), (0, 0)),
@@ -498,10 +506,11 @@ fn refused_run_wave_into_slots(rt: HostRuntime) -> Result<(), Fail> {
     Ok(())
 }
 
-/// What a list of outcomes takes is known: 131,072 tasks with 16 workers ask for 150 MiB.
+/// What a list of outcomes takes is known, and what the slots do: 131,072 tasks with 16 workers ask for 178 MiB.
 #[test]
 fn bytes_of_an_outcome(rt: HostRuntime) {
-    assert_eq!(rt; mem::size_of::<Outcome<'static>>(), 80);
+    assert_eq!(rt; mem::size_of::<Option<Outcome<'static>>>(), 88);
+    assert_eq!(rt; mem::size_of::<Slot<'static, 'static>>(), 16);
 }
 
 #[test]

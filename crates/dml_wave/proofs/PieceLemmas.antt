@@ -1,5 +1,5 @@
 -- The pieces in a job's slots are the values of its chunks, in order.
-use Rattle.std.proofs.Common.{◌≡◌, ◌≢◌, ℕ, ◌+◌, ◌/◌, List, [], ◌∷◌, length, Option, None, Some, refl, sym, ◌∙◌, ap, ap₂, subst, arith}
+use Rattle.std.proofs.Common.{◌≡◌, ◌≢◌, ℕ, ◌+◌, ◌/◌, List, [], ◌∷◌, length, map, Option, None, Some, refl, sym, ◌∙◌, ap, ap₂, subst, arith}
 use Rattle.std.specs.Prelude.{unwrap_or}
 use denote.Param.Members.{Mut, Called}
 use denote.Ref.{MutBor}
@@ -7,6 +7,7 @@ use Rattle.std.specs.List.{AllZip, filter_map, cons_option}
 use Rattle.std.specs.Iterator.{AlwaysYields}
 use Rattle.std.specs.Iterator.Adapters.{filter_map_source, filter_map_callee, filter_map_steps}
 use Rattle.std.specs.declared.iter.FilterMap.{FilterMap}
+use Rattle.std.proofs.lemmas.List.{length-map}
 use Rattle.std.proofs.lemmas.Iterator.{YieldsList}
 use Rattle.std.proofs.lemmas.Iterator.Consumers.{YieldsList-from_shown, YieldsList-from_filter_map}
 use Rattle.dml_types.specs.declared.jobs.Job.{Job}
@@ -192,12 +193,15 @@ applies_in memory job slots is hold =
     (chunks_in memory job hold.0 slot_apply (IsApplied memory) (IsApplyFrom memory job) (λ piece. piece.to) (λ piece. piece.staged) (apply_held memory job is) (apply_value memory job hold.0)
     (λ task piece value. value.chunk.1) (λ task piece value. value.place) (units (operation_of job) job) 0 hold.1 slots hold.2 hold.3)
 
--- slots that are gone over one after another, each piece of a kind taken out
-pub slots_yield : {S A C F : Type 0} (steps : S → Option (MutBor A) → S → Type 0) (rest : S → List A) → ((s t : S) → steps s None t → length (rest s) ≡ 0) → ((s : S) (x : MutBor A) (t : S) → steps s (Some x) t → rest s ≡ x.now ∷ rest t)
-    → (g : Mut F (MutBor A × Unit {0}) (Option C)) (pick : A → Option C) (s : FilterMap S F) (t : S) (slots : List A) → filter_map_source s ≡ t → rest t ≡ slots
-    → ((x : MutBor A) (r : Option C) (q : F) → Called g (filter_map_callee s) (x, tt) r q → (q ≡ filter_map_callee s) × (r ≡ pick x.now))
-    → AlwaysYields (filter_map_steps steps g) (λ piece. piece) s (filter_map pick slots)
-slots_yield {S} {A} {C} {F} steps rest none some g pick s t slots from are picks =
-    (YieldsList-from_filter_map {steps = steps} {v = λ y. y.now} {ys = slots} {s = s} g pick
-    (subst (λ (l : List A). YieldsList steps (λ y. y.now) (filter_map_source s) l) (ap rest from ∙ are)
-    (YieldsList-from_shown steps (λ y. y.now) rest none some (filter_map_source s))) refl picks).runs
+-- slots that are gone over one after another, each piece of a kind taken out of what they refer to
+pub slots_yield : {S A B C F : Type 0} (steps : S → Option (MutBor A) → S → Type 0) (see : A → B) (rest : S → List A)
+    → ((s t : S) → steps s None t → length (rest s) ≡ 0) → ((s : S) (x : MutBor A) (t : S) → steps s (Some x) t → rest s ≡ x.now ∷ rest t)
+    → (g : Mut F (MutBor A × Unit {0}) (Option C)) (pick : B → Option C) (s : FilterMap S F) (t : S) (slots : List A) → filter_map_source s ≡ t → rest t ≡ slots
+    → ((x : MutBor A) (r : Option C) (q : F) → Called g (filter_map_callee s) (x, tt) r q → (q ≡ filter_map_callee s) × (r ≡ pick (see x.now)))
+    → AlwaysYields (filter_map_steps steps g) (λ piece. piece) s (filter_map pick (map see slots))
+slots_yield {S} {A} {B} {C} {F} steps see rest none some g pick s t slots from are picks =
+    let none' : (a b : S) → steps a None b → length (map see (rest a)) ≡ 0 = λ a b h. length-map (rest a) see ∙ none a b h in
+    let some' : (a : S) (x : MutBor A) (b : S) → steps a (Some x) b → map see (rest a) ≡ see x.now ∷ map see (rest b) = λ a x b h. ap (map see) (some a x b h) in
+    (YieldsList-from_filter_map {steps = steps} {v = λ y. see y.now} {ys = map see slots} {s = s} g pick
+    (subst (λ (l : List B). YieldsList steps (λ y. see y.now) (filter_map_source s) l) (ap (λ (u : S). map see (rest u)) from ∙ ap (map see) are)
+    (YieldsList-from_shown steps (λ y. see y.now) (λ (u : S). map see (rest u)) none' some' (filter_map_source s))) refl picks).runs

@@ -1,7 +1,7 @@
 -- The effects of a wave's jobs, found one after another.
-use Rattle.std.proofs.Common.{◌≡◌, ℕ, ◌+◌, ◌<◌, ◌≤◌, Bool, true, false, List, [], ◌∷◌, ◌++◌, length, take, drop, get_or, Option, cond, sym, ◌∙◌, ap, subst, arith}
+use Rattle.std.proofs.Common.{◌≡◌, ℕ, ◌+◌, ◌-◌, ◌<◌, ◌≤◌, Bool, true, false, List, [], ◌∷◌, ◌++◌, length, map, take, drop, get_or, MutBor, Option, cond, sym, ◌∙◌, ap, subst, arith}
 use Rattle.std.specs.List.{AllZip}
-use Rattle.std.proofs.lemmas.List.{append-nil, drop-drop, drop_more, length-drop, take_more}
+use Rattle.std.proofs.lemmas.List.{append-nil, drop-drop, drop-map, drop_more, length-drop, take-map, take_more}
 use Rattle.std.proofs.lemmas.List.Elements.{filter-append}
 use Rattle.dml_types.specs.declared.jobs.Job.{Job}
 use Rattle.dml_types.specs.Memory.{Memory}
@@ -9,8 +9,9 @@ use Rattle.dml_desc.specs.Checked.{operation_of}
 use Rattle.dml_levels.specs.Tasks.{task_count}
 use Rattle.dml_levels.specs.Waves.{job_at}
 use Rattle.dml_pool.specs.declared.tasks.Outcome.{Outcome}
+use Rattle.dml_pool.specs.Slots.{behind}
 use Rattle.dml_wave.specs.declared.effects.JobEffect.{JobEffect}
-use Rattle.dml_wave.specs.Effects.{HoldWave, IsEffectAt}
+use Rattle.dml_wave.specs.Effects.{HoldJob, HoldWave, IsEffectAt}
 use Rattle.dml_wave.specs.Waves.{busy, is_busy}
 
 pub all_zip_push : {A B : Type 0} (R : A → B → Type 0) (xs : List A) (ys : List B) (x : A) (y : B) → AllZip R xs ys → R x y → AllZip R (xs ++ x ∷ []) (ys ++ y ∷ [])
@@ -40,6 +41,18 @@ module _ (memory : Memory) (jobs : List Job) (chunk : ℕ) (wave : List ℕ) (in
   held_behind slots new from to hold is same =
       subst (HoldWave memory jobs chunk (drop (index + 1) wave)) (drop-drop count from slots ∙ (ap (λ n. drop n slots) (sym is) ∙ sym same))
       (next_held (drop from slots) hold).2
+
+  -- what the slots of the next job refer to
+  pub held_next : (slots : List (Option (MutBor (Option Outcome)))) (from to : ℕ) (job : Job) → job ≡ job_at jobs place
+      → HoldWave memory jobs chunk (drop index wave) (drop from (map behind slots)) → to ≡ from + count
+      → HoldJob memory job (map behind (take (to - from) (drop from slots)))
+  held_next slots from to job is hold ends =
+      let long : to - from ≡ count = omega (arith, ends) in
+      let same : take count (drop from (map behind slots)) ≡ map behind (take (to - from) (drop from slots)) =
+      ap (take count) (drop-map behind from slots)
+      ∙ (take-map behind count (drop from slots) ∙ ap (λ n. map behind (take n (drop from slots))) (sym long)) in
+      subst (λ (j : Job). HoldJob memory j (map behind (take (to - from) (drop from slots)))) (sym is)
+      (subst (HoldJob memory (job_at jobs place)) same (next_held (drop from (map behind slots)) hold).1)
 
   -- the places so far
   busy_more : busy jobs (take (index + 1) wave) ≡ busy jobs (take index wave) ++ cond (is_busy (operation_of (job_at jobs place))) (place ∷ []) []

@@ -1,5 +1,6 @@
 -- The values of a wave's tasks, the effects that they are joined to, and their commit.
 use Rattle.std.specs.Prelude.{◌≡◌, ℕ, ◌≤◌, List, [], ◌∷◌, Option, None, Some, IsTrue, length, take, drop, slice_set}
+use Rattle.std.specs.Global.{Vec}
 use Rattle.std.specs.List.{AllZip}
 use Rattle.dml_types.specs.declared.jobs.Job.{Job}
 use Rattle.dml_types.specs.Memory.{Memory, puts_made}
@@ -13,12 +14,13 @@ use Rattle.dml_pool.specs.declared.tasks.Outcome.{Outcome}
 use Rattle.dml_pool.specs.declared.tasks.Piece.{Piece}
 use Rattle.dml_pool.specs.declared.tasks.Piece.TheVariants.{Scan, Create, Apply}
 use Rattle.dml_pool.specs.declared.tasks.Task.{Task}
+use Rattle.dml_pool.specs.Slots.{HoldAll}
 use Rattle.dml_pool.specs.Tasks.{IsTaskValue}
 use Rattle.dml_scan.specs.declared.scans.ScanPiece.{ScanPiece}
 use Rattle.dml_delta.specs.declared.applies.ApplyPiece.{ApplyPiece}
 use Rattle.dml_delta.specs.declared.creates.CreatePiece.{CreatePiece}
 use Rattle.dml_wave.specs.declared.effects.JobEffect.{JobEffect}
-use Rattle.dml_wave.specs.Tasks.{AreJobTasks}
+use Rattle.dml_wave.specs.Tasks.{AreJobTasks, AreWaveTasks}
 
 -- the slot holds the value of the task
 abbrev pub IsValueIn : Memory → Task → Option Outcome → Type 0
@@ -37,6 +39,14 @@ HoldWave memory jobs chunk (i ∷ places) slots =
     (task_count (job_at jobs i) chunk ≤ length slots)
     × HoldJob memory (job_at jobs i) (take (task_count (job_at jobs i) chunk) slots)
     × HoldWave memory jobs chunk places (drop (task_count (job_at jobs i) chunk) slots)
+
+-- lists hold the outcomes of the tasks of the jobs at these places, of which there are so many
+pub record HoldOutcomes (memory : Memory) (jobs : List Job) (chunk : ℕ) (places : List ℕ) (count : ℕ)
+    (lists : List (Vec (Option Outcome))) : Type 0 where
+  pub tasks : List Task
+  pub are : AreWaveTasks jobs chunk places tasks
+  pub all : HoldAll memory tasks lists
+  pub long : count ≡ length tasks
 
 -- a piece, by its kind
 abbrev pub scan_of : Piece → Option ScanPiece

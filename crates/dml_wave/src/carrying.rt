@@ -1,9 +1,10 @@
 //! A wave of jobs, from its tasks to its records.
-ghost use Rattle.std.specs.Prelude.{◌≡◌, ◌<◌, ◌≤◌, [], length, IfOk, OnOk, OnErr};
+ghost use Rattle.std.specs.Prelude.{◌≡◌, ◌<◌, ◌≤◌, [], length, vec_capacity, IfOk, OnOk, OnErr};
 ghost use Rattle.std.specs.List.{All, AllZip};
 ghost use Rattle.dml_types.specs.Limits.{IsValid};
+ghost use Rattle.dml_levels.specs.Tasks.{IsChunk};
 ghost use Rattle.dml_levels.specs.Waves.{IsSmall};
-ghost use Rattle.dml_wave.specs.Effects.{IsEffectAt};
+ghost use Rattle.dml_wave.specs.Effects.{HoldOutcomes, IsEffectAt};
 ghost use Rattle.dml_wave.specs.Waves.{AreApart, HasRun, busy};
 
 use crate::WaveError;
@@ -13,7 +14,7 @@ use crate::effects::{JobEffect, effects_of};
 use dml_arena::{Arena, Region};
 use dml_desc::Checked;
 use dml_image::Image;
-use dml_pool::{Gate, PoolError, run_wave_into_slots};
+use dml_pool::{Gate, Outcomes, PoolError, Slot, empty_slots, in_order, run_wave_into_lists};
 use dml_types::{Record, Settings};
 use std::alloc::{AllocError, Global};
 use std::sync::Wait;
@@ -92,6 +93,40 @@ fn find_effects<'a, R: Threads + Wait + Sync, G: Gate + Sync>(
 {
     let effects = Vec::with_capacity(alloc, wave.len())?;
     let queue = cut_tasks(alloc, jobs, wave, settings.chunk, room)?;
-    let mut slots = run_wave_into_slots(rt, alloc, image, queue, settings.workers, gate)?;
-    Ok(effects_of(image, jobs, wave, settings.chunk, &mut slots, effects))
+    let slots = Vec::with_capacity(alloc, queue.len() as usize)?;
+    let mut lists = run_wave_into_lists(rt, alloc, image, queue, settings.workers, gate)?;
+    Ok(join_lists(
+        image,
+        jobs,
+        wave,
+        settings.chunk,
+        lists.as_mut_slice(),
+        slots,
+        effects,
+    ))
+}
+
+/// The effects of the jobs at a wave's places, whose tasks' outcomes lie in lists. There is room for a slot for each
+/// task, and for the effects.
+fn join_lists<'l, 'a>(
+    image: &Image,
+    jobs: &[Checked],
+    wave: &[u32],
+    chunk: u32,
+    lists: &'l mut [Outcomes<'a>],
+    slots: Vec<Slot<'l, 'a>>,
+    effects: Vec<JobEffect<'a>>,
+) -> Vec<JobEffect<'a>>
+    requires places { All (λ i. i < length jobs.now) wave.now }
+    requires chunk { IsChunk chunk }
+    requires slots { slots.items ≡ [] }
+    requires outcomes { HoldOutcomes image.now jobs.now chunk wave.now (vec_capacity slots) lists.old }
+    requires empty { effects.items ≡ [] }
+    requires room { length wave.now ≤ vec_capacity effects }
+    ensures { AllZip (IsEffectAt image.now jobs.now) (busy jobs.now wave.now) result.items }
+{
+    let mut slots = empty_slots(slots);
+    let row = slots.as_mut_slice();
+    in_order(lists, row);
+    effects_of(image, jobs, wave, chunk, row, effects)
 }

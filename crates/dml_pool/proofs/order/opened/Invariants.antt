@@ -1,4 +1,6 @@
-use Rattle.std.proofs.Common.{◌≡◌, ◌≤◌, ◌++◌, length, map, Some, vec_capacity}
+use Rattle.std.proofs.Common.{◌≡◌, ◌≤◌, ◌++◌, length, map, vec_capacity}
+use Rattle.std.specs.Slice.Iter.{iter_mut_rest}
+use Rattle.dml_pool.specs.Slots.{behind, held}
 use Rattle.dml_pool.proofs.order.opened.Given as goal
 
 abbrev pub invariant-loop-slot : goal.invariant-loop-slot
@@ -6,7 +8,8 @@ invariant-loop-slot l =
     record {
       can : (goal.iterator-loop-slot).can_next l.slot-iterator;
       ends : (goal.iterator-loop-slot).is_finite l.slot-iterator;
-      split : l.fn.slots.items ≡ l.yielded ++ l.slot-iterator.rest.items;
-      opened : map (λ outcome. Some outcome) l.all.items ≡ l.yielded;
-      room : length l.fn.slots.items ≤ vec_capacity l.all;
+      split : l.fn.slots ≡ map (λ slot. slot.now) l.yielded ++ iter_mut_rest l.slot-iterator;
+      opened : l.all.items ≡ held (map behind (map (λ slot. slot.now) l.yielded));
+      few : length l.all.items ≤ length l.yielded;
+      room : length l.fn.slots ≤ vec_capacity l.all;
     }

@@ -1,15 +1,13 @@
 use Rattle.std.proofs.Common.{◌≡◌, ◌-◌, length, vec_capacity}
 use Rattle.crossbeam_deque.specs.Handles.{view, SamePass}
-use Rattle.dml_pool.specs.Rule.{Accounts}
+use Rattle.dml_pool.specs.Crews.{HasWorked}
 use Rattle.dml_pool.proofs.worker.work.Given as goal
 
 abbrev pub invariant-loop-outcome : goal.invariant-loop-outcome
 invariant-loop-outcome g l =
     record {
       same : SamePass l.fn.place l.place;
-      tasks : (view l.place).tasks ≡ (view l.fn.place).tasks;
-      parts : (view l.place).parts ≡ (view l.fn.place).parts;
-      so_far : Accounts l.image (view l.place) l.done.items;
+      worked : HasWorked l.image (view l.fn.place) (view l.place) l.fn.done.items l.done.items;
       room : vec_capacity l.done ≡ vec_capacity l.fn.done;
     }
 

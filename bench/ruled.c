@@ -1,8 +1,8 @@
 /* The lists of compares.c by the rules of a wave, as plain C: threads take one task a time from a deque that holds
-   them all before the first one starts, each with its job by reference; an outcome is a record, which a started
-   thread puts into its own list, and which goes from there into the slot of its task once all threads have left their
-   lists: their ends are not waited for. Pages lie apart, and are compared 16 bytes at a time. A list of one thread is
-   compared page by page, with no task. Memory is kept from list to list. Needs Linux. */
+   them all before the first one starts, each with its job by reference; an outcome is a record, which each thread puts
+   into its own list, and to which the slot of its task refers once all threads have left their lists: their ends are
+   not waited for. Pages lie apart, and are compared 16 bytes at a time. A list of one thread is compared page by page,
+   with no task. Memory is kept from list to list. Needs Linux. */
 #define _GNU_SOURCE
 #include <emmintrin.h>
 #include <linux/futex.h>
@@ -38,11 +38,11 @@ static struct task deque[MOST_TASKS];
 static _Alignas(128) atomic_uint front;
 static _Alignas(128) atomic_uint back;
 static _Alignas(128) atomic_uint left;
-static struct outcome slots[MOST_TASKS];
+static const struct outcome *slots[MOST_TASKS];
 static struct list {
     unsigned count;
     struct outcome outcomes[MOST_TASKS];
-} lists[3];
+} lists[4];
 
 static int page_differs(const unsigned char *a, const unsigned char *b) {
     for (size_t i = 0; i < PAGE; i += STEP) {
@@ -83,13 +83,16 @@ static struct outcome outcome_of(const struct task *task) {
                             .room = {task->room[0], task->room[1], task->room[2]}};
 }
 
-static void *work(void *given) {
-    struct list *mine = given;
+static void fill(struct list *mine) {
     struct task task;
     unsigned count = 0;
     while (take(&task))
         mine->outcomes[count++] = outcome_of(&task);
     mine->count = count;
+}
+
+static void *work(void *given) {
+    fill(given);
     if (atomic_fetch_sub(&left, 1) == 1)
         syscall(SYS_futex, &left, FUTEX_WAKE_PRIVATE, 1, NULL, NULL, 0);
     return NULL;
@@ -125,29 +128,27 @@ static void cut(unsigned jobs) {
         }
         deque[t] = (struct task){.job = job, .from = from, .to = from + CHUNK, .number = t};
         atomic_store(&back, t + 1);
-        slots[t].differs = 1;
+        slots[t] = NULL;
     }
 }
 
 static int list(unsigned jobs, unsigned threads) {
     pthread_t started;
-    struct task task;
     int all = 0;
     if (threads == 1)
         return alone(jobs);
     cut(jobs);
     atomic_store(&left, threads - 1);
     for (unsigned t = 1; t < threads; t++)
-        if (pthread_create(&started, NULL, work, &lists[t - 1]) || pthread_detach(started))
+        if (pthread_create(&started, NULL, work, &lists[t]) || pthread_detach(started))
             exit(1);
-    while (take(&task))
-        slots[task.number] = outcome_of(&task);
+    fill(&lists[0]);
     wait_for_all();
-    for (unsigned t = 1; t < threads; t++)
-        for (unsigned k = 0; k < lists[t - 1].count; k++)
-            slots[lists[t - 1].outcomes[k].task] = lists[t - 1].outcomes[k];
+    for (unsigned t = 0; t < threads; t++)
+        for (unsigned k = 0; k < lists[t].count; k++)
+            slots[lists[t].outcomes[k].task] = &lists[t].outcomes[k];
     for (unsigned t = 0; t < jobs * CHUNKS; t++)
-        all |= slots[t].differs;
+        all |= slots[t]->differs;
     return all;
 }
 

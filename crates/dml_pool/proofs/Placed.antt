@@ -4,7 +4,7 @@ use Rattle.std.specs.Global.{Vec as Outcomes}
 use Rattle.std.specs.Prelude.{unwrap_or, is_some}
 use Rattle.std.specs.List.{All}
 use Rattle.std.proofs.lemmas.List.{append-nil, map-append, length-map, length-replicate, get_or-map, get_or-replicate}
-use Rattle.std.proofs.lemmas.List.Elements.{All-cons, All-head, All-nil, All-tail, filter_map-append}
+use Rattle.std.proofs.lemmas.List.Elements.{All-head, All-tail, filter_map-append}
 use Rattle.std.proofs.lemmas.Grind.{flat_map-append}
 use mathlib.Core.Bool.{true≢false}
 use Rattle.dml_pool.specs.declared.tasks.Outcome.{Outcome}
@@ -88,15 +88,6 @@ held_behind_next slots slot =
     ap (λ l. held (map behind l)) (map-append now slots (slot ∷ []))
     ∙ (ap held (map-append behind (map now slots) (slot.now ∷ []))
     ∙ filter_map-append (λ (p : Place). p) (map behind (map now slots)) (behind slot.now ∷ []))
-
-module _ {X : Type 0} (P : X → Type 0) where
-  pub all_front : (xs ys : List X) → All P (xs ++ ys) → All P xs
-  all_front [] ys all = All-nil P
-  all_front (x ∷ xs) ys all = All-cons P x xs (All-head P x (xs ++ ys) all) (all_front xs ys (All-tail P x (xs ++ ys) all))
-
-  pub all_behind : (xs ys : List X) → All P (xs ++ ys) → All P ys
-  all_behind [] ys all = all
-  all_behind (x ∷ xs) ys all = all_behind xs ys (All-tail P x (xs ++ ys) all)
 
 -- the outcomes of lists, one list after another
 pub all_held_next : (lists : List (MutBor (Outcomes Place))) (list : MutBor (Outcomes Place))

@@ -19,12 +19,12 @@ all_held lists = flat_map (λ list. held list.items) lists
 abbrev pub number_in : Option Outcome → Option ℕ
 number_in place = option_map (λ outcome. outcome.task) place
 
--- what a slot refers to
+-- what a slot refers to; nothing also where that place was emptied
 abbrev pub behind : Option (MutBor (Option Outcome)) → Option Outcome
 behind None = None
 behind (Some place) = place.now
 
--- the slot of task k, once these outcomes were put: empty where none of them is of that task
+-- what the slot of task k refers to, once these outcomes were placed: nothing where none of them is of that task
 abbrev pub IsSlot : List Outcome → ℕ → Option Outcome → Type 0
 IsSlot outcomes k None = times k (tasks_done outcomes) ≡ 0
 IsSlot outcomes k (Some outcome) = (outcome.task ≡ k) × Contains outcomes outcome
@@ -38,7 +38,7 @@ pub record HoldAll (memory : Memory) (tasks : List Task) (lists : List (Vec (Opt
   pub once : (x : ℕ) → times x (tasks_done (all_held lists)) ≡ once_below x (length tasks)
   pub done : All (IsDone memory tasks) (all_held lists)
 
--- each slot is full, with the outcome of its task
+-- each slot refers to the outcome of its task
 pub record AreFilled (memory : Memory) (tasks : List Task) (slots : List (Option Outcome)) : Type 0 where
   pub outcomes : List Outcome
   pub full : slots ≡ map (λ outcome. Some outcome) outcomes

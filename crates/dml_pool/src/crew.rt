@@ -89,13 +89,13 @@ fn lead<'j, 'a, R: Wait, G: Gate, W: Common>(
         done,
     } = desk;
     let done = work(rt, image, gate, thief, &mut place, done);
-    look_after(posts);
+    watch_posts(posts);
     (place, done)
 }
 
-/// Looks for a while, until no worker is at a post. One that has not come yet counts as one that has left: it will find
-/// no task.
-fn look_after<W: Common>(posts: &[Mutex<Post<'_, '_, W>>]) {
+/// Watches the posts for a while, until no worker is at one. A worker that has not come yet counts as one that has left:
+/// it will find no task.
+fn watch_posts<W: Common>(posts: &[Mutex<Post<'_, '_, W>>]) {
     for _ in 0..LOOKS {
         if have_left(posts) {
             return;
@@ -123,10 +123,11 @@ fn work_at<'j, 'a, R: Wait, G: Gate, W: Common>(
 
 /// Whether no worker is at a post.
 fn have_left<W: Common>(posts: &[Mutex<Post<'_, '_, W>>]) -> bool {
+    let mut all = true;
     for post in posts {
         if post.try_lock().is_none() {
-            return false;
+            all = false;
         }
     }
-    true
+    all
 }

@@ -22,12 +22,12 @@ use Rattle.dml_delta.specs.declared.creates.CreatePiece.{CreatePiece}
 use Rattle.dml_wave.specs.declared.effects.JobEffect.{JobEffect}
 use Rattle.dml_wave.specs.Tasks.{AreJobTasks, AreWaveTasks}
 
--- the slot holds the value of the task
+-- what a slot refers to is the value of the task
 abbrev pub IsValueIn : Memory → Task → Option Outcome → Type 0
 IsValueIn memory task None = ⊥
 IsValueIn memory task (Some outcome) = IsTaskValue memory task outcome.piece
 
--- the slots hold the values of a job's tasks, in order, whatever its chunks are
+-- what slots refer to are the values of a job's tasks, in order, whatever its chunks are
 abbrev pub HoldJob : Memory → Job → List (Option Outcome) → Type 0
 HoldJob memory job slots =
     (chunk : ℕ) × (tasks : List Task) × AreJobTasks job chunk tasks × AllZip (IsValueIn memory) tasks slots
@@ -61,7 +61,7 @@ abbrev pub apply_of : Piece → Option ApplyPiece
 apply_of (Apply piece) = Some piece
 apply_of _ = None
 
--- that of the outcome in a slot
+-- that of the outcome that a slot refers to
 abbrev pub slot_scan : Option Outcome → Option ScanPiece
 slot_scan None = None
 slot_scan (Some outcome) = scan_of outcome.piece

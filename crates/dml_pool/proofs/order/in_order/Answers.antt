@@ -6,7 +6,8 @@ use Rattle.std.proofs.lemmas.List.{append-nil, length-map, map-append, nil_from_
 use Rattle.dml_pool.specs.declared.tasks.Outcome.{Outcome}
 use Rattle.dml_pool.specs.Slots.{AreSlots, all_held, behind, held}
 use Rattle.dml_pool.proofs.Orders.{filled}
-use Rattle.dml_pool.proofs.Placed.{all_behind, all_front, all_held_next}
+use Rattle.dml_pool.proofs.Keeps.{all_back, all_front}
+use Rattle.dml_pool.proofs.Placed.{all_held_next}
 use Rattle.dml_pool.proofs.order.in_order.Goals as goal
 
 pub place_list-requires : goal.place_list-requires
@@ -37,7 +38,7 @@ loop-list-preserved c =
           c.loop-list.invariant.split
           ∙ (ap (λ l. map now yielded ++ l) c.in-Some.ensures.steps
           ∙ (sym (append_assoc (map now yielded) (list.now ∷ []) rest) ∙ ap (λ l. l ++ rest) (sym (map-append now yielded (list ∷ [])))));
-      within = all_behind (λ (o : Outcome). o.task < length c.args.slots.now) mine (all_held rest) inside;
+      within = all_back (λ (o : Outcome). o.task < length c.args.slots.now) mine (all_held rest) inside;
       count = c.place_list.ensures.count ∙ c.loop-list.invariant.count;
       slots =
           subst (λ l. AreSlots l (map behind c.place_list.new.slots)) (sym (all_held_next yielded list))

@@ -148,7 +148,7 @@ static int list(unsigned jobs, unsigned threads) {
         for (unsigned k = 0; k < lists[t].count; k++)
             slots[lists[t].outcomes[k].task] = &lists[t].outcomes[k];
     for (unsigned t = 0; t < jobs * CHUNKS; t++)
-        all |= slots[t]->differs;
+        all |= !slots[t] || slots[t]->differs;
     return all;
 }
 

@@ -6,6 +6,7 @@ pub mod CoverLemmas
 pub mod HeightLemmas
 pub mod TouchedLemmas
 pub mod LevelLemmas
+pub mod LinkLemmas
 pub mod TaskLemmas
 pub mod HullLemmas
 pub mod FrameLemmas

@@ -2,7 +2,9 @@ pub mod Cells
 pub mod Fences
 pub mod Hulls
 pub mod Laws
+pub mod Links
 pub mod Pieces
+pub mod Rooms
 pub mod Tasks
 pub mod Touched
 pub mod Waves

@@ -36,13 +36,13 @@ waves jobs levels staging chunk = waves_of (fits_wave jobs staging chunk) levels
 
 -- a wave that is being filled: the sums are those of its jobs, and it fits
 pub record IsFilling (jobs : List Job) (staging chunk : ℕ) (filling : Filling) : Type 0 where
-  pub needs : filling.needs ≡ needs_of jobs filling.list.items
-  pub tasks : filling.tasks ≡ tasks_of jobs chunk filling.list.items
+  pub needs : filling.needs ≡ needs_of jobs filling.room.wave
+  pub tasks : filling.tasks ≡ tasks_of jobs chunk filling.room.wave
   pub within_staging : filling.needs ≤ staging
   pub within_tasks : filling.tasks ≤ most_tasks
 
 -- no job yet
 pub record IsUnfilled (filling : Filling) : Type 0 where
-  pub list : filling.list.items ≡ []
+  pub wave : filling.room.wave ≡ []
   pub needs : filling.needs ≡ 0
   pub tasks : filling.tasks ≡ 0

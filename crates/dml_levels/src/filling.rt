@@ -1,9 +1,10 @@
-ghost use Rattle.std.specs.Prelude.{◌≡◌, ◌⊎◌, ℕ, ◌<◌, All, ◌≤◌, Bool, List, [], ◌∷◌, ◌++◌, IfOk, OnOk, length};
+ghost use Rattle.std.specs.Prelude.{◌≡◌, ◌⊎◌, ℕ, ◌<◌, All, ◌≤◌, Bool, List, [], ◌∷◌, ◌++◌, OnOk, length};
 ghost use Rattle.dml_types.specs.Refusal.{need};
 ghost use Rattle.dml_order.specs.Waves.{cut_behind};
 ghost use Rattle.dml_levels.specs.Tasks.{IsChunk};
 ghost use Rattle.dml_levels.specs.Waves.{IsFilling, IsSmall, IsUnfilled, fits_wave, job_at};
 
+use crate::rooms::Room;
 use crate::tasks::task_count;
 use dml_desc::{Checked, need};
 use std::alloc::{AllocError, Global};
@@ -26,28 +27,30 @@ impl Model for Wave {
     ghost view = { λ wave. wave.list.items };
 }
 
-/// A wave that is being filled, with the staging that its jobs need, and their chunks. Its list serves all waves.
+/// A wave that is being filled, with the staging that its jobs need, and their chunks. Its room serves all waves.
 #[derive(Drop)]
 pub struct Filling {
-    pub list: Vec<u32>,
+    pub room: Room,
     pub needs: u64,
     pub tasks: u64,
 }
 
 impl Filling {
-    /// No job yet, with room for so many.
-    pub fn new(alloc: Global, jobs: usize) -> Result<Filling, AllocError>
-        ensures { IfOk result IsUnfilled }
+    /// No job yet, behind these links.
+    pub fn new(links: Vec<u32>) -> Filling
+        ensures empty { IsUnfilled result }
+        ensures links { result.room.links ≡ links.items }
     {
-        Ok(Filling {
-            list: Vec::with_capacity(alloc, jobs)?,
+        Filling {
+            room: Room::behind(links),
             needs: 0,
             tasks: 0,
-        })
+        }
     }
 
     /// Takes the job at a place. Where it does not fit, the wave goes to the others, and the job begins the next.
     #[tactic(auto, using(crate::proofs::FillingLemmas::small_push))]
+    #[inline(always)]
     pub fn take(
         &mut self,
         alloc: Global,
@@ -62,9 +65,10 @@ impl Filling {
         requires chunk { IsChunk chunk }
         requires filling { IsFilling jobs.now staging chunk self.old }
         ensures cut { OnOk result ((rest : List ℕ) →
-            waves.new.items ++ cut_behind (fits_wave jobs.now staging chunk) self.new.list.items rest
-            ≡ waves.old.items ++ cut_behind (fits_wave jobs.now staging chunk) self.old.list.items (place ∷ rest)) }
+            waves.new.items ++ cut_behind (fits_wave jobs.now staging chunk) self.new.room.wave rest
+            ≡ waves.old.items ++ cut_behind (fits_wave jobs.now staging chunk) self.old.room.wave (place ∷ rest)) }
         ensures filling { OnOk result (IsFilling jobs.now staging chunk self.new) }
+        ensures links { OnOk result (self.new.room.links ≡ self.old.room.links) }
         ensures small { OnOk result (All (IsSmall jobs.now staging chunk) waves.old.items →
             All (IsSmall jobs.now staging chunk) waves.new.items) }
     {
@@ -73,7 +77,7 @@ impl Filling {
         let own_tasks = u64::from(task_count(job, chunk));
         let needs = self.needs + own_needs;
         let tasks = self.tasks + own_tasks;
-        if self.list.is_empty() || needs <= u64::from(staging) && tasks <= MOST_TASKS {
+        if self.room.wave().is_empty() || needs <= u64::from(staging) && tasks <= MOST_TASKS {
             self.needs = needs;
             self.tasks = tasks;
         } else {
@@ -81,19 +85,20 @@ impl Filling {
             self.needs = own_needs;
             self.tasks = own_tasks;
         }
-        self.list.push(place)?;
+        self.room.push(place)?;
         Ok(())
     }
 
     /// Hands over the last wave, unless it has no job, and is empty again.
     pub fn finish(&mut self, alloc: Global, waves: &mut Vec<Wave>) -> Result<(), AllocError>
         ensures cut { OnOk result ((fits : List ℕ → Bool) →
-            waves.new.items ≡ waves.old.items ++ cut_behind fits self.old.list.items []) }
+            waves.new.items ≡ waves.old.items ++ cut_behind fits self.old.room.wave []) }
         ensures pushed { OnOk result ((waves.new.items ≡ waves.old.items) ⊎
-            (waves.new.items ≡ waves.old.items ++ self.old.list.items ∷ [])) }
+            (waves.new.items ≡ waves.old.items ++ self.old.room.wave ∷ [])) }
         ensures empty { OnOk result (IsUnfilled self.new) }
+        ensures links { OnOk result (self.new.room.links ≡ self.old.room.links) }
     {
-        if !self.list.is_empty() {
+        if !self.room.wave().is_empty() {
             self.hand_over(alloc, waves)?;
         }
         self.needs = 0;
@@ -103,12 +108,13 @@ impl Filling {
 
     /// Hands over the wave, in a list with no room to spare.
     fn hand_over(&mut self, alloc: Global, waves: &mut Vec<Wave>) -> Result<(), AllocError>
-        ensures handed { OnOk result (waves.new.items ≡ waves.old.items ++ self.old.list.items ∷ []) }
-        ensures empty { OnOk result (self.new.list.items ≡ []) }
+        ensures handed { OnOk result (waves.new.items ≡ waves.old.items ++ self.old.room.wave ∷ []) }
+        ensures empty { OnOk result (self.new.room.wave ≡ []) }
+        ensures links { OnOk result (self.new.room.links ≡ self.old.room.links) }
     {
-        let list = Vec::from_slice(alloc, self.list.as_slice())?;
+        let list = Vec::from_slice(alloc, self.room.wave())?;
         waves.push(Wave { list })?;
-        self.list.clear();
+        self.room.clear();
         Ok(())
     }
 }

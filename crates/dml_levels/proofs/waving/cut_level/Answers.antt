@@ -18,18 +18,18 @@ loop-place-preserved c =
     elim c.if-from-level.branch [
       | then-from-level+in_ok-take w ↦
           let here = places_here levels c.args.level place below (sym c.from.ensures ∙ w.if-from-level.true) in (
-            ap (λ list. list.items ++ cut_behind fits c.if-from-level.filling.list.items rest) w.waves-is
-                ∙ (ap (λ filling. w.take.new.waves.items ++ cut_behind fits filling.list.items rest) w.filling-is
+            ap (λ list. list.items ++ cut_behind fits c.if-from-level.filling.room.wave rest) w.waves-is
+                ∙ (ap (λ filling. w.take.new.waves.items ++ cut_behind fits filling.room.wave rest) w.filling-is
                 ∙ (w.in_ok-take.ensures.cut rest
-                ∙ (ap (λ places. old.waves.items ++ cut_behind fits old.filling.list.items places) (sym here) ∙ old.invariant.0))),
+                ∙ (ap (λ places. old.waves.items ++ cut_behind fits old.filling.room.wave places) (sym here) ∙ old.invariant.0))),
             subst (IsFilling jobs c.args.staging c.args.chunk) (sym w.filling-is) w.in_ok-take.ensures.filling,
             subst (λ list. All (IsSmall jobs c.args.staging c.args.chunk) list.items) (sym w.waves-is) (w.in_ok-take.ensures.small old.invariant.2),
           )
       | else-from-level w ↦
           let past = places_past levels c.args.level place below (λ same. w.if-from-level.false (c.from.ensures ∙ same)) in (
-            ap (λ list. list.items ++ cut_behind fits c.if-from-level.filling.list.items rest) w.waves-is
-                ∙ (ap (λ filling. old.waves.items ++ cut_behind fits filling.list.items rest) w.filling-is
-                ∙ (ap (λ places. old.waves.items ++ cut_behind fits old.filling.list.items places) (sym past) ∙ old.invariant.0)),
+            ap (λ list. list.items ++ cut_behind fits c.if-from-level.filling.room.wave rest) w.waves-is
+                ∙ (ap (λ filling. old.waves.items ++ cut_behind fits filling.room.wave rest) w.filling-is
+                ∙ (ap (λ places. old.waves.items ++ cut_behind fits old.filling.room.wave places) (sym past) ∙ old.invariant.0)),
             subst (IsFilling jobs c.args.staging c.args.chunk) (sym w.filling-is) old.invariant.1,
             subst (λ list. All (IsSmall jobs c.args.staging c.args.chunk) list.items) (sym w.waves-is) old.invariant.2,
           )
@@ -50,7 +50,7 @@ returns-clause-cut c =
     where_ok c.finish.result _ _
     (λ last.
     last fits
-    ∙ (ap (λ places. old.waves.items ++ cut_behind fits old.filling.list.items places) (sym none) ∙ old.invariant.0))
+    ∙ (ap (λ places. old.waves.items ++ cut_behind fits old.filling.room.wave places) (sym none) ∙ old.invariant.0))
     c.finish.ensures.cut
 
 pub returns-clause-fit : goal.returns-clause-fit

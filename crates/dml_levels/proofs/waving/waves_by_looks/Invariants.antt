@@ -1,7 +1,7 @@
 use Rattle.std.proofs.Common.{◌≡◌, All}
 use Rattle.dml_order.specs.Waves.{higher_waves}
 use Rattle.dml_levels.specs.Waves.{fits_wave, IsSmall, IsUnfilled}
-use Rattle.dml_levels.proofs.waving.find_waves.Given as goal
+use Rattle.dml_levels.proofs.waving.waves_by_looks.Given as goal
 
 abbrev pub invariant-loop-level : goal.invariant-loop-level
 invariant-loop-level l =

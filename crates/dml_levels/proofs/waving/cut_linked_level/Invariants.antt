@@ -1,0 +1,15 @@
+use Rattle.std.proofs.Common.{◌≡◌, ◌-◌, ◌<◌, ◌≤◌, ◌++◌, length, All}
+use Rattle.dml_order.specs.Waves.{cut, cut_behind, level_places, later_places}
+use Rattle.std.specs.Prelude.{slice_index}
+use Rattle.dml_levels.specs.Waves.{fits_wave, IsFilling, IsSmall}
+use Rattle.dml_levels.proofs.waving.cut_linked_level.Given as goal
+
+abbrev pub invariant-loop-place : goal.invariant-loop-place
+invariant-loop-place l =
+    (l.waves.items ++ cut_behind (fits_wave l.jobs l.staging l.chunk) l.filling.room.wave (later_places l.levels l.level l.place (length l.levels - l.place))
+    ≡ l.initial.waves.items ++ cut (fits_wave l.jobs l.staging l.chunk) (level_places l.levels l.level))
+    × IsFilling l.jobs l.staging l.chunk l.filling × All (IsSmall l.jobs l.staging l.chunk) l.waves.items
+    × (l.filling.room.links ≡ l.initial.filling.room.links) × (l.place ≤ length l.levels) × (l.place < length l.levels → slice_index l.levels l.place ≡ l.level)
+
+abbrev pub decreases-loop-place : goal.decreases-loop-place
+decreases-loop-place l = length l.levels - l.place

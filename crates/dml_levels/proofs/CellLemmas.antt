@@ -7,6 +7,7 @@ use Rattle.std.specs.Prelude.{nat_le}
 use Rattle.std.specs.List.Sorted.{IsNonDecreasing}
 use Rattle.dml_types.specs.declared.spans.Span.{Span}
 use Rattle.dml_levels.specs.declared.cells.Cells.{Cells}
+use Rattle.dml_levels.specs.Guides.{IsSought}
 use Rattle.dml_levels.specs.Cells.{cell_of, cells_of, IsCell, IsGreatest, IsRaised}
 
 cell_low : (start : ℕ) (xs : List ℕ) (x : ℕ) → start ≤ x → cell_of (start ∷ xs) x ≡ suc (cell_of xs x)
@@ -45,12 +46,6 @@ cell_lt (s ∷ xs) x (suc k) below before =
     (λ low. omega (arith, rest, cell_high s xs x high, cell_low s xs y low)) (cases_lt y s))
     (λ low. omega (arith, rest, cell_low s xs x low, cell_low s xs y (omega (arith, low, before))))
     (cases_lt x s)
-
--- what is known while the place is sought between first and first + left
-pub record IsSought (starts : List ℕ) (address first left : ℕ) : Type 0 where
-  pub within : first + left ≤ length starts
-  pub low : (k : ℕ) → k < first → get_or starts k 0 ≤ address
-  pub high : (k : ℕ) → first + left ≤ k → k < length starts → address < get_or starts k 0
 
 pub sought_low : (starts : List ℕ) (address first left half next rest : ℕ) → IsNonDecreasing starts → IsSought starts address first left → 0 < half → half ≤ left → get_or starts (first + half - 1) 0 ≤ address → next ≡ first + half → rest ≡ left - half → IsSought starts address next rest
 sought_low starts address first left half next rest sorted known some most low e f = record {

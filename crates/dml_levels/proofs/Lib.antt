@@ -1,4 +1,5 @@
 pub mod CellLemmas
+pub mod GuideLemmas
 pub mod MeetLemmas
 pub mod PlaceLemmas
 pub mod RiseLemmas

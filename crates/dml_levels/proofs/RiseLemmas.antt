@@ -1,7 +1,7 @@
 -- The levels of a list from the heights of its cells.
-use Rattle.std.proofs.Common.{◌≡◌, inl, inr, ℕ, ◌+◌, ◌-◌, ◌<◌, ◌≤◌, Bool, List, [], ◌∷◌, ◌++◌, length, get_or, map, replicate, ap, refl, sym, ◌∙◌, subst, arith, ⊎_elim}
+use Rattle.std.proofs.Common.{◌≡◌, inl, inr, ℕ, ◌+◌, ◌-◌, ◌<◌, ◌≤◌, Bool, List, [], ◌∷◌, ◌++◌, length, get_or, replicate, ap, refl, sym, ◌∙◌, subst, arith, ⊎_elim}
 use Rattle.std.proofs.lemmas.Bool.{cases_lt}
-use Rattle.std.proofs.lemmas.List.{get_or-map, get_or-replicate, length-map, length-replicate}
+use Rattle.std.proofs.lemmas.List.{get_or-replicate, length-replicate}
 use Rattle.std.proofs.Math.ListN.{get_or-eq_default}
 use Rattle.std.proofs.lemmas.List.Elements.{All-map}
 use Rattle.std.specs.Prelude.{All}
@@ -79,10 +79,6 @@ risen_more starts jobs i levels old new level height all below known found above
           (λ cell covers. omega (arith, above, written.inside cell covers)) written.outside;
     }
 
-pub footprint_at : (starts : List ℕ) (jobs : List Job) (footprints : List Footprint) (footprint : Footprint) (i : ℕ) → footprints ≡ map (footprint_of starts) jobs → i < length jobs → footprint ≡ get_or footprints i footprint → footprint ≡ footprint_of starts (get_or jobs i no_op_job)
-footprint_at starts jobs footprints footprint i all below read =
-    read ∙ (ap (λ (list : List Footprint). get_or list i footprint) all ∙ get_or-map (footprint_of starts) jobs i no_op_job footprint below)
-
 -- all cells of a job are among those of the list
 pub reads_within : (starts : List ℕ) (job : Job) (footprint : Footprint) (cells : ℕ) → footprint ≡ footprint_of starts job → cells ≡ length starts + 1 → All (λ cover. cover.end ≤ cells) footprint.reads
 reads_within starts job footprint cells is long =
@@ -96,12 +92,10 @@ level_small : (clash : ℕ → ℕ → Bool) (levels : List ℕ) (i : ℕ) → l
 level_small clash levels i is =
     level_among_le clash levels i i (λ k under. omega (arith, ap (λ (list : List ℕ). get_or list k 0) is, level_le clash i k under))
 
--- the loop over the jobs: the footprint at a place is that of the job there
-pub risen_next : (starts : List ℕ) (jobs : List Job) (footprints : List Footprint) (footprint : Footprint) (i : ℕ) (levels : List ℕ) (old new : Heights) (level height : ℕ) → IsPermutation (all_starts jobs) starts → footprints ≡ map (footprint_of starts) jobs → i < length footprints → footprint ≡ get_or footprints i footprint → AreRisen starts jobs i levels old → IsLevelIn old footprint level → (level ≤ i → height ≡ level + 1) → IsRaised old.touched.items (IsTouched footprint) height new.touched.items → IsRaised old.written.items (IsCovered footprint.writes) height new.written.items → AreRisen starts jobs (i + 1) (levels ++ level ∷ []) new
-risen_next starts jobs footprints footprint i levels old new level height all each below read known found above touched written =
+-- the loop over the jobs
+pub risen_next : (starts : List ℕ) (jobs : List Job) (footprint : Footprint) (i : ℕ) (levels : List ℕ) (old new : Heights) (level height : ℕ) → IsPermutation (all_starts jobs) starts → i < length jobs → footprint ≡ footprint_of starts (get_or jobs i no_op_job) → AreRisen starts jobs i levels old → IsLevelIn old footprint level → (level ≤ i → height ≡ level + 1) → IsRaised old.touched.items (IsTouched footprint) height new.touched.items → IsRaised old.written.items (IsCovered footprint.writes) height new.written.items → AreRisen starts jobs (i + 1) (levels ++ level ∷ []) new
+risen_next starts jobs footprint i levels old new level height all room is known found above touched written =
     let job : Job = get_or jobs i no_op_job in
-    let room : i < length jobs = omega (arith, below, ap length each, length-map jobs (footprint_of starts)) in
-    let is : footprint ≡ footprint_of starts job = footprint_at starts jobs footprints footprint i each room read in
     let own : IsLevelIn old (footprint_of starts job) level = subst (λ (f : Footprint). IsLevelIn old f level) is found in
     risen_more starts jobs i levels old new level height all room known own
     (above (omega (arith, level_is starts jobs i levels old level all room known own, level_small (clash_of jobs) levels i known.levels_so_far)))

@@ -1,5 +1,6 @@
 pub mod Cells
 pub mod Fences
+pub mod Guides
 pub mod Hulls
 pub mod Laws
 pub mod Links

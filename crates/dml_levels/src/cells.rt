@@ -2,7 +2,9 @@ ghost use Rattle.std.specs.Prelude.{◌≡◌, ◌<◌, ◌≤◌, ◌+◌, ◌-
 ghost use Rattle.std.specs.List.Sorted.{IsNonDecreasing, IsPermutation};
 ghost use Rattle.dml_levels.specs.Cells.{IsCell, IsGreatest, IsRaised, all_starts, cell_of, starts_of};
 ghost use Rattle.dml_levels.specs.Cells as word;
+ghost use Rattle.dml_levels.specs.Guides.{IsGuide};
 
+use crate::guides::Guide;
 use crate::ranges::Spans;
 use crate::touching::touches;
 use dml_desc::Checked;
@@ -43,12 +45,12 @@ fn push_starts(starts: &mut Vec<u64>, spans: &Spans) -> Result<(), AllocError>
 }
 
 /// The cell of an address: how many ranges start at it or before.
-fn cell_at(starts: &[u64], address: u64) -> usize
-    requires { IsNonDecreasing starts.now }
+fn cell_at(starts: &[u64], guide: &Guide, address: u64) -> usize
+    requires sorted { IsNonDecreasing starts.now }
+    requires guide { IsGuide starts.now guide.now }
     ensures { result ≡ cell_of starts.now address }
 {
-    let mut first = 0;
-    let mut left = starts.len();
+    let (mut first, mut left) = guide.part(starts, address);
     while left > 0 {
         let half = left - left / 2;
         first += half * usize::from(starts[first + half - 1] <= address);
@@ -60,17 +62,18 @@ fn cell_at(starts: &[u64], address: u64) -> usize
 impl Cells {
     /// Of a range that is not empty.
     #[tactic(auto, using(crate::proofs::CellLemmas::cell_within, crate::proofs::CellLemmas::same_cell))]
-    pub fn of(starts: &[u64], span: &Span) -> Cells
+    pub fn of(starts: &[u64], guide: &Guide, span: &Span) -> Cells
         requires sorted { IsNonDecreasing starts.now }
+        requires guide { IsGuide starts.now guide.now }
         requires within { span.now.start + span.now.len ≤ 2 ^ 64 }
         ensures { result ≡ word.cells_of starts.now span.now }
     {
         let last = span.start + u64::from(span.len.saturating_sub(1));
-        let cell = cell_at(starts, span.start);
+        let cell = cell_at(starts, guide, span.start);
         Cells {
             first: cell,
             end: if cell < starts.len() && starts[cell] <= last {
-                cell_at(starts, last) + 1
+                cell_at(starts, guide, last) + 1
             } else {
                 cell + 1
             },

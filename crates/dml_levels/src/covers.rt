@@ -1,15 +1,16 @@
-ghost use Rattle.std.specs.Prelude.{◌≡◌, ◌≤◌, All, IfOk, false, length, map};
+ghost use Rattle.std.specs.Prelude.{◌≡◌, ◌≤◌, All, false, length};
 ghost use Rattle.std.specs.List.{list_any};
 ghost use Rattle.std.specs.List.Sorted.{IsNonDecreasing};
 ghost use Rattle.dml_types.specs.Job.{is_past};
 ghost use Rattle.dml_levels.specs.Cells.{IsCovered, IsGreatest, IsRaised, cover_of, footprint_of};
+ghost use Rattle.dml_levels.specs.Guides.{IsGuide};
 
 use crate::cells::Cells;
+use crate::guides::Guide;
 use crate::ranges::Spans;
 use crate::touching::touches;
 use arrayvec::ArrayVec;
 use dml_desc::Checked;
-use std::alloc::{AllocError, Global};
 use std::marker::Model;
 
 /// The cells of at most two ranges.
@@ -30,14 +31,15 @@ impl Model for Cover {
 impl Cover {
     /// Of ranges.
     #[tactic(auto, using(crate::proofs::CoverLemmas::not_past))]
-    fn of(starts: &[u64], spans: &Spans) -> Cover
+    fn of(starts: &[u64], guide: &Guide, spans: &Spans) -> Cover
         requires sorted { IsNonDecreasing starts.now }
+        requires guide { IsGuide starts.now guide.now }
         requires within { list_any is_past spans.now ≡ false }
         ensures { result ≡ cover_of starts.now spans.now }
     {
         let mut list = ArrayVec::new();
         for span in spans.list.as_slice() {
-            list.push(Cells::of(starts, span));
+            list.push(Cells::of(starts, guide, span));
         }
         Cover { list }
     }
@@ -74,30 +76,15 @@ pub struct Footprint {
 
 impl Footprint {
     /// Of a job.
-    pub fn of(starts: &[u64], job: &Checked) -> Footprint
-        requires { IsNonDecreasing starts.now }
+    pub fn of(starts: &[u64], guide: &Guide, job: &Checked) -> Footprint
+        requires sorted { IsNonDecreasing starts.now }
+        requires guide { IsGuide starts.now guide.now }
         ensures { result ≡ footprint_of starts.now job.now }
     {
         let touched = touches(job);
         Footprint {
-            reads: Cover::of(starts, &touched.reads),
-            writes: Cover::of(starts, &touched.writes),
+            reads: Cover::of(starts, guide, &touched.reads),
+            writes: Cover::of(starts, guide, &touched.writes),
         }
     }
-}
-
-/// The cells of each job.
-pub fn find_footprints(
-    alloc: Global,
-    starts: &[u64],
-    jobs: &[Checked],
-) -> Result<Vec<Footprint>, AllocError>
-    requires { IsNonDecreasing starts.now }
-    ensures { IfOk result (λ list. list.items ≡ map (footprint_of starts.now) jobs.now) }
-{
-    let mut footprints = Vec::with_capacity(alloc, jobs.len())?;
-    for job in jobs {
-        footprints.push(Footprint::of(starts, job))?;
-    }
-    Ok(footprints)
 }

@@ -1,13 +1,15 @@
 ghost use Rattle.std.specs.Prelude.{◌≡◌, ◌^◌, ◌<◌, ◌≤◌, IfOk, IfSome, length, map};
 ghost use Rattle.dml_types.specs.Conflict.{clash_of, level_over, clash_levels};
 ghost use Rattle.dml_types.specs.Conflict as word;
-ghost use Rattle.std.specs.List.Sorted.{IsPermutation};
-ghost use Rattle.dml_levels.specs.Cells.{all_starts, footprint_of};
+ghost use Rattle.std.specs.List.Sorted.{IsNonDecreasing, IsPermutation};
+ghost use Rattle.dml_levels.specs.Cells.{all_starts};
+ghost use Rattle.dml_levels.specs.Guides.{IsGuide};
 ghost use Rattle.dml_levels.specs.Hulls.{reach_of};
 ghost use Rattle.dml_levels.specs.Touched.{touched_by};
 
 use crate::cells::find_starts;
-use crate::covers::{Footprint, find_footprints};
+use crate::covers::Footprint;
+use crate::guides::Guide;
 use crate::heights::Heights;
 use crate::hulls::Reach;
 use crate::touched::Touches;
@@ -32,8 +34,8 @@ pub(crate) fn find_levels(alloc: Global, jobs: &[Checked]) -> Result<Vec<u32>, A
     }
     if jobs.len() > FEW_JOBS && jobs.len() <= MANY_JOBS {
         let starts = find_starts(alloc, jobs)?;
-        let footprints = find_footprints(alloc, starts.as_slice(), jobs)?;
-        return levels_by_cells(alloc, jobs, starts.as_slice(), footprints.as_slice());
+        let guide = Guide::of(alloc, starts.as_slice())?;
+        return levels_by_cells(alloc, jobs, starts.as_slice(), &guide);
     }
     let reaches = find_reaches(alloc, jobs)?;
     levels_by_pairs(alloc, jobs, reaches.as_slice())
@@ -88,18 +90,20 @@ fn levels_by_cells(
     alloc: Global,
     jobs: &[Checked],
     starts: &[u64],
-    footprints: &[Footprint],
+    guide: &Guide,
 ) -> Result<Vec<u32>, AllocError>
     requires few { length jobs.now < 2 ^ 32 }
     requires starts { IsPermutation (all_starts jobs.now) starts.now }
-    requires footprints { footprints.now ≡ map (footprint_of starts.now) jobs.now }
+    requires sorted { IsNonDecreasing starts.now }
+    requires guide { IsGuide starts.now guide.now }
     ensures { IfOk result (λ list. list.items ≡ word.levels jobs.now) }
 {
     let mut levels = Vec::with_capacity(alloc, jobs.len())?;
     let mut heights = Heights::new(alloc, starts.len() + 1)?;
-    for footprint in footprints {
-        let level = heights.level_of(footprint);
-        heights.raise(footprint, level.saturating_add(1));
+    for job in jobs {
+        let footprint = Footprint::of(starts, guide, job);
+        let level = heights.level_of(&footprint);
+        heights.raise(&footprint, level.saturating_add(1));
         levels.push(level)?;
     }
     Ok(levels)

@@ -8,6 +8,7 @@ mod covers;
 mod errors;
 mod fencing;
 mod filling;
+mod guides;
 mod heights;
 mod hulls;
 mod laws;

@@ -14,11 +14,11 @@ loop-left-preserved c =
     ⊎_elim (λ high.
     let none : added ≡ 0 = c.from.ensures ∙ ap mir.Val.bool_byte (lt-leb (get_or starts (first + half - 1) 0) address high) in
     let next : first + half * added ≡ first + half * 0 = ap (λ n. first + half * n) none in
-    sought_high starts address first left half (first + half * added) (left - half) c.requires c.loop-left.invariant (omega arith) (omega arith) (omega arith) high (omega (arith, next)) (omega arith))
+    sought_high starts address first left half (first + half * added) (left - half) c.requires.sorted c.loop-left.invariant (omega arith) (omega arith) (omega arith) high (omega (arith, next)) (omega arith))
     (λ low.
     let one : added ≡ 1 = c.from.ensures ∙ ap mir.Val.bool_byte (le-leb (get_or starts (first + half - 1) 0) address low) in
     let next : first + half * added ≡ first + half * 1 = ap (λ n. first + half * n) one in
-    sought_low starts address first left half (first + half * added) (left - half) c.requires c.loop-left.invariant (omega arith) (omega arith) low (omega (arith, next)) (omega arith))
+    sought_low starts address first left half (first + half * added) (left - half) c.requires.sorted c.loop-left.invariant (omega arith) (omega arith) low (omega (arith, next)) (omega arith))
     (cases_lt address (get_or starts (first + half - 1) 0))
 
 pub returns : goal.returns

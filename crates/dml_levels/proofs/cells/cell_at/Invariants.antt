@@ -1,4 +1,4 @@
-use Rattle.dml_levels.proofs.CellLemmas.{IsSought}
+use Rattle.dml_levels.specs.Guides.{IsSought}
 use Rattle.dml_levels.proofs.cells.cell_at.Given as goal
 
 abbrev pub invariant-loop-left : goal.invariant-loop-left

@@ -12,7 +12,7 @@ use Rattle.dml_types.specs.Job.{no_op_job}
 use Rattle.dml_types.specs.Conflict.{clash_of, level_over, clash_levels}
 use Rattle.dml_order.proofs.LevelLemmas.{length_levels_of, level_among_le, level_le, levels_of_more}
 use Rattle.dml_levels.specs.declared.cells.Cells.{Cells}
-use Rattle.dml_levels.specs.declared.covers.Footprint.{Footprint}
+use Rattle.dml_levels.specs.Cells.{Footprint}
 use Rattle.dml_levels.specs.declared.heights.Heights.{Heights}
 use Rattle.dml_levels.specs.Cells.{IsCovered, IsLevelIn, IsRaised, IsTouched, all_starts, cells_of, cover_of, footprint_of}
 use Rattle.dml_levels.specs.Touched.{read_spans, written_spans}

@@ -5,7 +5,6 @@ use Rattle.std.specs.List.{flat_map}
 use Rattle.dml_types.specs.declared.jobs.Job.{Job}
 use Rattle.dml_types.specs.declared.spans.Span.{Span}
 use Rattle.dml_levels.specs.declared.cells.Cells.{Cells}
-use Rattle.dml_levels.specs.declared.covers.Footprint.{Footprint}
 use Rattle.dml_levels.specs.declared.heights.Heights.{Heights}
 use Rattle.dml_levels.specs.Touched.{read_spans, written_spans}
 
@@ -28,6 +27,10 @@ abbrev pub cover_of : List ℕ → List Span → List Cells
 cover_of starts spans = map (cells_of starts) spans
 
 -- the cells of what a job reads, and of what it writes
+pub record Footprint : Type 0 where
+  pub reads : List Cells
+  pub writes : List Cells
+
 abbrev pub footprint_of : List ℕ → Job → Footprint
 footprint_of starts job =
     record { reads = cover_of starts (read_spans job); writes = cover_of starts (written_spans job) }

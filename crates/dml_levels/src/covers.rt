@@ -2,15 +2,13 @@ ghost use Rattle.std.specs.Prelude.{◌≡◌, ◌≤◌, All, false, length};
 ghost use Rattle.std.specs.List.{list_any};
 ghost use Rattle.std.specs.List.Sorted.{IsNonDecreasing};
 ghost use Rattle.dml_types.specs.Job.{is_past};
-ghost use Rattle.dml_levels.specs.Cells.{IsCovered, IsGreatest, IsRaised, cover_of, footprint_of};
+ghost use Rattle.dml_levels.specs.Cells.{IsCovered, IsGreatest, IsRaised, cover_of};
 ghost use Rattle.dml_levels.specs.Guides.{IsGuide};
 
 use crate::cells::Cells;
 use crate::guides::Guide;
 use crate::ranges::Spans;
-use crate::touching::touches;
 use arrayvec::ArrayVec;
-use dml_desc::Checked;
 use std::marker::Model;
 
 /// The cells of at most two ranges.
@@ -31,7 +29,7 @@ impl Model for Cover {
 impl Cover {
     /// Of ranges.
     #[tactic(auto, using(crate::proofs::CoverLemmas::not_past))]
-    fn of(starts: &[u64], guide: &Guide, spans: &Spans) -> Cover
+    pub fn of(starts: &[u64], guide: &Guide, spans: &Spans) -> Cover
         requires sorted { IsNonDecreasing starts.now }
         requires guide { IsGuide starts.now guide.now }
         requires within { list_any is_past spans.now ≡ false }
@@ -63,28 +61,6 @@ impl Cover {
     {
         for cells in self.list.as_slice() {
             cells.raise(heights, height);
-        }
-    }
-}
-
-/// The cells of what a job reads, and of what it writes.
-#[derive(Debug, Drop)]
-pub struct Footprint {
-    pub reads: Cover,
-    pub writes: Cover,
-}
-
-impl Footprint {
-    /// Of a job.
-    pub fn of(starts: &[u64], guide: &Guide, job: &Checked) -> Footprint
-        requires sorted { IsNonDecreasing starts.now }
-        requires guide { IsGuide starts.now guide.now }
-        ensures { result ≡ footprint_of starts.now job.now }
-    {
-        let touched = touches(job);
-        Footprint {
-            reads: Cover::of(starts, guide, &touched.reads),
-            writes: Cover::of(starts, guide, &touched.writes),
         }
     }
 }

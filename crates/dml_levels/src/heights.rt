@@ -1,7 +1,7 @@
 ghost use Rattle.std.specs.Prelude.{◌≡◌, ◌≤◌, All, IfOk, length, replicate};
 ghost use Rattle.dml_levels.specs.Cells.{IsCovered, IsLevelIn, IsRaised, IsTouched};
 
-use crate::covers::Footprint;
+use crate::covers::Cover;
 use std::alloc::{AllocError, Global};
 
 /// How high the cells stand: one more than the greatest level of a job so far that touches the cell, and of one that
@@ -25,26 +25,26 @@ impl Heights {
     }
 
     /// The level of a job behind those so far.
-    pub fn level_of(&self, footprint: &Footprint) -> u32
-        requires reads { All (λ cells. cells.end ≤ length self.now.written.items) footprint.now.reads }
-        requires writes { All (λ cells. cells.end ≤ length self.now.touched.items) footprint.now.writes }
-        ensures { IsLevelIn self.now footprint.now result }
+    pub fn level_of(&self, reads: &Cover, writes: &Cover) -> u32
+        requires reads { All (λ cells. cells.end ≤ length self.now.written.items) reads.now }
+        requires writes { All (λ cells. cells.end ≤ length self.now.touched.items) writes.now }
+        ensures { IsLevelIn self.now (record { reads = reads.now; writes = writes.now }) result }
     {
-        let below = footprint.reads.greatest(self.written.as_slice());
-        below.max(footprint.writes.greatest(self.touched.as_slice()))
+        let below = reads.greatest(self.written.as_slice());
+        below.max(writes.greatest(self.touched.as_slice()))
     }
 
     /// Raises the cells of a job to a height.
-    pub fn raise(&mut self, footprint: &Footprint, height: u32)
-        requires reads { All (λ cells. cells.end ≤ length self.old.touched.items) footprint.now.reads }
-        requires writes { All (λ cells. cells.end ≤ length self.old.touched.items) footprint.now.writes }
+    pub fn raise(&mut self, reads: &Cover, writes: &Cover, height: u32)
+        requires reads { All (λ cells. cells.end ≤ length self.old.touched.items) reads.now }
+        requires writes { All (λ cells. cells.end ≤ length self.old.touched.items) writes.now }
         requires long { length self.old.written.items ≡ length self.old.touched.items }
-        ensures touched { IsRaised self.old.touched.items (IsTouched footprint.now) height self.new.touched.items }
-        ensures written { IsRaised self.old.written.items (IsCovered footprint.now.writes) height
+        ensures touched { IsRaised self.old.touched.items (IsTouched (record { reads = reads.now; writes = writes.now })) height self.new.touched.items }
+        ensures written { IsRaised self.old.written.items (IsCovered writes.now) height
             self.new.written.items }
     {
-        footprint.reads.raise(self.touched.as_mut_slice(), height);
-        footprint.writes.raise(self.touched.as_mut_slice(), height);
-        footprint.writes.raise(self.written.as_mut_slice(), height);
+        reads.raise(self.touched.as_mut_slice(), height);
+        writes.raise(self.touched.as_mut_slice(), height);
+        writes.raise(self.written.as_mut_slice(), height);
     }
 }

@@ -8,11 +8,12 @@ ghost use Rattle.dml_levels.specs.Hulls.{reach_of};
 ghost use Rattle.dml_levels.specs.Touched.{touched_by};
 
 use crate::cells::find_starts;
-use crate::covers::Footprint;
+use crate::covers::Cover;
 use crate::guides::Guide;
 use crate::heights::Heights;
 use crate::hulls::Reach;
 use crate::touched::Touches;
+use crate::touching::touches;
 use dml_desc::Checked;
 use std::alloc::{AllocError, Global};
 
@@ -101,9 +102,11 @@ fn levels_by_cells(
     let mut levels = Vec::with_capacity(alloc, jobs.len())?;
     let mut heights = Heights::new(alloc, starts.len() + 1)?;
     for job in jobs {
-        let footprint = Footprint::of(starts, guide, job);
-        let level = heights.level_of(&footprint);
-        heights.raise(&footprint, level.saturating_add(1));
+        let touched = touches(job);
+        let reads = Cover::of(starts, guide, &touched.reads);
+        let writes = Cover::of(starts, guide, &touched.writes);
+        let level = heights.level_of(&reads, &writes);
+        heights.raise(&reads, &writes, level.saturating_add(1));
         levels.push(level)?;
     }
     Ok(levels)

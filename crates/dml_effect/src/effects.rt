@@ -1,16 +1,12 @@
 //! Effects, and their commit.
-ghost use Rattle.std.specs.Prelude.{◌≡◌, ◌+◌, ◌*◌, ◌≤◌, length, IsTrue};
-ghost use Rattle.dml_types.specs.Memory.{IsMemory, puts_made};
-ghost use Rattle.dml_effect.specs.Applies.{block_puts};
+ghost use Rattle.std.specs.Prelude.{◌≡◌, IsTrue};
+ghost use Rattle.dml_types.specs.Memory.{puts_made};
 ghost use Rattle.dml_effect.specs.Effects.{are_present, puts_of};
 
 use dml_arena::Region;
 use dml_image::Image;
-use dml_types::{Record, block_number};
+use dml_types::Record;
 use std::marker::Model;
-
-/// The bytes of an entry.
-const ENTRY: usize = dml_types::ENTRY as usize;
 
 /// What a job does: its completion record, and the bytes that it puts.
 ///
@@ -83,20 +79,7 @@ pub fn commit(image: &mut Image, effect: Effect<'_>) -> Record
             }
         }
         Puts::Pattern { addr, len, pattern } => image.fill(addr, len, pattern),
-        Puts::Entries { target, entries } => put_blocks(image, target, entries.bytes()),
+        Puts::Entries { target, entries } => image.put_blocks(target, entries.bytes()),
     }
     answer
-}
-
-/// Puts the 8 bytes of each entry at the block from `target` on that it numbers, in the order of the entries.
-fn put_blocks(image: &mut Image, target: u64, entries: &[u8])
-    requires present { IsTrue (are_present image.old (block_puts target entries.now)) }
-    ensures image { image.new ≡ puts_made image.old (block_puts target entries.now) }
-{
-    let _pages = image.pages(); // says what every image keeps
-    let count = entries.len() / ENTRY;
-    for i in 0..count {
-        let addr = target + 8 * u64::from(block_number(entries, i));
-        image.write(addr, &entries[ENTRY * i + 2..ENTRY * i + ENTRY]);
-    }
 }

@@ -1,3 +1,4 @@
+pub mod BlockLemmas
 pub mod LentLemmas
 pub mod MoveLemmas
 pub mod PatternLemmas

@@ -65,20 +65,20 @@ whole_after [] k page whole long = whole
 whole_after (old ∷ pages) zero page whole long = (long, whole.1)
 whole_after (old ∷ pages) (suc k) page whole long = (whole.0, whole_after pages k page whole.1 long)
 
-whole_at : (pages : List (Option (List ℕ))) (k : ℕ) (page d : Option (List ℕ)) → AreWhole pages → k < length pages → page ≡ get_or pages k d → length (page_bytes page) ≡ 4096
+pub whole_at : (pages : List (Option (List ℕ))) (k : ℕ) (page d : Option (List ℕ)) → AreWhole pages → k < length pages → page ≡ get_or pages k d → length (page_bytes page) ≡ 4096
 whole_at [] k page d whole below is = absurd (omega arith)
 whole_at (first ∷ pages) zero page d whole below is = ap (λ (p : Option (List ℕ)). length (page_bytes p)) is ∙ whole.0
 whole_at (first ∷ pages) (suc k) page d whole below is = whole_at pages k page d whole.1 (omega arith) is
 
 -- the page of a present byte is one of the table
-page_of_byte : (pages : List (Option (List ℕ))) (address : ℕ) → has (table_memory pages) address ≡ true → address / 4096 < length pages
+pub page_of_byte : (pages : List (Option (List ℕ))) (address : ℕ) → has (table_memory pages) address ≡ true → address / 4096 < length pages
 page_of_byte pages address here =
     ⊎_elim (λ low. low) (λ high.
     let absent : get_or (map is_some pages) (address / 4096) false ≡ false = get_or_past (map is_some pages) (address / 4096) false (omega (arith, length-map pages is_some)) in
     absurd (false≢true (sym absent ∙ here)))
     (cases_lt (address / 4096) (length pages))
 
-set_itself : (pages : List (Option (List ℕ))) (k : ℕ) (page d : Option (List ℕ)) → k < length pages → page ≡ get_or pages k d → set pages k page ≡ pages
+pub set_itself : (pages : List (Option (List ℕ))) (k : ℕ) (page d : Option (List ℕ)) → k < length pages → page ≡ get_or pages k d → set pages k page ≡ pages
 set_itself [] k page d below is = absurd (omega arith)
 set_itself (first ∷ pages) zero page d below is = ap (λ p. p ∷ pages) is
 set_itself (first ∷ pages) (suc k) page d below is = ap (λ rest. first ∷ rest) (set_itself pages k page d (omega arith) is)
@@ -96,16 +96,19 @@ part_read pages now address n bytes page shown whole here at is within =
     ∙ (read_flat pages (address / 4096) (address % 4096) n page page whole below at within
     ∙ ap (λ (p : Option (List ℕ)). take n (drop (address % 4096) (page_bytes p))) is)))
 
+pub page_written : (pages : List (Option (List ℕ))) (now : Memory) (k place address : ℕ) (bytes after new : List ℕ) (page : Option (List ℕ)) → table_memory pages ≡ now → AreWhole pages → k < length pages → page ≡ get_or pages k page → page ≡ Some bytes → 4096 * k + place ≡ address → place + length new ≤ 4096 → after ≡ overwrite bytes place new → table_memory (set pages k (Some after)) ≡ put now address new
+page_written pages now k place address bytes after new page shown whole below at is there within done =
+    let bytes_are : flat_map page_bytes (set pages k (Some after)) ≡ overwrite (flat_map page_bytes pages) address new =
+    write_flat pages k place (Some bytes) (Some after) page new whole below (sym is ∙ at) within done
+    ∙ ap (λ a. overwrite (flat_map page_bytes pages) a new) there in
+    ap₂ (λ (present : List Bool) (items : List ℕ). memory_of present items)
+    (present_itself pages k bytes after page below (sym is ∙ at)) bytes_are
+    ∙ ap (λ (m : Memory). put m address new) shown
+
 pub part_written : (pages : List (Option (List ℕ))) (now : Memory) (address : ℕ) (bytes after new : List ℕ) (page : Option (List ℕ)) → table_memory pages ≡ now → AreWhole pages → has now address ≡ true → page ≡ get_or pages (address / 4096) page → page ≡ Some bytes → address % 4096 + length new ≤ 4096 → after ≡ overwrite bytes (address % 4096) new → table_memory (set pages (address / 4096) (Some after)) ≡ put now address new
 part_written pages now address bytes after new page shown whole here at is within done =
-    let below = page_of_byte pages address (ap (λ (m : Memory). has m address) shown ∙ here) in
-    let place : 4096 * (address / 4096) + address % 4096 ≡ address = omega arith in
-    let bytes_are : flat_map page_bytes (set pages (address / 4096) (Some after)) ≡ overwrite (flat_map page_bytes pages) address new =
-    write_flat pages (address / 4096) (address % 4096) (Some bytes) (Some after) page new whole below (sym is ∙ at) within done
-    ∙ ap (λ a. overwrite (flat_map page_bytes pages) a new) place in
-    ap₂ (λ (present : List Bool) (items : List ℕ). memory_of present items)
-    (present_itself pages (address / 4096) bytes after page below (sym is ∙ at)) bytes_are
-    ∙ ap (λ (m : Memory). put m address new) shown
+    page_written pages now (address / 4096) (address % 4096) address bytes after new page shown whole
+    (page_of_byte pages address (ap (λ (m : Memory). has m address) shown ∙ here)) at is (omega arith) within done
 
 pub part_shown : (pages : List (Option (List ℕ))) (now : Memory) (address m : ℕ) (bytes result : List ℕ) (page : Option (List ℕ)) → table_memory pages ≡ now → AreWhole pages → has now address ≡ true → page ≡ get_or pages (address / 4096) page → page ≡ Some bytes → result ≡ bytes → length bytes ≡ 4096 → address % 4096 + m ≤ 4096 → take (address % 4096 + m - address % 4096) (drop (address % 4096) result) ≡ bytes_at now address (length (take (address % 4096 + m - address % 4096) (drop (address % 4096) result)))
 part_shown pages now address m bytes result page shown whole here at is same full within =
@@ -117,7 +120,7 @@ part_shown pages now address m bytes result page shown whole here at is same ful
     ∙ (part_read pages now address m bytes page shown whole here at is within
     ∙ ap (λ n. take n (drop address now.bytes)) (omega (arith, size))))
 
-set_twice : (pages : List (Option (List ℕ))) (k : ℕ) (first second : Option (List ℕ)) → set (set pages k first) k second ≡ set pages k second
+pub set_twice : (pages : List (Option (List ℕ))) (k : ℕ) (first second : Option (List ℕ)) → set (set pages k first) k second ≡ set pages k second
 set_twice [] k first second = refl
 set_twice (page ∷ pages) zero first second = refl
 set_twice (page ∷ pages) (suc k) first second = ap (λ rest. page ∷ rest) (set_twice pages k first second)

@@ -1,3 +1,4 @@
+pub mod Blocks
 pub mod Brought
 pub mod Copied
 pub mod Kept

@@ -1,6 +1,7 @@
 ghost use Rattle.std.specs.Prelude.{◌≡◌, ◌≢◌, ◌+◌, ◌-◌, ◌%◌, ◌^◌, ◌<◌, ◌≤◌, min, ◌↔◌, ◌⊎◌, false, length, IfOk, OnErr, OnOk, IsErr, IsOk, IsSome, IsTrue, MatchOption, if◌then◌else◌};
-ghost use Rattle.dml_types.specs.Memory.{IsMemory, has, has_all, byte_at, bytes_at, present_bytes, present_toward, put};
+ghost use Rattle.dml_types.specs.Memory.{IsMemory, has, has_all, byte_at, bytes_at, present_bytes, present_toward, put, puts_made};
 ghost use Rattle.dml_types.specs.Bytewise.{pattern_bytes};
+ghost use Rattle.dml_image.specs.Blocks.{are_present, block_puts};
 ghost use Rattle.dml_image.specs.Brought.{all_absent, brought, has_page};
 ghost use Rattle.dml_image.specs.Kept.{kept_by, lent_memory};
 
@@ -64,6 +65,17 @@ impl Pages<'_> {
         match self {
             Pages::Own(table) => table.fill(addr, len as usize, pattern),
             Pages::Lent(lent) => lent.fill(addr, len, pattern),
+        }
+    }
+
+    fn put_blocks(&mut self, target: u64, entries: &[u8])
+        requires memory { IsMemory (kept_by self.old) }
+        requires present { IsTrue (are_present (kept_by self.old) (block_puts target entries.now)) }
+        ensures { kept_by self.new ≡ puts_made (kept_by self.old) (block_puts target entries.now) }
+    {
+        match self {
+            Pages::Own(table) => table.put_blocks(target, entries),
+            Pages::Lent(lent) => lent.put_blocks(target, entries),
         }
     }
 }
@@ -228,6 +240,16 @@ impl Image<'_> {
         ensures memory { IsMemory self.new }
     {
         self.pages.fill(addr, len, pattern);
+    }
+
+    /// Puts the 8 bytes of each whole entry of a delta record at the block from `target` on that it numbers, in the order
+    /// of the entries.
+    pub fn put_blocks(&mut self, target: u64, entries: &[u8])
+        requires { IsTrue (are_present self.old (block_puts target entries.now)) }
+        ensures bytes { self.new ≡ puts_made self.old (block_puts target entries.now) }
+        ensures memory { IsMemory self.new }
+    {
+        self.pages.put_blocks(target, entries);
     }
 
     /// Copies `len` bytes from the address `source` on to those from `target` on. The two may overlap; the target then

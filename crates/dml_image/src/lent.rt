@@ -1,11 +1,13 @@
 ghost use Rattle.std.specs.Prelude.{◌≡◌, ◌≢◌, ◌+◌, ◌-◌, ◌%◌, ◌<◌, ◌≤◌, false, Some, min, length, IsErr, IsOk, IsSome, IsTrue, OnErr, OnOk};
-ghost use Rattle.dml_types.specs.Memory.{IsMemory, has, has_all, bytes_at, put};
+ghost use Rattle.dml_types.specs.Memory.{IsMemory, has, has_all, bytes_at, put, puts_made};
 ghost use Rattle.dml_types.specs.Bytewise.{pattern_bytes};
+ghost use Rattle.dml_image.specs.Blocks.{are_present, block_puts};
 ghost use Rattle.dml_image.specs.Copied.{IsOneCopy};
 ghost use Rattle.dml_image.specs.Kept.{lent_memory};
 ghost use Rattle.dml_image.specs.Brought.{brought, has_page};
 
 use crate::PAGE_SIZE;
+use crate::blocks::put_inside;
 use crate::images::{Image, Pages};
 use crate::slices::{copy_at, fill_at, write_at};
 use std::alloc::AllocError;
@@ -137,6 +139,18 @@ impl<'a> Lent<'a> {
             return; // no byte there is present, so the range is empty
         }
         fill_at(self.content, place, len as usize, pattern);
+    }
+
+    /// Puts the blocks of all whole entries of a delta record.
+    pub(crate) fn put_blocks(&mut self, target: u64, entries: &[u8])
+        requires memory { IsMemory (lent_memory self.old) }
+        requires present { IsTrue (are_present (lent_memory self.old) (block_puts target entries.now)) }
+        ensures { lent_memory self.new ≡ puts_made (lent_memory self.old) (block_puts target entries.now) }
+    {
+        if target > self.content.len() as u64 {
+            return; // no byte there is present, so there is no entry
+        }
+        put_inside(self.content, 0, target, entries, 0);
     }
 
     /// Copies `len` bytes from one address on to another. Ranges that overlap are short.

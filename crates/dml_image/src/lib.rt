@@ -4,6 +4,7 @@
 //! of absent pages as 0.
 #![tactic(auto)]
 
+mod blocks;
 mod errors;
 mod images;
 mod lent;

@@ -1,8 +1,10 @@
-ghost use Rattle.std.specs.Prelude.{◌≡◌, ◌+◌, ◌≤◌, length, slice_range, IfOk};
+ghost use Rattle.std.specs.Prelude.{◌≡◌, ◌+◌, ◌-◌, ◌/◌, ◌≤◌, length, slice_range, IfOk};
 ghost use Rattle.dml_types.specs.Memory.{overwrite};
 ghost use Rattle.dml_types.specs.Bytewise.{pattern_bytes};
+ghost use Rattle.dml_image.specs.Blocks.{after_puts, block_puts_from, AreInside};
 ghost use Rattle.dml_image.specs.Copied.{IsOneCopy};
 
+use crate::blocks::put_inside;
 use crate::slices::{copy_at, fill_at, write_at};
 use std::alloc::{AllocError, Global};
 use std::marker::Model;
@@ -68,5 +70,19 @@ impl Page {
         ensures length { length self.new ≡ 4096 }
     {
         fill_at(self.bytes.as_mut_slice(), place, len, pattern);
+    }
+
+    /// Puts blocks from entry `first` on into the page, which begins at the address `begin`, and stops before the first
+    /// one that is not all in it. Returns how many entries there are up to there.
+    pub fn put_blocks(&mut self, begin: u64, target: u64, entries: &[u8], first: usize) -> usize
+        requires target { target ≤ 16777216 }
+        requires first { first ≤ length entries.now / 10 }
+        ensures within { (first ≤ result) × (result ≤ length entries.now / 10) }
+        ensures inside { AreInside begin 4096 (block_puts_from target entries.now first (result - first)) }
+        ensures bytes { self.new ≡ after_puts begin self.old
+            (block_puts_from target entries.now first (result - first)) }
+        ensures length { length self.new ≡ 4096 }
+    {
+        put_inside(self.bytes.as_mut_slice(), begin, target, entries, first)
     }
 }

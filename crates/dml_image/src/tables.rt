@@ -1,6 +1,7 @@
-ghost use Rattle.std.specs.Prelude.{◌≡◌, ◌+◌, ◌-◌, ◌%◌, ◌<◌, ◌≤◌, None, min, length, IfOk, OnErr, OnOk, IsOk, IsTrue};
-ghost use Rattle.dml_types.specs.Memory.{has, bytes_at, put};
+ghost use Rattle.std.specs.Prelude.{◌≡◌, ◌+◌, ◌-◌, ◌/◌, ◌%◌, ◌<◌, ◌≤◌, None, min, length, IfOk, OnErr, OnOk, IsOk, IsTrue};
+ghost use Rattle.dml_types.specs.Memory.{has, bytes_at, put, puts_made};
 ghost use Rattle.dml_types.specs.Bytewise.{pattern_bytes};
+ghost use Rattle.dml_image.specs.Blocks.{block_puts_from};
 ghost use Rattle.dml_image.specs.Brought.{all_absent, brought, has_page};
 ghost use Rattle.dml_image.specs.Copied.{IsOneCopy};
 
@@ -112,6 +113,22 @@ impl Table {
         let place = addr as usize;
         match &mut self.pages[place / PAGE_SIZE] {
             Some(page) => page.fill(place % PAGE_SIZE, len, pattern),
+            None => unreachable!(),
+        }
+    }
+
+    /// Puts blocks from entry `first` on into the page of an address, and stops before the first one that is not all in
+    /// it. Returns how many entries there are up to there.
+    pub fn put_in_page(&mut self, addr: u64, target: u64, entries: &[u8], first: usize) -> usize
+        requires present { IsTrue (has self.old addr) }
+        requires target { target ≤ 16777216 }
+        requires first { first ≤ length entries.now / 10 }
+        ensures within { (first ≤ result) × (result ≤ length entries.now / 10) }
+        ensures made { self.new ≡ puts_made self.old (block_puts_from target entries.now first (result - first)) }
+    {
+        let page = addr as usize / PAGE_SIZE;
+        match &mut self.pages[page] {
+            Some(bytes) => bytes.put_blocks((PAGE_SIZE * page) as u64, target, entries, first),
             None => unreachable!(),
         }
     }

@@ -12,7 +12,7 @@ use Rattle.dml_types.specs.Effect.{Fault, read_fault, write_fault}
 use Rattle.dml_types.specs.Delta.{block_number, entry_fault, first_absent, good_entries, has_block, entry_offset}
 use Rattle.dml_types.specs.declared.statuses.Status.TheVariants.{NotRising, OffsetRange}
 use Rattle.dml_types.specs.Chunk.{apply_first}
-use Rattle.dml_delta.specs.Record.{allowed_in, is_allowed, least_in}
+use Rattle.dml_delta.specs.Record.{allowed_in, is_allowed, is_block, least_in}
 use Rattle.std.specs.Int.{from_le_bytes, w16}
 use Rattle.std.specs.Prelude.{slice_range}
 use Rattle.dml_types.proofs.FirstLemmas.{first_is, first_le, fails_before, passes_at}
@@ -258,10 +258,30 @@ block_in_page memory address aligned =
         let page : (address + i) / 4096 ≡ address / 4096 = omega arith in
         ap (λ (p : ℕ). get_or memory.present p false) page
 
-pub allowed_by : (memory : Memory) (job : Job) (least offset : ℕ) → least ≤ offset → offset < job.size / 8 → job.target % 8 ≡ 0 → has memory (job.target + 8 * offset) ≡ is_allowed memory job least offset
-allowed_by memory job least offset low high aligned =
-    block_in_page memory (job.target + 8 * offset) (omega arith)
-    ∙ sym (ap₂ (λ (a b : Bool). a && (b && has_block memory job.target offset)) (le-leb least offset low) (lt-ltb offset (job.size / 8) high))
+pub allowed_by : (memory : Memory) (job : Job) (least offset : ℕ) → least ≤ offset → is_block memory job offset ≡ true → is_allowed memory job least offset ≡ true
+allowed_by memory job least offset low here = ap₂ (λ (a b : Bool). a && b) (le-leb least offset low) here
+
+pub refused_below : (memory : Memory) (job : Job) (least offset : ℕ) → offset < least → is_allowed memory job least offset ≡ false
+refused_below memory job least offset low = and_left (nat_le least offset) (is_block memory job offset) (lt-leb least offset low)
+
+pub refused_by : (memory : Memory) (job : Job) (least offset : ℕ) → is_block memory job offset ≡ false → is_allowed memory job least offset ≡ false
+refused_by memory job least offset gone = and_right (nat_le least offset) (is_block memory job offset) gone
+
+-- the blocks of a page, by the byte at which one of them begins
+pub no_block : (memory : Memory) (job : Job) (offset : ℕ) → job.size / 8 ≤ offset → is_block memory job offset ≡ false
+no_block memory job offset past = and_left (nat_lt offset (job.size / 8)) (has_block memory job.target offset) (le-ltb offset (job.size / 8) past)
+
+pub absent_block : (memory : Memory) (job : Job) (offset : ℕ) → job.target % 8 ≡ 0 → has memory (job.target + 8 * offset) ≡ false → is_block memory job offset ≡ false
+absent_block memory job offset aligned gone =
+    and_right (nat_lt offset (job.size / 8)) (has_block memory job.target offset) (sym (block_in_page memory (job.target + 8 * offset) (omega arith)) ∙ gone)
+
+pub block_of_page : (memory : Memory) (job : Job) (offset b : ℕ) → job.target % 8 ≡ 0 → has memory (job.target + 8 * offset) ≡ true → offset ≤ b → b < job.size / 8 → b < offset + (4096 - (job.target + 8 * offset) % 4096) / 8 → is_block memory job b ≡ true
+block_of_page memory job offset b aligned here low high near =
+    let page : (job.target + 8 * b) / 4096 ≡ (job.target + 8 * offset) / 4096 = omega arith in
+    ap₂ (λ (x y : Bool). x && y) (lt-ltb b (job.size / 8) high)
+    (sym (block_in_page memory (job.target + 8 * b) (omega arith)) ∙ (ap (λ (p : ℕ). get_or memory.present p false) page ∙ here))
+
+pub ruleset page_blocks = (no_block, absent_block, block_of_page)
 
 -- one more run of entries behind good ones: which are good, and what was read
 pub record Onward (memory : Memory) (job : Job) (from done k least : ℕ) (entries : List ℕ) : Type 0 where

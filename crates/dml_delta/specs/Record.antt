@@ -1,5 +1,5 @@
 -- A list of whole entries of a delta record, judged one after another.
-use Rattle.std.specs.Prelude.{ℕ, ◌+◌, ◌-◌, ◌*◌, ◌/◌, Bool, not, ◌&&◌, List, length, if◌then◌else◌, ◌==◌, nat_lt, nat_le}
+use Rattle.std.specs.Prelude.{◌≡◌, ℕ, ◌+◌, ◌-◌, ◌*◌, ◌/◌, ◌<◌, ◌≤◌, Bool, true, not, ◌&&◌, List, length, if◌then◌else◌, ◌==◌, nat_lt, nat_le}
 use Rattle.dml_types.specs.declared.jobs.Job.{Job}
 use Rattle.dml_types.specs.Memory.{first, Memory}
 use Rattle.dml_types.specs.Delta.{block_number, has_block}
@@ -18,3 +18,10 @@ abbrev pub allowed_in : Memory → Job → ℕ → List ℕ → ℕ
 allowed_in memory job least bytes =
     first (length bytes / 10)
     (λ i. not (is_allowed memory job (least_in least bytes i) (block_number bytes i)))
+
+-- whether a block is a present one of the destination, and whether all from one number up to another are
+abbrev pub is_block : Memory → Job → ℕ → Bool
+is_block memory job b = nat_lt b (job.size / 8) && has_block memory job.target b
+
+abbrev pub AreBlocks : Memory → Job → ℕ → ℕ → Type 0
+AreBlocks memory job from to = (b : ℕ) → from ≤ b → b < to → is_block memory job b ≡ true

@@ -1,12 +1,12 @@
 //! The entries of a delta record as an apply reads and judges them.
-ghost use Rattle.std.specs.Prelude.{◌≡◌, ◌+◌, ◌*◌, ◌/◌, ◌%◌, ◌^◌, ◌<◌, ◌≤◌, Some, length, IsTrue};
+ghost use Rattle.std.specs.Prelude.{◌≡◌, ◌/◌, ◌%◌, ◌^◌, ◌<◌, ◌≤◌, false, Some, length, IsTrue};
 ghost use Rattle.dml_types.specs.declared.operations.Op.TheVariants.{ApplyDelta};
 ghost use Rattle.dml_types.specs.Job.{op_of};
 ghost use Rattle.dml_types.specs.Memory.{IsMemory, bytes_at, has_all};
-ghost use Rattle.dml_delta.specs.Record.{allowed_in, is_allowed, least_in};
+ghost use Rattle.dml_delta.specs.Record.{allowed_in, is_block, least_in, AreBlocks};
 
 use dml_desc::Checked;
-use dml_image::Image;
+use dml_image::{Image, PAGE_SIZE};
 use dml_types::block_number;
 
 /// The bytes of an entry.
@@ -47,6 +47,8 @@ pub fn entries_at<'a>(
 }
 
 /// Judges whole entries, the first of which may have any offset from `least` on.
+///
+/// It looks at presence once for the blocks of a page: those from the last good one on are known to be present.
 pub fn judge(image: &Image, job: &Checked, least: u32, entries: &[u8]) -> Run
     requires operation { op_of job.now ≡ Some ApplyDelta }
     requires fits { length entries.now < 2 ^ 32 }
@@ -56,29 +58,54 @@ pub fn judge(image: &Image, job: &Checked, least: u32, entries: &[u8]) -> Run
 {
     let count = entries.len() / ENTRY;
     let mut least = least;
+    let mut known = 0;
     for i in 0..count {
-        let offset = block_number(entries, i);
-        if !is_allowed(image, job, least, offset) {
+        let offset = u32::from(block_number(entries, i));
+        known = known_behind(image, job, least, known, offset);
+        if offset < least || offset >= known {
             let good = i as u32;
             return Run { good, least };
         }
-        least = u32::from(offset) + 1;
+        least = offset + 1;
     }
     let good = count as u32;
     Run { good, least }
 }
 
-/// Whether an offset is not below the least one, and is that of a present block of the destination.
+/// A number such that all blocks from an offset on up to it are present blocks of the destination, where those from
+/// `least` up to `known` are. It is at most the offset only where the block of that is none.
 #[inline(always)]
-#[tactic(auto, using(crate::proofs::LimitLemmas::apply_limits, crate::proofs::RecordLemmas::allowed_by))]
-fn is_allowed(image: &Image, job: &Checked, least: u32, offset: u16) -> bool
+fn known_behind(image: &Image, job: &Checked, least: u32, known: u32, offset: u32) -> u32
     requires operation { op_of job.now ≡ Some ApplyDelta }
-    ensures { result ≡ is_allowed image.now job.now least offset }
+    requires known { AreBlocks image.now job.now least known }
+    ensures known { least ≤ offset → AreBlocks image.now job.now offset result }
+    ensures stops { result ≤ offset → is_block image.now job.now offset ≡ false }
+{
+    if offset < known {
+        known
+    } else {
+        known_from(image, job, offset)
+    }
+}
+
+/// The number behind the last block that lies in one page with that of an offset, if that one is a present block of the
+/// destination: so are all from the offset on, then. Else 0.
+#[tactic(auto, using(crate::proofs::LimitLemmas::apply_limits, crate::proofs::RecordLemmas::page_blocks))]
+#[inline(never)]
+fn known_from(image: &Image, job: &Checked, offset: u32) -> u32
+    requires operation { op_of job.now ≡ Some ApplyDelta }
+    ensures known { AreBlocks image.now job.now offset result }
+    ensures stops { result ≤ offset → is_block image.now job.now offset ≡ false }
 {
     let job = job.job();
-    let offset = u32::from(offset);
-    if offset < least || offset >= job.size / 8 {
-        return false;
+    let blocks = job.size / 8;
+    if offset >= blocks {
+        return 0;
     }
-    image.has(job.target + 8 * u64::from(offset))
+    let place = job.target + 8 * u64::from(offset);
+    if !image.has(place) {
+        return 0;
+    }
+    let of_page = (PAGE_SIZE as u64 - place % PAGE_SIZE as u64) / 8;
+    blocks.min(offset + of_page as u32)
 }

@@ -1,11 +1,12 @@
 -- Blocks in lists of bytes, and the marks of those that differ.
 use Rattle.std.proofs.Common.{◌≡◌, ℕ, ◌+◌, ◌-◌, ◌*◌, ◌/◌, ◌%◌, ◌^◌, ◌<◌, ◌≤◌, Bool, true, false, not, ◌&&◌, List, [], ◌∷◌, ◌++◌, length, get_or, take, drop, cond, eqb, Fits, w8, w64, refl, sym, ◌∙◌, ap, ap₂, subst, map, replicate, arith, rules, ⊎_elim}
 use Rattle.std.specs.Prelude.{bytes_eq}
-use Rattle.std.specs.Int.{to_le_bytes, w16}
+use Rattle.std.specs.Int.{bit_at, bit_not, to_le_bytes, w16}
+use Rattle.std.specs.Prelude.{bit_and}
 use Rattle.std.proofs.Math.Nat.{div-div-eq-div-mul}
 use Rattle.std.proofs.lemmas.Nat.{pow-add}
-use Rattle.std.proofs.lemmas.Nat.Bits.{bit_at-trailing_zeros, bit_at-zero}
-use Rattle.std.proofs.lemmas.Bool.{cases_eq, cases_lt, eq-eqb, ne_eqb, and_left}
+use Rattle.std.proofs.lemmas.Nat.Bits.{bit_at-trailing_zeros, bit_at-zero, bit_at-lt, bit_at_and, bit_at_clear_other, bit_at_clear_same}
+use Rattle.std.proofs.lemmas.Bool.{cases_eq, cases_lt, eq-eqb, eqb-true, ne_eqb, and_left}
 use Rattle.std.proofs.lemmas.List.{places, same_lists, drop_all, drop_at, take_all, get_or_past, length-replicate, replicate-append-replicate}
 use Rattle.std.proofs.lemmas.Simd.{bit_mask_l, mask_l-mod, tops_compared, get_or-zip2, get_or_wider, chunk-fits, below_from_Fits, length-chunk}
 use Rattle.std.proofs.lemmas.Slice.Eq.{bytes_eq-Decides}
@@ -15,7 +16,7 @@ use Rattle.dml_delta.specs.Entries.{nth_block, nth_differs, nth_entry, gathered,
 use Rattle.dml_types.specs.declared.jobs.Job.{Job}
 use Rattle.dml_types.specs.Memory.{Memory, bytes_at}
 use Rattle.dml_types.specs.Delta.{block_bytes, differs, block_entry}
-use Rattle.dml_delta.proofs.EntryLemmas.{gathered_alike}
+use Rattle.dml_delta.proofs.EntryLemmas.{gathered_alike, gathered_next, gathered_none, gathered_split}
 
 -- blocks
 block_is : (xs : List ℕ) (i : ℕ) → nth_block xs i ≡ take 8 (drop (8 * i) xs)
@@ -136,6 +137,55 @@ lowest marks all at some fit same =
 
 pub no_marks : (i : ℕ) → is_marked 0 i ≡ false
 no_marks i = ap (λ (b : ℕ). eqb b 1) (bit_at-zero i)
+
+-- the marks without the lowest one
+abbrev pub cleared : ℕ → ℕ → ℕ
+cleared marks z = bit_and marks (bit_not w64 (1 * 2 ^ z % 2 ^ 64))
+
+pub still_marked : (marks others i : ℕ) → is_marked (bit_and marks others) i ≡ true → is_marked marks i ≡ true
+still_marked marks others i set =
+    eq-eqb (bit_at marks i) 1 (omega (arith, eqb-true (bit_at (bit_and marks others) i) 1 set, bit_at_and marks others i, bit_at-lt marks i))
+
+-- what is gathered by the marks: that of the lowest, and then by the others
+pub gathered_by_lowest : (f : ℕ → List ℕ) (marks n : ℕ) → 0 < marks → marks < 2 ^ 64 → count_trailing_zeros 64 marks < n → n ≤ 64 → gathered f (is_marked marks) 0 n ≡ f (count_trailing_zeros 64 marks) ++ gathered f (is_marked (cleared marks (count_trailing_zeros 64 marks))) 0 n
+gathered_by_lowest f marks n some fit within few =
+    let z = count_trailing_zeros 64 marks in
+    let rest = n - (z + 1) in
+    let low = lowest marks marks 0 some fit (λ i. ap (is_marked marks) (omega arith)) in
+    let below : z < 64 = omega (arith, within, few) in
+    let others = is_marked (cleared marks z) in
+    let parts : n ≡ z + 1 + rest = omega (arith, within) in
+    let start : 0 + z + 1 ≡ z + 1 = omega arith in
+    let from_zero : 0 + z ≡ z = omega arith in
+    let one : gathered f (is_marked marks) 0 (z + 1) ≡ f z =
+    ap (gathered f (is_marked marks) 0) (sym start) ∙ (gathered_next f (is_marked marks) 0 z low.before low.here ∙ ap f from_zero) in
+    let none : gathered f others 0 (z + 1) ≡ [] = gathered_none f others 0 (z + 1) (λ i under. gone z below low.before i under) in
+    let same : gathered f (is_marked marks) (0 + (z + 1)) rest ≡ gathered f others (0 + (z + 1)) rest =
+    gathered_alike f f (is_marked marks) others (0 + (z + 1)) (0 + (z + 1)) rest
+    (λ i under. ap (λ (b : ℕ). eqb b 1) (sym (bit_at_clear_other w64 marks z below (0 + (z + 1) + i) (omega (arith, parts, under, few)) (λ e. absurd (omega (arith, e))))))
+    (λ i under. refl) in
+    ap (gathered f (is_marked marks) 0) parts
+    ∙ (gathered_split f (is_marked marks) 0 (z + 1) rest
+    ∙ (ap₂ (λ (xs ys : List ℕ). xs ++ ys) one same
+    ∙ ap (λ (xs : List ℕ). f z ++ xs)
+    (sym (ap (gathered f others 0) parts ∙ (gathered_split f others 0 (z + 1) rest ∙ ap (λ (xs : List ℕ). xs ++ gathered f others (0 + (z + 1)) rest) none)))))
+  where
+    gone : (z : ℕ) → z < 64 → ((i : ℕ) → i < z → is_marked marks (0 + i) ≡ false) → (i : ℕ) → i < z + 1 → is_marked (cleared marks z) (0 + i) ≡ false
+    gone z below before i under =
+        ⊎_elim (λ same.
+        let here : 0 + i ≡ z = omega (arith, same) in
+        ap (is_marked (cleared marks z)) here ∙ ap (λ (b : ℕ). eqb b 1) (bit_at_clear_same w64 marks z below))
+        (λ apart.
+        let lower : i < z = omega (arith, apart, under) in
+        ap (λ (b : ℕ). eqb b 1) (bit_at_clear_other w64 marks z below (0 + i) (omega (arith, lower, below)) (λ e. apart (omega (arith, e)))) ∙ before i lower)
+        (cases_eq i z)
+
+-- the entry of a block has ten bytes
+pub length_nth_entry : (number : ℕ) (bytes : List ℕ) (i : ℕ) → 8 * i + 8 ≤ length bytes → length (nth_entry number bytes i) ≡ 10
+length_nth_entry number bytes i inside = omega (arith, length_block bytes i inside)
+  where
+    length_block : (bytes : List ℕ) (i : ℕ) → 8 * i + 8 ≤ length bytes → length (nth_block bytes i) ≡ 8
+    length_block bytes i inside = search (rules, places)
 
 -- the entries of a part of two lists are those of its blocks in the lists
 pub part_entries : (one other : List ℕ) (marks number place a m k n : ℕ) → place ≡ 8 * a → 8 * n ≤ m → 8 * n ≤ k → ((i : ℕ) → is_marked marks i ≡ nth_differs (take m (drop place one)) (take k (drop place other)) i) → gathered (nth_entry (number + a) (take k (drop place other))) (is_marked marks) 0 n ≡ gathered (nth_entry number other) (nth_differs one other) a n

@@ -1,5 +1,5 @@
 -- A list of whole entries of a delta record, judged one after another.
-use Rattle.std.specs.Prelude.{◌≡◌, ℕ, ◌+◌, ◌-◌, ◌*◌, ◌/◌, ◌<◌, ◌≤◌, Bool, true, not, ◌&&◌, List, length, if◌then◌else◌, ◌==◌, nat_lt, nat_le}
+use Rattle.std.specs.Prelude.{◌≡◌, ℕ, ◌+◌, ◌-◌, ◌/◌, ◌<◌, ◌≤◌, Bool, true, not, ◌&&◌, List, length, if◌then◌else◌, ◌==◌, nat_lt, nat_le}
 use Rattle.dml_types.specs.declared.jobs.Job.{Job}
 use Rattle.dml_types.specs.Memory.{first, Memory}
 use Rattle.dml_types.specs.Delta.{block_number, has_block}

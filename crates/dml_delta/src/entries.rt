@@ -39,14 +39,13 @@ impl Entries {
     /// Adds the entry of a block.
     #[inline(always)]
     #[tactic(auto, using(crate::proofs::EntryLemmas::added))]
-    pub fn add(&mut self, number: u16, block: &[u8])
-        requires block { length block.now ≡ 8 }
+    pub fn add(&mut self, number: u16, block: [u8; 8])
         requires fits { length self.old + 10 ≤ 640 }
-        ensures { self.new ≡ self.old ++ (to_le_bytes w16 number ++ block.now) }
+        ensures { self.new ≡ self.old ++ (to_le_bytes w16 number ++ block) }
     {
         let at = self.len;
         self.bytes[at..at + 2].copy_from_slice(&number.to_le_bytes());
-        self.bytes[at + 2..at + 10].copy_from_slice(block);
+        self.bytes[at + 2..at + 10].copy_from_slice(&block);
         self.len = at + 10;
     }
 

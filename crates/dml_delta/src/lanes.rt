@@ -90,7 +90,8 @@ fn add_marked(entries: &mut Entries, marks: u64, blocks: &[u8], number: u32, roo
     }
 }
 
-/// Adds the entries of the marked ones of up to eight blocks, for which there is room.
+/// Adds the entries of the marked ones of up to eight blocks, for which there is room. A mark is cleared by its place, so
+/// that the next one is soon found.
 fn add_entries(entries: &mut Entries, marks: u64, blocks: &[u8], number: u32)
     requires few { length blocks.now ≤ 64 }
     requires marks { (i : ℕ) → is_marked marks i ≡ true → 8 * i + 8 ≤ length blocks.now }
@@ -100,23 +101,21 @@ fn add_entries(entries: &mut Entries, marks: u64, blocks: &[u8], number: u32)
         ++ gathered (nth_entry number blocks.now) (is_marked marks) 0 (length blocks.now / 8) }
 {
     let mut marks = marks;
-    let mut at = 0;
     while marks != 0 {
-        let skipped = marks.trailing_zeros();
-        let block = at + skipped;
-        entries.add((number + block) as u16, block_slice(blocks, block));
-        marks = marks >> skipped >> 1;
-        at = block + 1;
+        let first = marks.trailing_zeros();
+        entries.add((number + first) as u16, block_at(blocks, first));
+        marks = marks & !(1 << first);
     }
 }
 
-/// The bytes of a block.
+/// The bytes of a block, by value: so they are read and written as one word.
 #[inline(always)]
-fn block_slice(blocks: &[u8], i: u32) -> &[u8]
+fn block_at(blocks: &[u8], i: u32) -> [u8; 8]
     requires { 8 * i + 8 ≤ length blocks.now }
-    ensures bytes { result.now ≡ nth_block blocks.now i }
-    ensures length { length result.now ≡ 8 }
+    ensures { result ≡ nth_block blocks.now i }
 {
     let start = 8 * i as usize;
-    &blocks[start..start + 8]
+    let mut block = [0; 8];
+    block.copy_from_slice(&blocks[start..start + 8]);
+    block
 }

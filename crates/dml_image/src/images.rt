@@ -242,8 +242,8 @@ impl Image<'_> {
         self.pages.fill(addr, len, pattern);
     }
 
-    /// Puts the 8 bytes of each whole entry of a delta record at the block from `target` on that it numbers, in the order
-    /// of the entries.
+    /// Puts the 8 bytes of each whole entry of a delta record at the block from `target` on that it numbers, in the
+    /// order of the entries.
     pub fn put_blocks(&mut self, target: u64, entries: &[u8])
         requires { IsTrue (are_present self.old (block_puts target entries.now)) }
         ensures bytes { self.new ≡ puts_made self.old (block_puts target entries.now) }

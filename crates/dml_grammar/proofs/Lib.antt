@@ -1,3 +1,4 @@
+pub mod DigitLemmas
 pub mod EntryLemmas
 pub mod FirstFaultLemmas
 pub mod LeftLemmas

@@ -1,62 +1,105 @@
--- Laws of numbers: what `from_str_radix` reads of digits alone, and numbers up to a largest.
-use Rattle.std.proofs.Common.{◌≡◌, ℕ, ◌<◌, ◌≤◌, ◌^◌, List, [], ◌∷◌, length, refl, ap, subst, arith, true, Option, Some, None, Result, Ok, Err, inl, inr}
-use Rattle.std.specs.List.{list_all, All, AllPass}
+-- Laws of numbers: those of few digits, that of 20 digits, and numbers up to a largest.
+use Rattle.std.proofs.Common.{◌≡◌, ℕ, ◌+◌, ◌*◌, ◌<◌, ◌≤◌, ◌^◌, List, [], ◌∷◌, length, get_or, take, drop, refl, sym, ◌∙◌, ap, ap₂, arith, Bool, true, false, ◌&&◌, if◌then◌else◌, Option, Some, None, inl, inr}
+use Rattle.std.specs.List.{list_all}
 use Rattle.std.specs.Char.{is_digit, digit_value}
-use Rattle.std.specs.Str.{IsUtf8}
-use Rattle.std.specs.Str.Parse.{digits_value, AllDigits, IsNumeral, ParsesUnsigned, without_leading_plus}
-use Rattle.std.specs.Result.{result_ok, OkIff}
-use Rattle.std.proofs.lemmas.Str.{IsUtf8-from_ascii}
-use Rattle.std.proofs.lemmas.Str.Ascii.{IsAscii-from_all}
-use Rattle.std.proofs.lemmas.List.Sums.{AllPass-from_list_all}
-use Rattle.std.proofs.lemmas.Bool.{ltb-true, lt-leb, le-leb, and_parts, cases_lt, ne_eqb, cases_eq}
-use Rattle.std.proofs.lemmas.Bool.Decides.{nat_tests}
-use Rattle.dml_grammar.specs.Number.{at_most}
+use Rattle.std.specs.Option.{option_map, option_and_then, SomeIff}
+use Rattle.std.specs.Str.Parse.{digits_value}
+use Rattle.std.proofs.Math.Nat.{pow-le-pow_right}
+use Rattle.std.proofs.lemmas.Bool.{lt-ltb, le-ltb, lt-leb, le-leb, cases_lt, cases_Bool}
+use Rattle.std.proofs.lemmas.Int.Digits.{digits_value-lt, digits_value_more}
+use Rattle.std.proofs.lemmas.List.{take_all, drop_all, drop_more}
+use Rattle.std.proofs.lemmas.List.Folds.{list_all_more}
+use Rattle.dml_grammar.specs.Digits.{number_of}
+use Rattle.dml_grammar.specs.Number.{at_most, digits_number}
+use Rattle.dml_grammar.proofs.DigitLemmas.{all_digits}
 
 abbrev greatest : ℕ
 greatest = 0xffff_ffff_ffff_ffff
 
-digit_is_small : (c : ℕ) → digit_value c < 36 → c < 128
-digit_is_small c digit =
-    elim (cases_lt c 128) as (λ _. c < 128) [
-      | inl low ↦ low
-      | inr high ↦ absurd (grind (arith, nat_tests))
+-- as many digits as may stand there
+pub right_length : (radix most : ℕ) (ds : List ℕ) → 0 < length ds → length ds ≤ most → digits_number radix most ds ≡ number_of radix ds
+right_length radix most ds some few = rw (lt-ltb 0 (length ds) some, le-leb (length ds) most few) refl
+
+pub no_digits : (radix most : ℕ) (ds : List ℕ) → length ds ≡ 0 → digits_number radix most ds ≡ None
+no_digits radix most ds none = rw (le-ltb 0 (length ds) (omega arith)) refl
+
+pub many_digits : (radix most : ℕ) (ds : List ℕ) → most < length ds → digits_number radix most ds ≡ None
+many_digits radix most ds many = rw (lt-ltb 0 (length ds) (omega arith), lt-leb (length ds) most many) refl
+
+pub few_enough : (radix k most : ℕ) → 0 < radix → k ≤ most → radix ^ most ≤ 2 ^ 64 → radix ^ k ≤ 2 ^ 64
+few_enough radix k most some few fits =
+    let up : radix ^ k ≤ radix ^ most = pow-le-pow_right some few in
+    omega arith
+
+-- few digits write a number of 64 bits at most
+pub short_fits : (radix : ℕ) (ds : List ℕ) → radix ^ length ds ≤ 2 ^ 64 → at_most greatest (number_of radix ds) ≡ number_of radix ds
+short_fits radix ds few =
+    elim (cases_Bool (list_all (λ c. is_digit c radix) ds)) [
+      | inl all ↦
+          let below = digits_value-lt radix ds (all_digits radix ds all) in
+          rw all (rw (le-leb (digits_value radix ds) greatest (omega (arith, below))) refl)
+      | inr not_all ↦ rw not_all refl
     ]
 
-digits_numeral : (radix : ℕ) (ds : List ℕ) → list_all (λ c. is_digit c radix) ds ≡ true → AllDigits radix ds
-digits_numeral radix [] all = tt
-digits_numeral radix (c ∷ cs) all =
-    let parts = and_parts (is_digit c radix) (list_all (λ c. is_digit c radix) cs) all in
-    (ltb-true _ _ parts.0, digits_numeral radix cs parts.1)
-
--- no digit is a plus
-no_plus : (radix : ℕ) (ds : List ℕ) → radix ≤ 36 → AllDigits radix ds → without_leading_plus ds ≡ ds
-no_plus radix [] small all = refl
-no_plus radix (c ∷ cs) small all =
-    elim (cases_eq c 43) as (λ _. without_leading_plus (c ∷ cs) ≡ c ∷ cs) [
-      | inl plus ↦ absurd (let h : digit_value 43 < radix = subst (λ (n : ℕ). digit_value n < radix) plus all.0 in omega arith)
-      | inr other ↦ rw (ne_eqb c 43 other) refl
+one_digit : (c : ℕ) → number_of 10 (c ∷ []) ≡ (if is_digit c 10 then Some (digit_value c) else None)
+one_digit c =
+    let value : digits_value 10 (c ∷ []) ≡ digit_value c = omega arith in
+    elim (cases_Bool (is_digit c 10)) [
+      | inl is ↦ rw is (ap Some value)
+      | inr other ↦ rw other refl
     ]
 
-pub digits_are_text : (radix : ℕ) (ds : List ℕ) → radix ≤ 36 → list_all (λ c. is_digit c radix) ds ≡ true → IsUtf8 ds
-digits_are_text radix ds small all =
-    let each : AllPass (λ c. is_digit c radix) ds = AllPass-from_list_all (λ c. is_digit c radix) ds all in
-    let ascii : All (λ b. b < 128) ds = λ k d low. digit_is_small _ (let h = ltb-true _ _ (each k d low) in omega arith) in
-    IsUtf8-from_ascii ds (IsAscii-from_all ds ascii)
+both_parts : (a b : Bool) (front last : ℕ)
+    → (if a && b then Some (front * 10 + last) else None)
+    ≡ option_and_then (λ f. option_map (λ l. f * 10 + l) (if b then Some last else None)) (if a then Some front else None)
+both_parts true true front last = refl
+both_parts true false front last = refl
+both_parts false b front last = refl
 
-number_read : {E : Type 0} (n : ℕ) (P : Type 0) (r : Result ℕ E) → P → OkIff r (P × (n < 2 ^ 64)) n → result_ok r ≡ at_most greatest (Some n)
-number_read n P (Ok x) holds says = rw (le-leb n greatest (let h : n < 2 ^ 64 = says.0.1 in omega arith)) (ap Some says.1)
-number_read n P (Err e) holds says =
-    elim (cases_lt n (2 ^ 64)) as (λ _. None ≡ at_most greatest (Some n)) [
-      | inl low ↦ absurd (says (holds, low))
-      | inr high ↦ rw (lt-leb n greatest (omega arith)) refl
-    ]
+above : (front last : ℕ) → ¬ (front * 10 + last < 2 ^ 64) → greatest < front * 10 + last
+above front last big =
+    elim (cases_lt (front * 10 + last) (2 ^ 64)) [ inl low ↦ absurd (big low) | inr high ↦ omega arith ]
 
-pub digits_read : {E : Type 0} (radix : ℕ) (ds : List ℕ) (r : Result ℕ E) → radix ≤ 36 → 0 < length ds → list_all (λ c. is_digit c radix) ds ≡ true
-    → ParsesUnsigned 64 radix ds r → result_ok r ≡ at_most greatest (Some (digits_value radix ds))
-digits_read radix ds r small some all says =
-    let numeral : AllDigits radix ds = digits_numeral radix ds all in
-    let plain = no_plus radix ds small numeral in
-    number_read (digits_value radix ds) (IsNumeral radix ds) r (some, numeral) (rw plain at says)
+-- 20 digits are 19 and one more
+pub long_number_is : (ds : List ℕ) → length ds ≡ 20
+    → number_of 10 ds ≡ option_and_then (λ front. option_map (λ last. front * 10 + last) (number_of 10 (drop 19 ds))) (number_of 10 (take 19 ds))
+long_number_is ds long =
+    let whole : take (19 + 1) ds ≡ ds = take_all (19 + 1) ds (omega arith) in
+    let one : drop 19 ds ≡ get_or ds 19 0 ∷ [] = drop_more ds 19 0 (omega arith) ∙ ap (λ rest. get_or ds 19 0 ∷ rest) (drop_all (19 + 1) ds (omega arith)) in
+    let all : list_all (λ c. is_digit c 10) ds ≡ (list_all (λ c. is_digit c 10) (take 19 ds) && is_digit (get_or ds 19 0) 10) =
+    ap (list_all (λ c. is_digit c 10)) (sym whole) ∙ list_all_more (λ c. is_digit c 10) ds 19 0 (omega arith) in
+    let value : digits_value 10 ds ≡ digits_value 10 (take 19 ds) * 10 + digit_value (get_or ds 19 0) =
+    ap (digits_value 10) (sym whole) ∙ digits_value_more 10 ds 19 (omega arith) in
+    let last : number_of 10 (drop 19 ds) ≡ (if is_digit (get_or ds 19 0) 10 then Some (digit_value (get_or ds 19 0)) else None) =
+    ap (number_of 10) one ∙ one_digit (get_or ds 19 0) in
+    ap₂ (λ (b : Bool) (v : ℕ). if b then Some v else None) all value
+    ∙ both_parts (list_all (λ c. is_digit c 10) (take 19 ds)) (is_digit (get_or ds 19 0) 10) (digits_value 10 (take 19 ds)) (digit_value (get_or ds 19 0))
+    ∙ ap (λ (o : Option ℕ). option_and_then (λ front. option_map (λ last. front * 10 + last) o) (number_of 10 (take 19 ds))) (sym last)
+
+whole_is : (ds : List ℕ) (front last : ℕ) → length ds ≡ 20 → Some front ≡ number_of 10 (take 19 ds) → Some last ≡ number_of 10 (drop 19 ds)
+    → number_of 10 ds ≡ Some (front * 10 + last)
+whole_is ds front last long first second = long_number_is ds long ∙ rw (← first, ← second) refl
+
+no_front : (ds : List ℕ) → length ds ≡ 20 → None ≡ number_of 10 (take 19 ds) → number_of 10 ds ≡ None
+no_front ds long first = long_number_is ds long ∙ rw (← first) refl
+
+-- a product or a sum that does not fit is that of no number of 64 bits
+pub long_product : (ds : List ℕ) (front last : ℕ) → length ds ≡ 20 → Some front ≡ number_of 10 (take 19 ds) → Some last ≡ number_of 10 (drop 19 ds)
+    → ¬ (front * 10 < 2 ^ 64) → None ≡ at_most greatest (number_of 10 ds)
+long_product ds front last long first second big =
+    rw (whole_is ds front last long first second)
+    (rw (lt-leb (front * 10 + last) greatest (above front last (λ low. big (omega arith)))) refl)
+
+pub long_sum : (ds : List ℕ) (front last product : ℕ) (sum : Option ℕ) → length ds ≡ 20 → Some front ≡ number_of 10 (take 19 ds)
+    → Some last ≡ number_of 10 (drop 19 ds) → product ≡ front * 10 → SomeIff sum (product + last < 2 ^ 64) (product + last)
+    → sum ≡ at_most greatest (number_of 10 ds)
+long_sum ds front last product None long first second is big =
+    rw (whole_is ds front last long first second)
+    (rw (lt-leb (front * 10 + last) greatest (above front last (λ low. big (omega arith)))) refl)
+long_sum ds front last product (Some s) long first second is fits =
+    let low : front * 10 + last ≤ greatest = omega (arith, fits.0) in
+    rw (whole_is ds front last long first second)
+    (rw (le-leb (front * 10 + last) greatest low) (ap Some (let e : s ≡ front * 10 + last = omega (arith, fits.1) in e)))
 
 pub at_most_again : (largest : ℕ) (number : Option ℕ) → largest ≤ greatest → at_most largest (at_most greatest number) ≡ at_most largest number
 at_most_again largest None small = refl

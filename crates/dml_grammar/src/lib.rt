@@ -1,6 +1,7 @@
 //! Scripts of data mover jobs: the grammar of their text, and its reader.
 #![tactic(auto)]
 
+mod digits;
 mod entries;
 mod faults;
 mod judge;

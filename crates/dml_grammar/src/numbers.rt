@@ -1,50 +1,46 @@
 //! The numbers and the bytes that words write.
 
-ghost use Rattle.std.specs.Prelude.{◌≡◌, ◌<◌, ◌≤◌, length, IfOk, Some, true};
-ghost use Rattle.std.specs.List.{list_all};
+ghost use Rattle.std.specs.Prelude.{◌≡◌, length, IfOk};
 ghost use Rattle.std.specs.Option.{option_map};
-ghost use Rattle.std.specs.Char.{is_digit};
-ghost use Rattle.std.specs.Str.Parse.{digits_value};
+ghost use Rattle.dml_grammar.specs.Digits.{number_of};
 ghost use Rattle.dml_grammar.specs.Number as spec;
 
+use crate::digits::short_number;
 use hex::FromHexError;
 use std::alloc::{AllocError, Global};
-use std::str;
 
-/// Whether each byte is a digit of the radix.
-fn are_digits(radix: u32, digits: &[u8]) -> bool
-    requires least { 2 ≤ radix }
-    requires most { radix ≤ 36 }
-    ensures { result ≡ list_all (λ c. is_digit c radix) digits.now }
+/// The number of 20 decimal digits, if they are such and it has 64 bits at most: any 19 digits are few enough, and the
+/// last may be one too many.
+#[cold]
+fn long_number(digits: &[u8]) -> Option<u64>
+    requires { length digits.now ≡ 20 }
+    ensures { result ≡ spec.at_most 0xffff_ffff_ffff_ffff (number_of 10 digits.now) }
 {
-    digits.iter().all(|c| char::from(*c).is_digit(radix))
+    let (front, last) = digits.split_at(19);
+    let front = short_number(10, front)?;
+    let last = short_number(10, last)?;
+    front.checked_mul(10)?.checked_add(last)
 }
 
-/// The number that digits write, if it has 64 bits at most.
-#[tactic(auto, using(crate::proofs::NumberLemmas::digits_read, crate::proofs::NumberLemmas::digits_are_text))]
-fn parse_digits(radix: u32, digits: &[u8]) -> Option<u64>
-    requires least { 2 ≤ radix }
-    requires most { radix ≤ 36 }
-    requires some { 0 < length digits.now }
-    requires digits { list_all (λ c. is_digit c radix) digits.now ≡ true }
-    ensures { result ≡ spec.at_most 0xffff_ffff_ffff_ffff (Some (digits_value radix digits.now)) }
+/// The number of 1 to 20 decimal digits, if they are such and it has 64 bits at most.
+fn decimal_number(digits: &[u8]) -> Option<u64>
+    ensures { result ≡ spec.at_most 0xffff_ffff_ffff_ffff (spec.digits_number 10 20 digits.now) }
 {
-    let Ok(text) = str::from_utf8(digits) else {
-        return None;
-    };
-    u64::from_str_radix(text, radix).ok()
-}
-
-/// The number of 1 to `most` digits, if they are such and it has 64 bits at most.
-fn digits_number(radix: u32, most: usize, digits: &[u8]) -> Option<u64>
-    requires least_radix { 2 ≤ radix }
-    requires most_radix { radix ≤ 36 }
-    ensures { result ≡ spec.at_most 0xffff_ffff_ffff_ffff (spec.digits_number radix most digits.now) }
-{
-    if digits.is_empty() || digits.len() > most || !are_digits(radix, digits) {
-        return None;
+    match digits.len() {
+        1..=19 => short_number(10, digits),
+        20 => long_number(digits),
+        _ => None,
     }
-    parse_digits(radix, digits)
+}
+
+/// The number of 1 to 16 hexadecimal digits, if they are such.
+fn hexadecimal_number(digits: &[u8]) -> Option<u64>
+    ensures { result ≡ spec.at_most 0xffff_ffff_ffff_ffff (spec.digits_number 16 16 digits.now) }
+{
+    match digits.len() {
+        1..=16 => short_number(16, digits),
+        _ => None,
+    }
 }
 
 /// The number that a word writes, of 64 bits at most.
@@ -52,8 +48,8 @@ fn word_number(word: &[u8]) -> Option<u64>
     ensures { result ≡ spec.at_most 0xffff_ffff_ffff_ffff (spec.word_number word.now) }
 {
     match word.strip_prefix(b"0x".as_slice()) {
-        Some(digits) => digits_number(16, 16, digits),
-        None => digits_number(10, 20, word),
+        Some(digits) => hexadecimal_number(digits),
+        None => decimal_number(word),
     }
 }
 

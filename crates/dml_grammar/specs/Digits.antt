@@ -1,0 +1,14 @@
+-- What bytes are worth as digits, and the numbers that digits write.
+use Rattle.std.specs.Prelude.{ℕ, if◌then◌else◌, List, Option, Some, None}
+use Rattle.std.specs.List.{list_all}
+use Rattle.std.specs.Char.{digit_value, is_digit}
+use Rattle.std.specs.Str.Parse.{digits_value}
+
+-- what a byte is worth as a hexadecimal digit, in either case; 255 where it is none
+abbrev pub worth : ℕ → ℕ
+worth c = if is_digit c 16 then digit_value c else 255
+
+-- the number that digits write in a radix
+abbrev pub number_of : ℕ → List ℕ → Option ℕ
+number_of radix digits =
+    if list_all (λ c. is_digit c radix) digits then Some (digits_value radix digits) else None

@@ -1,10 +1,12 @@
 pub mod DigitLemmas
 pub mod EntryLemmas
 pub mod FirstFaultLemmas
+pub mod LaneLemmas
 pub mod LeftLemmas
 pub mod LineLemmas
 pub mod NumberLemmas
 pub mod PageLemmas
+pub mod PairLemmas
 pub mod PresenceLemmas
 pub mod Rows
 pub mod WordLemmas

@@ -4,6 +4,7 @@
 mod digits;
 mod entries;
 mod faults;
+mod hexadecimal;
 mod judge;
 mod laws;
 mod lines;

@@ -6,7 +6,7 @@ ghost use Rattle.dml_grammar.specs.Digits.{number_of};
 ghost use Rattle.dml_grammar.specs.Number as spec;
 
 use crate::digits::short_number;
-use hex::FromHexError;
+use crate::hexadecimal::decode_into;
 use std::alloc::{AllocError, Global};
 
 /// The number of 20 decimal digits, if they are such and it has 64 bits at most: any 19 digits are few enough, and the
@@ -82,9 +82,12 @@ pub fn word_bytes(
     if word.len() < least || word.len() > most {
         return Ok(None);
     }
-    match hex::decode(alloc, word) {
-        Ok(bytes) => Ok(Some(bytes)),
-        Err(FromHexError::OutOfMemory) => Err(AllocError),
-        Err(_) => Ok(None),
+    if word.len() % 2 == 1 {
+        return Ok(None);
     }
+    let mut bytes = vec![in alloc; 0; word.len() / 2]?;
+    if !decode_into(word, bytes.as_mut_slice()) {
+        return Ok(None);
+    }
+    Ok(Some(bytes))
 }

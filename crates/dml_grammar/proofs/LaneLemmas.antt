@@ -1,0 +1,60 @@
+-- Laws of lanes: from the bits of a comparison to a test of each byte, and operations lane by lane.
+use Rattle.std.proofs.Common.{◌≡◌, ℕ, zero, suc, ◌+◌, ◌*◌, ◌%◌, ◌^◌, ◌<◌, ◌≤◌, List, [], ◌∷◌, length, map, eqb, nat_eq, refl, sym, ◌∙◌, ap, ap₂, arith, Bool, true, false, not, ◌&&◌, ◌||◌, cond, Fits, w8}
+use Rattle.std.specs.List.{list_all}
+use Rattle.std.specs.Char.{is_digit}
+use Rattle.std.proofs.lemmas.Bool.{agree_below, agree_below_at, ne_eqb, eq-eqb, and_parts, eqb-true}
+use Rattle.std.proofs.lemmas.List.{length-map}
+use Rattle.std.proofs.lemmas.Simd.{map-map, mask_l-mod}
+use lib.Lanes.{Each1, mask_l, sel_l, top}
+use Rattle.dml_grammar.specs.Digits.{worth}
+
+halves : (n : ℕ) → eqb (0 + 2 * n) 0 ≡ eqb n 0
+halves zero = refl
+halves (suc n) = ne_eqb _ _ (λ e. omega arith) ∙ sym (ne_eqb _ _ (λ e. omega arith))
+
+-- no bit is set where no lane passes
+mask_none : (p : ℕ → Bool) (v : List ℕ) → eqb (mask_l (map p v)) 0 ≡ list_all (λ x. not (p x)) v
+mask_none p [] = refl
+mask_none p (x ∷ v) = elim (p x) as (λ b. eqb (cond b 1 0 + 2 * mask_l (map p v)) 0 ≡ (not b && list_all (λ x. not (p x)) v)) [
+  | true ↦ ne_eqb _ _ (λ e. omega arith)
+  | false ↦ halves (mask_l (map p v)) ∙ mask_none p v
+]
+
+list_all_same : (s p : ℕ → Bool) (v : List ℕ) → Each1 (Fits w8) v → ((x : ℕ) → x < 256 → s x ≡ p x) → list_all s v ≡ list_all p v
+list_all_same s p [] fits same = refl
+list_all_same s p (x ∷ v) fits same = rw (same x (fits.0).fits, list_all_same s p v fits.1 same) refl
+
+-- the bits of a comparison that was made lane by lane are all 0 where each byte passes a test, which holds just where
+-- the comparison fails
+pub none_set : (f : ℕ → ℕ) (p : ℕ → Bool) (v z : List ℕ) → length v ≤ 64 → Each1 (Fits w8) v → z ≡ map f v
+    → agree_below (λ x. not (top 7 (f x))) p 256 ≡ true → eqb (mask_l (map (top 7) z) % 2 ^ 64) 0 ≡ list_all p v
+none_set f p v z few fits lanes all =
+    let mask : mask_l (map (top 7) z) % 2 ^ 64 ≡ mask_l (map (λ x. top 7 (f x)) v) =
+    ap (λ l. mask_l (map (top 7) l) % 2 ^ 64) lanes ∙ ap (λ l. mask_l l % 2 ^ 64) (map-map (top 7) f v)
+    ∙ mask_l-mod (map (λ x. top 7 (f x)) v) 64 (omega (arith, length-map v (λ x. top 7 (f x)))) in
+    ap (λ n. eqb n 0) mask ∙ mask_none (λ x. top 7 (f x)) v
+    ∙ list_all_same (λ x. not (top 7 (f x))) p v fits (λ x low. agree_below_at (λ x. not (top 7 (f x))) p 256 x all low)
+
+-- a choice lane by lane
+sel_maps : (m g h : ℕ → ℕ) (v : List ℕ) → sel_l (map (top 7) (map m v)) (map g v) (map h v) ≡ map (λ x. cond (top 7 (m x)) (g x) (h x)) v
+sel_maps m g h [] = refl
+sel_maps m g h (x ∷ v) = ap (λ r. cond (top 7 (m x)) (g x) (h x) ∷ r) (sel_maps m g h v)
+
+pub chosen : (m g h : ℕ → ℕ) (v : List ℕ) {ms xs ys : List ℕ} → ms ≡ map m v → xs ≡ map g v → ys ≡ map h v
+    → sel_l (map (top 7) ms) xs ys ≡ map (λ x. cond (top 7 (m x)) (g x) (h x)) v
+chosen m g h v is left right = rw (is, left, right) (sel_maps m g h v)
+
+on_digits : (a b : Bool) → a ≡ true → (not a || b) ≡ true → b ≡ true
+on_digits true b is all = all
+on_digits false b is all = cc
+
+-- what digits are worth, where a function of each lane agrees with that on digits
+pub worth_of_digits : (f : ℕ → ℕ) (v : List ℕ) → Each1 (Fits w8) v → list_all (λ c. is_digit c 16) v ≡ true
+    → agree_below (λ x. not (is_digit x 16) || nat_eq (f x) (worth x)) (λ _. true) 256 ≡ true → map f v ≡ map worth v
+worth_of_digits f [] fits digits all = refl
+worth_of_digits f (x ∷ v) fits digits all =
+    let parts = and_parts (is_digit x 16) (list_all (λ c. is_digit c 16) v) digits in
+    let here : (not (is_digit x 16) || nat_eq (f x) (worth x)) ≡ true =
+    agree_below_at (λ x. not (is_digit x 16) || nat_eq (f x) (worth x)) (λ _. true) 256 x all (fits.0).fits in
+    let same : nat_eq (f x) (worth x) ≡ true = on_digits (is_digit x 16) (nat_eq (f x) (worth x)) parts.0 here in
+    ap₂ (λ (y : ℕ) (ys : List ℕ). y ∷ ys) (eqb-true (f x) (worth x) same) (worth_of_digits f v fits.1 parts.1 all)

@@ -1,11 +1,13 @@
 -- Laws of lanes: from the bits of a comparison to a test of each byte, and operations lane by lane.
-use Rattle.std.proofs.Common.{◌≡◌, ℕ, zero, suc, ◌+◌, ◌*◌, ◌%◌, ◌^◌, ◌<◌, ◌≤◌, List, [], ◌∷◌, length, map, eqb, nat_eq, refl, sym, ◌∙◌, ap, ap₂, arith, Bool, true, false, not, ◌&&◌, ◌||◌, cond, Fits, w8}
+use Rattle.std.proofs.Common.{◌≡◌, ℕ, zero, suc, ◌+◌, ◌-◌, ◌*◌, ◌/◌, ◌%◌, ◌^◌, ◌<◌, ◌≤◌, List, [], ◌∷◌, length, drop, get_or, map, eqb, nat_eq, refl, sym, ◌∙◌, ap, ap₂, arith, Bool, true, false, not, ◌&&◌, ◌||◌, cond, inl, inr, Fits, w8}
 use Rattle.std.specs.List.{list_all}
 use Rattle.std.specs.Char.{is_digit}
-use Rattle.std.proofs.lemmas.Bool.{agree_below, agree_below_at, ne_eqb, eq-eqb, and_parts, eqb-true}
+use Rattle.std.proofs.lemmas.Bool.{agree_below, agree_below_at, ne_eqb, eq-eqb, and_parts, both_ways, cases_Bool, cases_lt, eqb-true}
 use Rattle.std.proofs.lemmas.List.{length-map}
-use Rattle.std.proofs.lemmas.Simd.{map-map, mask_l-mod}
-use lib.Lanes.{Each1, mask_l, sel_l, top}
+use Rattle.std.proofs.lemmas.List.Elements.{All-drop, All-from_get_or, All-take}
+use Rattle.std.proofs.lemmas.List.Sums.{AllPass-from_list_all, list_all-from_AllPass}
+use Rattle.std.proofs.lemmas.Simd.{get_or-chunk, length-chunk, map-map, mask_l-mod}
+use lib.Lanes.{Each1, chunk, mask_l, sel_l, top}
 use Rattle.dml_grammar.specs.Digits.{worth}
 
 halves : (n : ℕ) → eqb (0 + 2 * n) 0 ≡ eqb n 0
@@ -58,3 +60,45 @@ worth_of_digits f (x ∷ v) fits digits all =
     agree_below_at (λ x. not (is_digit x 16) || nat_eq (f x) (worth x)) (λ _. true) 256 x all (fits.0).fits in
     let same : nat_eq (f x) (worth x) ≡ true = on_digits (is_digit x 16) (nat_eq (f x) (worth x)) parts.0 here in
     ap₂ (λ (y : ℕ) (ys : List ℕ). y ∷ ys) (eqb-true (f x) (worth x) same) (worth_of_digits f v fits.1 parts.1 all)
+
+-- a part whose bytes do not all pass a test
+pub part_fails : (p : ℕ → Bool) (xs : List ℕ) (i n : ℕ) → list_all p (chunk i n xs) ≡ false → list_all p xs ≡ false
+part_fails p xs i n fails =
+    elim (cases_Bool (list_all p xs)) [
+      | inl all ↦
+          absurd (both_ways _ fails (list_all-from_AllPass p (chunk i n xs)
+          (All-take (λ x. p x ≡ true) n (drop i xs) (All-drop (λ x. p x ≡ true) i xs (AllPass-from_list_all p xs all)))))
+      | inr not_all ↦ not_all
+    ]
+
+-- a place of a part whose bytes all pass a test
+part_passes : (p : ℕ → Bool) (xs : List ℕ) (i n k : ℕ) → i + n ≤ length xs → list_all p (chunk i n xs) ≡ true → i ≤ k → k < i + n
+    → p (get_or xs k 0) ≡ true
+part_passes p xs i n k room all from to =
+    let long : length (chunk i n xs) ≡ n = length-chunk i n xs room in
+    let back : i + (k - i) ≡ k = omega arith in
+    let at : get_or (chunk i n xs) (k - i) 0 ≡ get_or xs k 0 = get_or-chunk i n xs (k - i) 0 (omega arith) ∙ ap (λ j. get_or xs j 0) back in
+    rw at at (AllPass-from_list_all p (chunk i n xs) all (k - i) 0 (omega arith))
+
+-- one step more of a test of all bytes
+pub passes_more : (p : ℕ → Bool) (xs : List ℕ) (step : ℕ) → 16 * step + 16 ≤ length xs → list_all p (chunk (16 * step) 16 xs) ≡ true
+    → ((k : ℕ) → k < 16 * step → p (get_or xs k 0) ≡ true) → (k : ℕ) → k < 16 * (step + 1) → p (get_or xs k 0) ≡ true
+passes_more p xs step room all before = λ k low.
+    elim (cases_lt k (16 * step)) [
+      | inl early ↦ before k early
+      | inr late ↦ part_passes p xs (16 * step) 16 k room all late (omega arith)
+    ]
+
+-- the last 16 bytes decide, behind the whole steps
+pub last_decides : (p : ℕ → Bool) (xs : List ℕ) (step : ℕ) → 16 ≤ length xs → length xs / 16 ≤ step
+    → ((k : ℕ) → k < 16 * step → p (get_or xs k 0) ≡ true) → list_all p (chunk (length xs - 16) 16 xs) ≡ list_all p xs
+last_decides p xs step some past before =
+    elim (cases_Bool (list_all p (chunk (length xs - 16) 16 xs))) [
+      | inl all ↦
+          all ∙ sym (list_all-from_AllPass p xs (All-from_get_or (λ x. p x ≡ true) xs 0 (λ k within.
+          elim (cases_lt k (16 * step)) [
+            | inl early ↦ before k early
+            | inr late ↦ part_passes p xs (length xs - 16) 16 k (omega arith) all (omega arith) (omega arith)
+          ])))
+      | inr not_all ↦ not_all ∙ sym (part_fails p xs (length xs - 16) 16 not_all)
+    ]

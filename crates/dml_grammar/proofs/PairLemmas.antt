@@ -56,16 +56,6 @@ values_are_small (x ∷ v) all zero =
     rw parts.0 (ltb-true _ _ parts.0)
 values_are_small (x ∷ v) all (suc k) = values_are_small v (and_parts (is_hexadecimal x) (list_all is_hexadecimal v) all).1 k
 
--- a part that is no text of digits
-pub part_fails : (xs : List ℕ) (i n : ℕ) → list_all is_hexadecimal (chunk i n xs) ≡ false → list_all is_hexadecimal xs ≡ false
-part_fails xs i n fails =
-    elim (cases_Bool (list_all is_hexadecimal xs)) [
-      | inl all ↦
-          absurd (both_ways _ fails (list_all-from_AllPass is_hexadecimal (chunk i n xs)
-          (All-take (λ x. is_hexadecimal x ≡ true) n (drop i xs) (All-drop (λ x. is_hexadecimal x ≡ true) i xs (AllPass-from_list_all is_hexadecimal xs all)))))
-      | inr not_all ↦ not_all
-    ]
-
 -- a text of digits has one at each place
 digit_at : (xs : List ℕ) (k : ℕ) → list_all is_hexadecimal xs ≡ true → k < length xs → is_hexadecimal (get_or xs k 0) ≡ true
 digit_at xs k all within = AllPass-from_list_all is_hexadecimal xs all k 0 within

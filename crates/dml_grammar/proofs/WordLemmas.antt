@@ -7,7 +7,7 @@ use Rattle.std.proofs.lemmas.List.Splits.{slice_split_first, slice_split_none, l
 use Rattle.std.proofs.lemmas.List.Sums.{position_or_len_is, prefix_len_is, fails_before_first, passes_at_first, prefix_len_stops, prefix_len-le-length}
 use Rattle.std.proofs.lemmas.List.{take_all, drop_all, drop-drop, drop_more, length-take, length-drop, get_or-drop, nil_from_length}
 use Rattle.std.proofs.lemmas.Bool.{cases_lt, cond-true, cond-false, ne_eqb, not_from_false, false_from_ne_true, both_ways}
-use Rattle.memchr.specs.Find.{IsFirstByte, is_byte}
+use Rattle.memchr.specs.Find.{IsFirstByte, is_byte, is_byte2}
 use Rattle.dml_grammar.specs.Text.{is_blank, words}
 
 abbrev is_feed : ℕ → Bool
@@ -27,6 +27,15 @@ first_byte_at xs None nowhere =
     position_or_len_at is_feed xs (length xs) (omega arith) (λ k low. false_from_ne_true _ (nowhere k (omega arith) low)) (λ low. absurd (omega arith))
 first_byte_at xs (Some k) first =
     position_or_len_at is_feed xs k (let h : k < length xs = first.0.high in omega arith)
+    (λ i low. false_from_ne_true _ (first.0.before i (omega arith) low)) (λ _. first.1)
+
+-- the same of the first blank
+pub first_blank_at : (xs : List ℕ) (found : Option ℕ) → IsFirstByte (is_byte2 32 9) xs found
+    → unwrap_or found (length xs) ≡ position_or_len is_blank xs
+first_blank_at xs None nowhere =
+    position_or_len_at is_blank xs (length xs) (omega arith) (λ k low. false_from_ne_true _ (nowhere k (omega arith) low)) (λ low. absurd (omega arith))
+first_blank_at xs (Some k) first =
+    position_or_len_at is_blank xs k (let h : k < length xs = first.0.high in omega arith)
     (λ i low. false_from_ne_true _ (first.0.before i (omega arith) low)) (λ _. first.1)
 
 -- a part before others is a line that has lost its carriage return

@@ -1,5 +1,6 @@
 pub mod Digits
 pub mod Faults
+pub mod FirstByte
 pub mod FirstFault
 pub mod Grammar
 pub mod Left

@@ -12,6 +12,7 @@ use crate::faults::{Kind, ReadError};
 use crate::lines::{Bytes, Line};
 use crate::progress::Progress;
 use crate::table::{MOST_PARTS, Word, parts_of, word_named};
+use crate::text::is_text;
 use crate::words::next_word;
 use dml_desc::decode;
 use dml_types::{Job, MOST_JOBS, Op};
@@ -19,14 +20,6 @@ use std::alloc::Global;
 
 /// The most bytes of a line.
 const LONGEST_LINE: usize = 16_384;
-
-/// Whether all bytes are tabs or from the space to the tilde.
-fn is_text(text: &[u8]) -> bool
-    ensures { result ≡ list_all is_text text.now }
-{
-    text.iter()
-        .all(|c| *c == b'\t' || (b' '..=b'~').contains(c))
-}
 
 /// Whether the first byte of a word is `#`.
 fn is_comment(first: &[u8]) -> bool

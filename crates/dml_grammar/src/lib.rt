@@ -13,6 +13,7 @@ mod progress;
 mod reader;
 mod script;
 mod table;
+mod text;
 mod words;
 
 pub use faults::{Kind, ScriptError, ScriptFault, fault_text};

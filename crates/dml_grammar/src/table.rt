@@ -2,6 +2,7 @@
 
 ghost use Rattle.std.specs.Prelude.{◌≡◌, ◌≤◌, length};
 ghost use Rattle.dml_grammar.specs.Table.{rows_seen, find_word, word_named, job_parts, parts_of, suffix_text};
+ghost use Rattle.dml_grammar.specs.FirstByte.{rows_beginning};
 
 use dml_types::Op;
 
@@ -64,24 +65,31 @@ const CHECK: Part = Part::Named(Suffix::Check, Slot::Number(0xff));
 
 const FLAGS: Part = Part::Named(Suffix::Flags, Slot::Number(0xff_ffff));
 
-/// The first words of lines.
-const FIRST_WORDS: [(&[u8], Word); 15] = [
-    (b"image", Word::Image),
-    (b"page", Word::Page),
-    (b"poke", Word::Poke),
-    (b"noop", Word::Job(Op::NoOp)),
-    (b"move", Word::Job(Op::Move)),
-    (b"fill", Word::Job(Op::Fill)),
-    (b"compare", Word::Job(Op::Compare)),
-    (b"compare-pattern", Word::Job(Op::ComparePattern)),
-    (b"create", Word::Job(Op::CreateDelta)),
-    (b"apply", Word::Job(Op::ApplyDelta)),
-    (b"dualcast", Word::Job(Op::Dualcast)),
-    (b"raw", Word::Raw),
-    (b"batch", Word::Batch),
-    (b"end", Word::End),
-    (b"show", Word::Show),
-];
+/// The first words that begin with a byte.
+#[inline(always)]
+fn beginning_with(byte: u8) -> &'static [(&'static [u8], Word)]
+    ensures { rows_seen result.now ≡ rows_beginning byte }
+{
+    match byte {
+        b'i' => &[(b"image", Word::Image)],
+        b'p' => &[(b"page", Word::Page), (b"poke", Word::Poke)],
+        b'n' => &[(b"noop", Word::Job(Op::NoOp))],
+        b'm' => &[(b"move", Word::Job(Op::Move))],
+        b'f' => &[(b"fill", Word::Job(Op::Fill))],
+        b'c' => &[
+            (b"compare", Word::Job(Op::Compare)),
+            (b"compare-pattern", Word::Job(Op::ComparePattern)),
+            (b"create", Word::Job(Op::CreateDelta)),
+        ],
+        b'a' => &[(b"apply", Word::Job(Op::ApplyDelta))],
+        b'd' => &[(b"dualcast", Word::Job(Op::Dualcast))],
+        b'r' => &[(b"raw", Word::Raw)],
+        b'b' => &[(b"batch", Word::Batch)],
+        b'e' => &[(b"end", Word::End)],
+        b's' => &[(b"show", Word::Show)],
+        _ => &[],
+    }
+}
 
 /// The word beside a text in a table, if it is there.
 fn find_word(rows: &[(&[u8], Word)], text: &[u8]) -> Option<Word>
@@ -99,7 +107,8 @@ fn find_word(rows: &[(&[u8], Word)], text: &[u8]) -> Option<Word>
 pub fn word_named(text: &[u8]) -> Option<Word>
     ensures { result ≡ word_named text.now }
 {
-    find_word(&FIRST_WORDS, text)
+    let first = text.first()?;
+    find_word(beginning_with(*first), text)
 }
 
 /// The parts of a job's line.

@@ -5,7 +5,7 @@ ghost use Rattle.std.specs.List.{position_or_len, prefix_len};
 ghost use Rattle.std.specs.Str.Lines.{lines, strip_carriage_return};
 ghost use Rattle.dml_grammar.specs.Text as text_spec;
 
-use memchr::memchr;
+use memchr::{memchr, memchr2};
 
 /// The length of the text before its first line feed.
 #[tactic(auto, using(crate::proofs::WordLemmas::first_byte_at))]
@@ -62,17 +62,32 @@ fn blank_len(text: &[u8]) -> usize
     n
 }
 
-/// How many bytes a text begins with that are no blanks.
+/// The most bytes of a word that are looked at one by one.
+const NEAR: usize = 24;
+
+/// How many bytes a text begins with that are no blanks, where they are many: a search by vectors.
+#[tactic(auto, using(crate::proofs::WordLemmas::first_blank_at))]
+#[inline(never)]
+fn long_word_len(text: &[u8]) -> usize
+    ensures count { result ≡ position_or_len text_spec.is_blank text.now }
+    ensures within { result ≤ length text.now }
+{
+    memchr2(b' ', b'\t', text).unwrap_or(text.len())
+}
+
+/// How many bytes a text begins with that are no blanks. Most words are short.
 #[tactic(auto, using(crate::proofs::WordLemmas::position_or_len_at))]
+#[inline(always)]
 fn word_len(text: &[u8]) -> usize
     ensures count { result ≡ position_or_len text_spec.is_blank text.now }
     ensures within { result ≤ length text.now }
 {
+    let near = text.len().min(NEAR);
     let mut n = 0;
-    while n < text.len() && !is_blank(text[n]) {
+    while n < near && !is_blank(text[n]) {
         n += 1;
     }
-    n
+    if n == NEAR { long_word_len(text) } else { n }
 }
 
 /// The first word of a line, and what follows it; None where the line has no word.

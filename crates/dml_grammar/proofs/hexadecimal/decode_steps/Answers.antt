@@ -1,10 +1,12 @@
 use Rattle.std.proofs.Common.{◌*◌, ◌∙◌, ap, sym, arith, get_or}
 use Rattle.std.proofs.lemmas.Simd.{length-chunk, length-put_chunk}
-use Rattle.dml_grammar.proofs.PairLemmas.{part_fails, values_are_small, step_more}
+use Rattle.std.specs.Char.{is_digit}
+use Rattle.dml_grammar.proofs.LaneLemmas.{part_fails}
+use Rattle.dml_grammar.proofs.PairLemmas.{values_are_small, step_more}
 use Rattle.dml_grammar.proofs.hexadecimal.decode_steps.Goals as goal
 
 pub returns-then-not-are_digits-clause-fault : goal.returns-then-not-are_digits-clause-fault
-returns-then-not-are_digits-clause-fault c = λ _. part_fails c.args.word.now (16 * c.loop-step.step) 16 (sym c.are_digits.ensures ∙ c.if-not-are_digits.true)
+returns-then-not-are_digits-clause-fault c = λ _. part_fails (λ x. is_digit x 16) c.args.word.now (16 * c.loop-step.step) 16 (sym c.are_digits.ensures ∙ c.if-not-are_digits.true)
 
 pub values-requires-clause-long : goal.values-requires-clause-long
 values-requires-clause-long c = length-chunk (16 * c.loop-step.step) 16 c.args.word.now (omega arith)

@@ -5,6 +5,7 @@ pub mod LaneLemmas
 pub mod LeftLemmas
 pub mod LineLemmas
 pub mod NumberLemmas
+pub mod NumberLineLemmas
 pub mod PageLemmas
 pub mod PairLemmas
 pub mod PresenceLemmas

@@ -34,7 +34,7 @@ first_of_more [] more none = refl
 first_of_more ((true, kind) ∷ faults) more none = cc
 first_of_more ((false, kind) ∷ faults) more none = first_of_more faults more none
 
-first_of_front : (faults more : List (Bool × Kind)) (kind : Kind) → grammar.first_of faults ≡ Some kind → grammar.first_of (faults ++ more) ≡ Some kind
+pub first_of_front : (faults more : List (Bool × Kind)) (kind : Kind) → grammar.first_of faults ≡ Some kind → grammar.first_of (faults ++ more) ≡ Some kind
 first_of_front [] more kind found = cc
 first_of_front ((true, other) ∷ faults) more kind found = found
 first_of_front ((false, other) ∷ faults) more kind found = first_of_front faults more kind found

@@ -5,6 +5,7 @@ pub mod FirstFault
 pub mod Grammar
 pub mod Left
 pub mod Number
+pub mod NumberLines
 pub mod Pages
 pub mod Reads
 pub mod Table

@@ -1,8 +1,9 @@
 //! The words of a line, fitted to the parts that its first word has, and what they write.
 
-ghost use Rattle.std.specs.Prelude.{◌≡◌, ◌≤◌, ◌∷◌, ◌++◌, [], length, IfOk, IfErr, OnOk, Some, None, false};
+ghost use Rattle.std.specs.Prelude.{◌≡◌, ◌≤◌, ◌∷◌, ◌++◌, [], length, IfOk, IfErr, OnOk, Some, None, true, false};
 ghost use Rattle.std.specs.Option.{option_map};
 ghost use Rattle.dml_grammar.specs.Grammar as grammar;
+ghost use Rattle.dml_grammar.specs.NumberLines.{is_number, are_numbers, entries_fault, entries_numbers};
 ghost use Rattle.dml_grammar.specs.Reads.{word_seen, entries_seen, values_seen, slot_faults, Fails};
 ghost use Rattle.dml_grammar.specs.Text.{words};
 
@@ -129,4 +130,59 @@ pub fn read_entries(alloc: Global, entries: &[Entry]) -> Result<Values, ReadErro
         }
     }
     Ok(Values { numbers, bytes })
+}
+
+/// The largest number of a part that is one.
+fn largest_of(part: Part) -> u64
+    requires { is_number (grammar.slot_of part) ≡ true }
+    ensures { grammar.slot_of part ≡ Slot.Number result }
+{
+    match slot_of(part) {
+        Slot::Number(largest) => largest,
+        Slot::Digits(..) => unreachable!(),
+    }
+}
+
+/// The number that a part's word writes, if one stands there, and whether it is a fault.
+fn read_number(part: Part, word: Option<&[u8]>) -> (Option<u64>, bool)
+    requires { is_number (grammar.slot_of part) ≡ true }
+    ensures number { result.0 ≡ grammar.slot_number (grammar.slot_of part) (word_seen word.entry) }
+    ensures fault { grammar.slot_fault (grammar.slot_of part) (word_seen word.entry) ≡ (result.1, Kind.BadNumber) }
+{
+    let Some(word) = word else {
+        return (None, false);
+    };
+    let number = bounded_number(largest_of(part), word);
+    (number, number.is_none())
+}
+
+/// Reads the words of a line whose parts are all numbers, in one pass and without a list of its entries: the number of
+/// each part, or the line's first fault.
+pub fn read_numbers(
+    parts: &[Part],
+    line: &[u8],
+    numbers: &mut ArrayVec<Option<u64>, MOST_PARTS>,
+) -> Option<Kind>
+    requires few { length parts.now ≤ MOST_PARTS }
+    requires plain { are_numbers parts.now ≡ true }
+    requires empty { numbers.old.items ≡ [] }
+    ensures fault { result ≡ entries_fault (grammar.fitted parts.now (words line.now)) }
+    ensures numbers { result ≡ None → Some numbers.new.items ≡ entries_numbers (grammar.fitted parts.now (words line.now)) }
+{
+    let mut rest = line;
+    let mut is_bad = false;
+    for part in parts {
+        let Some((word, after)) = taken(*part, rest) else {
+            return Some(Kind::WrongWords);
+        };
+        let (number, is_fault) = read_number(*part, word);
+        numbers.push(number);
+        is_bad = is_bad || is_fault;
+        rest = after;
+    }
+    match next_word(rest) {
+        Some(_) => Some(Kind::WrongWords),
+        None if is_bad => Some(Kind::BadNumber),
+        None => None,
+    }
 }

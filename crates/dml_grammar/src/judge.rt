@@ -3,17 +3,19 @@
 ghost use Rattle.std.specs.Prelude.{◌≡◌, ◌+◌, ◌<◌, [], length, IfOk, IfErr, IfSome, OnOk, Some, None, unwrap_or, true, false};
 ghost use Rattle.std.specs.List.{list_all};
 ghost use Rattle.dml_grammar.specs.Grammar as grammar;
+ghost use Rattle.dml_grammar.specs.NumberLines.{has_digits};
 ghost use Rattle.dml_grammar.specs.Reads.{Condemns, Fails, FitsAt, FitsFields, FitsJob, HasSizes, IsNext, values_seen, fine_or_skipped};
 ghost use Rattle.dml_grammar.specs.Table.{word_named};
 ghost use Rattle.dml_grammar.specs.Text.{is_text, words};
 
-use crate::entries::{Values, fit, read_entries};
+use crate::entries::{Values, fit, read_entries, read_numbers};
 use crate::faults::{Kind, ReadError};
 use crate::lines::{Bytes, Line};
 use crate::progress::Progress;
 use crate::table::{MOST_PARTS, Word, parts_of, word_named};
 use crate::text::is_text;
 use crate::words::next_word;
+use arrayvec::ArrayVec;
 use dml_desc::decode;
 use dml_types::{Job, MOST_JOBS, Op};
 use std::alloc::Global;
@@ -156,8 +158,8 @@ fn line_of(word: Word, values: Values) -> Line
     }
 }
 
-/// The line of a known first word that may stand here, of the words after it.
-fn read_words(
+/// The line of a known first word that may stand here, of the words after it, among which digits may be.
+fn read_digit_words(
     alloc: Global,
     progress: &Progress,
     word: Word,
@@ -180,6 +182,65 @@ fn read_words(
         return Err(ReadError::Fault(Kind::BadRange));
     }
     Ok(line_of(word, values))
+}
+
+/// Whether a line with this first word may have hexadecimal digits.
+fn has_digits(word: Word) -> bool
+    ensures { result ≡ has_digits word }
+{
+    matches!(word, Word::Page | Word::Poke | Word::Raw)
+}
+
+/// The line of a known first word that may stand here, of the words after it, which are all numbers.
+fn read_plain_words(
+    alloc: Global,
+    progress: &Progress,
+    word: Word,
+    rest: &[u8],
+) -> Result<Line, ReadError>
+    requires plain { has_digits word ≡ false }
+    requires image { grammar.is_image word ≡ true → progress.now ≡ [] }
+    requires others { grammar.is_image word ≡ false → 0 < length progress.now }
+    requires room { grammar.is_job word ≡ true → unwrap_or (grammar.open_jobs progress.now) 0 < grammar.most_jobs }
+    ensures fine { OnOk result (grammar.first_of (grammar.rest_faults word (words rest.now) progress.now) ≡ None) }
+    ensures line { IfOk result (λ line. grammar.accepted (Some word) (words rest.now) ≡ grammar.Fine line) }
+    ensures next { IfOk result (λ line. IsNext progress.now line) }
+    ensures err { IfErr result (λ e. Fails e (grammar.first_of
+        (grammar.rest_faults word (words rest.now) progress.now))) }
+{
+    let mut values = Values {
+        numbers: ArrayVec::new(),
+        bytes: Vec::new(alloc),
+    };
+    if let Some(kind) = read_numbers(parts_of(word), rest, &mut values.numbers) {
+        return Err(ReadError::Fault(kind));
+    }
+    if is_out_of_range(word, &values, progress) {
+        return Err(ReadError::Fault(Kind::BadRange));
+    }
+    Ok(line_of(word, values))
+}
+
+/// The line of a known first word that may stand here, of the words after it.
+fn read_words(
+    alloc: Global,
+    progress: &Progress,
+    word: Word,
+    rest: &[u8],
+) -> Result<Line, ReadError>
+    requires image { grammar.is_image word ≡ true → progress.now ≡ [] }
+    requires others { grammar.is_image word ≡ false → 0 < length progress.now }
+    requires room { grammar.is_job word ≡ true → unwrap_or (grammar.open_jobs progress.now) 0 < grammar.most_jobs }
+    ensures fine { OnOk result (grammar.first_of (grammar.rest_faults word (words rest.now) progress.now) ≡ None) }
+    ensures line { IfOk result (λ line. grammar.accepted (Some word) (words rest.now) ≡ grammar.Fine line) }
+    ensures next { IfOk result (λ line. IsNext progress.now line) }
+    ensures err { IfErr result (λ e. Fails e (grammar.first_of
+        (grammar.rest_faults word (words rest.now) progress.now))) }
+{
+    if has_digits(word) {
+        return read_digit_words(alloc, progress, word, rest);
+    }
+    read_plain_words(alloc, progress, word, rest)
 }
 
 /// Whether a first word may not stand here: the first line is the `image` line, and the only one; and in a batch there

@@ -5,7 +5,7 @@ use Rattle.dml_grammar.specs.Reads.{entries_seen, slot_faults, values_seen}
 use Rattle.dml_grammar.specs.Table.{parts_of}
 use Rattle.dml_grammar.specs.Text.{words}
 use Rattle.dml_grammar.proofs.LineLemmas.{fails_front, first_of_more, sizes_of_fitted, next_in_range}
-use Rattle.dml_grammar.proofs.judge.read_words.Goals as goal
+use Rattle.dml_grammar.proofs.judge.read_digit_words.Goals as goal
 
 pub returns-in_err-values-clause-err : goal.returns-in_err-values-clause-err
 returns-in_err-values-clause-err c =

@@ -158,6 +158,28 @@ fn line_of(word: Word, values: Values) -> Line
     }
 }
 
+/// The line of values that fit its fields, where it has no digits. It reads the values where they lie, since a line of a
+/// job wants few of them.
+fn plain_line_of(word: Word, values: &Values) -> Line
+    requires plain { has_digits word ≡ false }
+    requires fits { FitsFields word (values_seen values.now) }
+    ensures { result ≡ grammar.line_of word (values_seen values.now) }
+{
+    match word {
+        Word::Job(op) => Line::Job(job_of(op, values)),
+        Word::Image => Line::Image {
+            pages: size_at(values, 0),
+        },
+        Word::Show => Line::Show {
+            addr: number_at(values, 0),
+            len: size_at(values, 1),
+        },
+        Word::Batch => Line::Batch,
+        Word::End => Line::End,
+        Word::Page | Word::Poke | Word::Raw => unreachable!(),
+    }
+}
+
 /// The line of a known first word that may stand here, of the words after it, among which digits may be.
 fn read_digit_words(
     alloc: Global,
@@ -218,7 +240,7 @@ fn read_plain_words(
     if is_out_of_range(word, &values, progress) {
         return Err(ReadError::Fault(Kind::BadRange));
     }
-    Ok(line_of(word, values))
+    Ok(plain_line_of(word, &values))
 }
 
 /// The line of a known first word that may stand here, of the words after it.

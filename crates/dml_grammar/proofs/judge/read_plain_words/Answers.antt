@@ -34,4 +34,4 @@ returns-clause-line c =
     let same = values_are_plain c.args.word (words c.args.rest.now) found.0 c.read_numbers.new.numbers.items c.new-2.result.items c.requires.plain found.1
     (rw c.parts_of.ensures.parts at (c.read_numbers.ensures.numbers c.in_default.is)) c.new-2.ensures.items in
     ap (λ (o : Option Entries). grammar.Fine (grammar.line_of c.args.word (grammar.values_of (unwrap_or o [])))) found.1
-    ∙ ap (λ (v : grammar.Values). grammar.Fine (grammar.line_of c.args.word v)) (sym same) ∙ ap grammar.Fine (sym c.line_of.ensures)
+    ∙ ap (λ (v : grammar.Values). grammar.Fine (grammar.line_of c.args.word v)) (sym same) ∙ ap grammar.Fine (sym c.plain_line_of.ensures)

@@ -1,14 +1,15 @@
 -- Laws of lanes: from the bits of a comparison to a test of each byte, and operations lane by lane.
 use Rattle.std.proofs.Common.{◌≡◌, ℕ, zero, suc, ◌+◌, ◌-◌, ◌*◌, ◌/◌, ◌%◌, ◌^◌, ◌<◌, ◌≤◌, List, [], ◌∷◌, length, drop, get_or, map, eqb, nat_eq, refl, sym, ◌∙◌, ap, ap₂, arith, Bool, true, false, not, ◌&&◌, ◌||◌, cond, inl, inr, Fits, w8}
-use Rattle.std.specs.List.{list_all}
+use Rattle.std.specs.List.{list_all, prefix_len}
 use Rattle.std.specs.Char.{is_digit}
 use Rattle.std.proofs.lemmas.Bool.{agree_below, agree_below_at, ne_eqb, eq-eqb, and_parts, both_ways, cases_Bool, cases_lt, eqb-true}
 use Rattle.std.proofs.lemmas.List.{length-map}
 use Rattle.std.proofs.lemmas.List.Elements.{All-drop, All-from_get_or, All-take}
 use Rattle.std.proofs.lemmas.List.Sums.{AllPass-from_list_all, list_all-from_AllPass}
-use Rattle.std.proofs.lemmas.Simd.{get_or-chunk, length-chunk, map-map, mask_l-mod}
+use Rattle.std.proofs.lemmas.Simd.{first_set_mask_l, get_or-chunk, length-chunk, map-map, mask_l-mod}
 use lib.Lanes.{Each1, chunk, mask_l, sel_l, top}
 use Rattle.dml_grammar.specs.Digits.{worth}
+use Rattle.dml_grammar.specs.Lanes.{lowest_or}
 
 halves : (n : ℕ) → eqb (0 + 2 * n) 0 ≡ eqb n 0
 halves zero = refl
@@ -102,3 +103,17 @@ last_decides p xs step some past before =
           ])))
       | inr not_all ↦ not_all ∙ sym (part_fails p xs (length xs - 16) 16 not_all)
     ]
+
+map_agrees : (s p : ℕ → Bool) (v : List ℕ) → Each1 (Fits w8) v → ((x : ℕ) → x < 256 → s x ≡ p x) → map s v ≡ map p v
+map_agrees s p [] fits same = refl
+map_agrees s p (x ∷ v) fits same = ap₂ (λ (b : Bool) (bs : List Bool). b ∷ bs) (same x (fits.0).fits) (map_agrees s p v fits.1 same)
+
+-- the lowest bit of a comparison that was made lane by lane counts the bytes before the first that passes a test
+pub first_lane : (f : ℕ → ℕ) (p : ℕ → Bool) (v z : List ℕ) (r n : ℕ) → length v ≡ n → n ≤ 64 → Each1 (Fits w8) v → z ≡ map f v
+    → agree_below (λ x. top 7 (f x)) p 256 ≡ true → r ≡ lowest_or n (mask_l (map (top 7) z) % 2 ^ 64) → r ≡ prefix_len (λ x. not (p x)) v
+first_lane f p v z r n long few fits lanes all is =
+    let bits : map (top 7) z ≡ map p v =
+    ap (map (top 7)) lanes ∙ map-map (top 7) f v ∙ map_agrees (λ x. top 7 (f x)) p v fits (λ x low. agree_below_at (λ x. top 7 (f x)) p 256 x all low) in
+    let mask : mask_l (map (top 7) z) % 2 ^ 64 ≡ mask_l (map p v) =
+    ap (λ l. mask_l l % 2 ^ 64) bits ∙ mask_l-mod (map p v) 64 (omega (arith, length-map v p)) in
+    is ∙ ap (lowest_or n) mask ∙ first_set_mask_l p v n long few

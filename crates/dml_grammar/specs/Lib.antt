@@ -3,6 +3,7 @@ pub mod Faults
 pub mod FirstByte
 pub mod FirstFault
 pub mod Grammar
+pub mod Lanes
 pub mod Left
 pub mod Number
 pub mod NumberLines

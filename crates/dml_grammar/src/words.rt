@@ -1,11 +1,13 @@
 //! The lines of a text, and the words of a line.
 
-ghost use Rattle.std.specs.Prelude.{◌≡◌, ◌==◌, ◌<◌, ◌≤◌, ◌∷◌, [], MatchOption, length};
+ghost use Rattle.std.specs.Prelude.{◌≡◌, ◌==◌, ◌<◌, ◌≤◌, ◌∷◌, [], ℕ, MatchOption, length, slice_index, true, false};
 ghost use Rattle.std.specs.List.{position_or_len, prefix_len};
 ghost use Rattle.std.specs.Str.Lines.{lines, strip_carriage_return};
+ghost use Rattle.dml_grammar.specs.Lanes.{lowest_or};
 ghost use Rattle.dml_grammar.specs.Text as text_spec;
 
 use memchr::{memchr, memchr2};
+use std::simd::prelude::*;
 
 /// The length of the text before its first line feed.
 #[tactic(auto, using(crate::proofs::WordLemmas::first_byte_at))]
@@ -62,8 +64,36 @@ fn blank_len(text: &[u8]) -> usize
     n
 }
 
+/// The bytes of a step.
+const STEP: usize = 16;
+
 /// The most bytes of a word that are looked at one by one.
-const NEAR: usize = 24;
+const NEAR: usize = 32;
+
+/// The place of the lowest bit that is set; 16 where none is.
+#[inline(always)]
+fn lowest_bit(bits: u64) -> usize
+    ensures { result ≡ lowest_or 16 bits }
+{
+    if bits == 0 {
+        STEP
+    } else {
+        bits.trailing_zeros() as usize
+    }
+}
+
+/// How many of a text's first 16 bytes come before the first blank; 16 where none is one.
+#[inline(always)]
+fn first_blank(text: &[u8]) -> usize
+    requires { 16 ≤ length text.now }
+    ensures within { result ≤ 16 }
+    ensures before { (k : ℕ) → k < result → text_spec.is_blank (slice_index text.now k) ≡ false }
+    ensures here { result < 16 → text_spec.is_blank (slice_index text.now result) ≡ true }
+{
+    let bytes = u8x16::from_slice(text);
+    let blanks = bytes.simd_eq(u8x16::splat(b' ')) | bytes.simd_eq(u8x16::splat(b'\t'));
+    lowest_bit(blanks.to_bitmask())
+}
 
 /// How many bytes a text begins with that are no blanks, where they are many: a search by vectors.
 #[tactic(auto, using(crate::proofs::WordLemmas::first_blank_at))]
@@ -75,7 +105,8 @@ fn long_word_len(text: &[u8]) -> usize
     memchr2(b' ', b'\t', text).unwrap_or(text.len())
 }
 
-/// How many bytes a text begins with that are no blanks. Most words are short.
+/// How many bytes a text begins with that are no blanks. Most words are short, and end in the first step; those that do
+/// not, and those at the end of a line, go byte by byte.
 #[tactic(auto, using(crate::proofs::WordLemmas::position_or_len_at))]
 #[inline(always)]
 fn word_len(text: &[u8]) -> usize
@@ -83,7 +114,11 @@ fn word_len(text: &[u8]) -> usize
     ensures within { result ≤ length text.now }
 {
     let near = text.len().min(NEAR);
-    let mut n = 0;
+    let mut n = if text.len() < STEP {
+        0
+    } else {
+        first_blank(text)
+    };
     while n < near && !is_blank(text[n]) {
         n += 1;
     }

@@ -50,6 +50,11 @@ below_power radix ds i least within few all =
     let up : radix * (digits_value radix (take i ds) + 1) ≤ radix * radix ^ i = mul-le-mul_left radix (omega arith) in
     omega (arith, up)
 
+pub few_digits : (radix most : ℕ) (ds : List ℕ) → 0 < radix → length ds ≤ most → radix ^ most ≤ 2 ^ 64 → radix ^ length ds ≤ 2 ^ 64
+few_digits radix most ds some few fits =
+    let up : radix ^ length ds ≤ radix ^ most = pow-le-pow_right some few in
+    omega arith
+
 -- one digit more
 pub number_more : (radix : ℕ) (ds : List ℕ) (i n : ℕ) → radix ≤ 16 → i < length ds → worth (get_or ds i 0) < radix
     → list_all (λ c. is_digit c radix) (take i ds) ≡ true → n ≡ digits_value radix (take i ds)
@@ -60,14 +65,12 @@ number_more radix ds i n most within low all is =
       ap₂ (λ (a : ℕ) (b : ℕ). a * radix + b) is (sym digit.1) ∙ sym (digits_value_more radix ds i within),
     )
 
--- a byte that is no digit
-pub no_number : (radix : ℕ) (ds : List ℕ) (i : ℕ) → radix ≤ 16 → i < length ds → radix ≤ worth (get_or ds i 0) → None ≡ number_of radix ds
-no_number radix ds i most within high =
-    rw (list_all_at (λ c. is_digit c radix) ds i 0 within (no_digit_from_worth radix (get_or ds i 0) most high)) refl
+-- Decimal digits alone.
 
--- all digits
-pub whole_number : (radix : ℕ) (ds : List ℕ) (i n : ℕ) → length ds ≤ i → list_all (λ c. is_digit c radix) (take i ds) ≡ true → n ≡ digits_value radix (take i ds)
-    → Some n ≡ number_of radix ds
-whole_number radix ds i n past all is =
-    let same : take i ds ≡ ds = take_all i ds past in
-    rw (rw same at all, rw same at is) refl
+pub decimal_more : (ds : List ℕ) (i n value : ℕ) → i < length ds → is_digit (get_or ds i 0) 10 ≡ true → digit_value (get_or ds i 0) ≡ value
+    → list_all (λ c. is_digit c 10) (take i ds) ≡ true → n ≡ digits_value 10 (take i ds)
+    → (list_all (λ c. is_digit c 10) (take (i + 1) ds) ≡ true) × (n * 10 + value ≡ digits_value 10 (take (i + 1) ds))
+decimal_more ds i n value within digit worth all is = (
+  list_all_more (λ c. is_digit c 10) ds i 0 within ∙ rw (all, digit) refl,
+  ap₂ (λ (a : ℕ) (b : ℕ). a * 10 + b) is (sym worth) ∙ sym (digits_value_more 10 ds i within),
+)

@@ -1,4 +1,4 @@
--- Laws of numbers: those of few digits, that of 20 digits, and numbers up to a largest.
+-- Laws of numbers: that of 20 digits, and numbers up to a largest.
 use Rattle.std.proofs.Common.{◌≡◌, ℕ, ◌+◌, ◌*◌, ◌<◌, ◌≤◌, ◌^◌, List, [], ◌∷◌, length, get_or, take, drop, refl, sym, ◌∙◌, ap, ap₂, arith, Bool, true, false, ◌&&◌, if◌then◌else◌, Option, Some, None, inl, inr}
 use Rattle.std.specs.List.{list_all}
 use Rattle.std.specs.Char.{is_digit, digit_value}
@@ -15,31 +15,6 @@ use Rattle.dml_grammar.proofs.DigitLemmas.{all_digits}
 
 abbrev greatest : ℕ
 greatest = 0xffff_ffff_ffff_ffff
-
--- as many digits as may stand there
-pub right_length : (radix most : ℕ) (ds : List ℕ) → 0 < length ds → length ds ≤ most → digits_number radix most ds ≡ number_of radix ds
-right_length radix most ds some few = rw (lt-ltb 0 (length ds) some, le-leb (length ds) most few) refl
-
-pub no_digits : (radix most : ℕ) (ds : List ℕ) → length ds ≡ 0 → digits_number radix most ds ≡ None
-no_digits radix most ds none = rw (le-ltb 0 (length ds) (omega arith)) refl
-
-pub many_digits : (radix most : ℕ) (ds : List ℕ) → most < length ds → digits_number radix most ds ≡ None
-many_digits radix most ds many = rw (lt-ltb 0 (length ds) (omega arith), lt-leb (length ds) most many) refl
-
-pub few_enough : (radix k most : ℕ) → 0 < radix → k ≤ most → radix ^ most ≤ 2 ^ 64 → radix ^ k ≤ 2 ^ 64
-few_enough radix k most some few fits =
-    let up : radix ^ k ≤ radix ^ most = pow-le-pow_right some few in
-    omega arith
-
--- few digits write a number of 64 bits at most
-pub short_fits : (radix : ℕ) (ds : List ℕ) → radix ^ length ds ≤ 2 ^ 64 → at_most greatest (number_of radix ds) ≡ number_of radix ds
-short_fits radix ds few =
-    elim (cases_Bool (list_all (λ c. is_digit c radix) ds)) [
-      | inl all ↦
-          let below = digits_value-lt radix ds (all_digits radix ds all) in
-          rw all (rw (le-leb (digits_value radix ds) greatest (omega (arith, below))) refl)
-      | inr not_all ↦ rw not_all refl
-    ]
 
 one_digit : (c : ℕ) → number_of 10 (c ∷ []) ≡ (if is_digit c 10 then Some (digit_value c) else None)
 one_digit c =

@@ -1,6 +1,7 @@
 //! Digits, and the numbers that few of them write.
 
-ghost use Rattle.std.specs.Prelude.{◌≡◌, ◌≤◌, ◌^◌, length};
+ghost use Rattle.std.specs.Prelude.{◌≡◌, ◌<◌, ◌≤◌, length, nat_lt};
+ghost use Rattle.std.specs.Char.{digit_value, is_digit};
 ghost use Rattle.dml_grammar.specs.Digits as spec;
 
 /// What each byte is worth as a hexadecimal digit, in either case; 255 where it is none.
@@ -30,22 +31,46 @@ pub fn worth(byte: u8) -> u8
     WORTH[byte as usize]
 }
 
-/// The number that digits write, where there are so few that it has 64 bits at most. Each byte costs one look at a
-/// table, and no sum is tested.
+/// The number that at most 16 hexadecimal digits write: it always has 64 bits at most, so no step is tested. Each byte
+/// costs one look at a table.
 #[inline(always)]
-pub fn short_number(radix: u8, digits: &[u8]) -> Option<u64>
-    requires least { 2 ≤ radix }
-    requires most { radix ≤ 16 }
-    requires few { radix ^ length digits.now ≤ 2 ^ 64 }
-    ensures { result ≡ spec.number_of radix digits.now }
+pub fn short_hexadecimal(digits: &[u8]) -> Option<u64>
+    requires { length digits.now ≤ 16 }
+    ensures { result ≡ spec.number_of 16 digits.now }
 {
     let mut number = 0;
     for digit in digits {
         let value = worth(*digit);
-        if value >= radix {
+        if value >= 16 {
             return None;
         }
-        number = number * u64::from(radix) + u64::from(value);
+        number = number * 16 + u64::from(value);
+    }
+    Some(number)
+}
+
+/// What a byte is worth as a decimal digit; 10 or more where it is none.
+#[inline(always)]
+fn decimal_worth(byte: u8) -> u8
+    ensures digit { nat_lt result 10 ≡ is_digit byte 10 }
+    ensures value { result < 10 → digit_value byte ≡ result }
+{
+    byte.wrapping_sub(b'0')
+}
+
+/// The number that at most 19 decimal digits write: it always has 64 bits at most, so no step is tested.
+#[inline(always)]
+pub fn short_decimal(digits: &[u8]) -> Option<u64>
+    requires { length digits.now ≤ 19 }
+    ensures { result ≡ spec.number_of 10 digits.now }
+{
+    let mut number = 0;
+    for digit in digits {
+        let value = decimal_worth(*digit);
+        if value >= 10 {
+            return None;
+        }
+        number = number * 10 + u64::from(value);
     }
     Some(number)
 }

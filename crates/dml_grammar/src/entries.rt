@@ -27,6 +27,7 @@ fn slot_of(part: Part) -> Slot
 }
 
 /// The word that has to come next, and what follows it.
+#[inline(always)]
 fn word_after(line: &[u8]) -> Option<(Option<&[u8]>, &[u8])>
     ensures { option_map (λ t. (word_seen t.0, words t.1.now)) result ≡ grammar.word_after (words line.now) }
 {
@@ -35,6 +36,7 @@ fn word_after(line: &[u8]) -> Option<(Option<&[u8]>, &[u8])>
 }
 
 /// What a part takes of a line's words, and what follows; None where its word is missing.
+#[inline(always)]
 fn taken(part: Part, line: &[u8]) -> Option<(Option<&[u8]>, &[u8])>
     ensures { option_map (λ t. (word_seen t.0, words t.1.now)) result ≡ grammar.taken part (words line.now) }
 {

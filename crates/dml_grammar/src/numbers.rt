@@ -5,7 +5,7 @@ ghost use Rattle.std.specs.Option.{option_map};
 ghost use Rattle.dml_grammar.specs.Digits.{number_of};
 ghost use Rattle.dml_grammar.specs.Number as spec;
 
-use crate::digits::short_number;
+use crate::digits::{short_decimal, short_hexadecimal};
 use crate::hexadecimal::decode_into;
 use std::alloc::{AllocError, Global};
 
@@ -17,8 +17,8 @@ fn long_number(digits: &[u8]) -> Option<u64>
     ensures { result ≡ spec.at_most 0xffff_ffff_ffff_ffff (number_of 10 digits.now) }
 {
     let (front, last) = digits.split_at(19);
-    let front = short_number(10, front)?;
-    let last = short_number(10, last)?;
+    let front = short_decimal(front)?;
+    let last = short_decimal(last)?;
     front.checked_mul(10)?.checked_add(last)
 }
 
@@ -27,7 +27,7 @@ fn decimal_number(digits: &[u8]) -> Option<u64>
     ensures { result ≡ spec.at_most 0xffff_ffff_ffff_ffff (spec.digits_number 10 20 digits.now) }
 {
     match digits.len() {
-        1..=19 => short_number(10, digits),
+        1..=19 => short_decimal(digits),
         20 => long_number(digits),
         _ => None,
     }
@@ -38,7 +38,7 @@ fn hexadecimal_number(digits: &[u8]) -> Option<u64>
     ensures { result ≡ spec.at_most 0xffff_ffff_ffff_ffff (spec.digits_number 16 16 digits.now) }
 {
     match digits.len() {
-        1..=16 => short_number(16, digits),
+        1..=16 => short_hexadecimal(digits),
         _ => None,
     }
 }

@@ -4,14 +4,12 @@ use Rattle.std.specs.List.{list_all}
 use Rattle.std.specs.Char.{is_digit, digit_value}
 use Rattle.std.specs.Option.{option_map, option_and_then, SomeIff}
 use Rattle.std.specs.Str.Parse.{digits_value}
-use Rattle.std.proofs.Math.Nat.{pow-le-pow_right}
-use Rattle.std.proofs.lemmas.Bool.{lt-ltb, le-ltb, lt-leb, le-leb, cases_lt, cases_Bool}
-use Rattle.std.proofs.lemmas.Int.Digits.{digits_value-lt, digits_value_more}
+use Rattle.std.proofs.lemmas.Bool.{lt-leb, le-leb, cases_lt, cases_Bool}
+use Rattle.std.proofs.lemmas.Int.Digits.{digits_value_more}
 use Rattle.std.proofs.lemmas.List.{take_all, drop_all, drop_more}
 use Rattle.std.proofs.lemmas.List.Folds.{list_all_more}
 use Rattle.dml_grammar.specs.Digits.{number_of}
-use Rattle.dml_grammar.specs.Number.{at_most, digits_number}
-use Rattle.dml_grammar.proofs.DigitLemmas.{all_digits}
+use Rattle.dml_grammar.specs.Number.{at_most}
 
 abbrev greatest : ℕ
 greatest = 0xffff_ffff_ffff_ffff

@@ -1,11 +1,10 @@
 -- Laws of lines all of whose slots are numbers.
-use Rattle.std.proofs.Common.{◌≡◌, ℕ, List, [], ◌∷◌, ◌++◌, map, refl, sym, ◌∙◌, ap, ap₂, Bool, true, false, Option, Some, None}
+use Rattle.std.proofs.Common.{◌≡◌, ℕ, List, [], ◌∷◌, map, refl, sym, ◌∙◌, ap, ap₂, Bool, true, false, Option, Some, None}
 use Rattle.std.specs.List.{flat_map, list_all}
 use Rattle.std.proofs.lemmas.List.Folds.{list_all-map}
 use Rattle.dml_grammar.specs.declared.faults.Kind.{Kind}
 use Rattle.dml_grammar.specs.declared.faults.Kind.TheVariants.{BadRange}
 use Rattle.dml_grammar.specs.declared.lines.Line.{Line}
-use Rattle.dml_grammar.specs.declared.table.Slot.{Slot}
 use Rattle.dml_grammar.specs.declared.table.Slot.TheVariants.{Number, Digits}
 use Rattle.dml_grammar.specs.declared.table.Word.{Word}
 use Rattle.dml_grammar.specs.declared.table.Word.TheVariants as word

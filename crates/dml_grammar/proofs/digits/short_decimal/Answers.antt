@@ -1,5 +1,5 @@
-use Rattle.std.proofs.Common.{◌≡◌, ◌<◌, ◌≤◌, ◌*◌, ◌+◌, ◌^◌, ◌∙◌, sym, arith, length, get_or, true}
-use Rattle.std.proofs.lemmas.Bool.{lt-ltb, le-ltb}
+use Rattle.std.proofs.Common.{◌≡◌, ◌≤◌, ◌*◌, ◌+◌, ◌^◌, ◌∙◌, sym, arith, get_or, true}
+use Rattle.std.proofs.lemmas.Bool.{lt-ltb}
 use Rattle.std.specs.Char.{is_digit}
 use Rattle.dml_grammar.proofs.DigitLemmas.{below_power, decimal_more, few_digits}
 use Rattle.dml_grammar.proofs.digits.short_decimal.Goals as goal

@@ -1,4 +1,4 @@
-use Rattle.std.proofs.Common.{◌≡◌, ◌<◌, ◌≤◌, ◌*◌, ◌+◌, ◌^◌, get_or, arith}
+use Rattle.std.proofs.Common.{◌<◌, ◌≤◌, ◌*◌, ◌+◌, ◌^◌, get_or, arith}
 use Rattle.dml_grammar.specs.Digits.{worth}
 use Rattle.dml_grammar.proofs.DigitLemmas.{below_power, few_digits, number_more}
 use Rattle.dml_grammar.proofs.digits.short_hexadecimal.Goals as goal

@@ -1,4 +1,4 @@
-use Rattle.std.proofs.Common.{◌≡◌, ◌*◌, length}
+use Rattle.std.proofs.Common.{◌≡◌, length}
 use Rattle.dml_grammar.specs.Digits.{HasPairs}
 use Rattle.dml_grammar.proofs.hexadecimal.decode_into.Given as goal
 

@@ -1,4 +1,4 @@
-use Rattle.std.proofs.Common.{◌*◌, ◌∙◌, ap, sym, arith, get_or}
+use Rattle.std.proofs.Common.{◌*◌, ◌∙◌, sym, arith}
 use Rattle.std.proofs.lemmas.Simd.{length-chunk, length-put_chunk}
 use Rattle.std.specs.Char.{is_digit}
 use Rattle.dml_grammar.proofs.LaneLemmas.{part_fails}

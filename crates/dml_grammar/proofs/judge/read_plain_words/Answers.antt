@@ -1,6 +1,6 @@
-use Rattle.std.proofs.Common.{◌≡◌, List, Some, Option, [], false, sym, ap, ◌∙◌, subst, unwrap_or}
+use Rattle.std.proofs.Common.{Option, [], sym, ap, ◌∙◌, subst, unwrap_or}
 use Rattle.dml_grammar.specs.Grammar as grammar
-use Rattle.dml_grammar.specs.Reads.{HasSizes, values_seen}
+use Rattle.dml_grammar.specs.Reads.{HasSizes}
 use Rattle.dml_grammar.specs.Table.{parts_of}
 use Rattle.dml_grammar.specs.Text.{words}
 use Rattle.dml_grammar.proofs.LineLemmas.{Entries, sizes_of_fitted}

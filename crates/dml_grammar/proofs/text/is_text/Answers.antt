@@ -1,4 +1,4 @@
-use Rattle.std.proofs.Common.{◌*◌, ◌-◌, ◌∙◌, length, sym, arith}
+use Rattle.std.proofs.Common.{◌*◌, ◌∙◌, sym, arith}
 use Rattle.dml_grammar.specs.Text.{is_text}
 use Rattle.dml_grammar.proofs.LaneLemmas.{last_decides, part_fails, passes_more}
 use Rattle.dml_grammar.proofs.text.is_text.Goals as goal

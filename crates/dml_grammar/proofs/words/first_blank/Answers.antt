@@ -1,6 +1,5 @@
-use Rattle.std.proofs.Common.{◌≡◌, ◌≤◌, ◌+◌, ℕ, length, not, refl, arith}
+use Rattle.std.proofs.Common.{◌≡◌, ◌+◌, ℕ, refl, arith}
 use Rattle.std.proofs.lemmas.Simd.{chunk-fits, length-chunk, run_in_chunk_fails, run_in_chunk_le, run_in_chunk_stops, zip2_of_maps, zip2_splat}
-use Rattle.std.specs.List.{prefix_len}
 use lib.Lanes.{chunk}
 use mir.Syntax.{w8}
 use Rattle.dml_grammar.specs.Text.{is_blank}

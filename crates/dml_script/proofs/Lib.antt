@@ -1,9 +1,11 @@
 pub mod BatchLemmas
 pub mod AnswerLawLemmas
 pub mod BytesLemmas
+pub mod DigitLemmas
 pub mod FitLemmas
 pub mod FollowLemmas
 pub mod ListLemmas
 pub mod RunLemmas
 pub mod SessionLemmas
+pub mod ShowLemmas
 pub mod TextLemmas

@@ -3,11 +3,9 @@ use Rattle.std.proofs.Common.{◌≡◌, ℕ, suc, ◌+◌, ◌^◌, ◌<◌, �
 use Rattle.std.proofs.lemmas.List.{length-map, map-append}
 use Rattle.std.specs.Io.KnownBytes.{Appends}
 use Rattle.dml_types.specs.declared.jobs.Job.{Job}
-use Rattle.dml_types.specs.declared.records.BatchRecord.{BatchRecord}
 use Rattle.dml_types.specs.declared.records.Record.{Record}
 use Rattle.dml_types.specs.Memory.{Memory}
-use Rattle.dml_types.specs.Step.{batch, batch_answer, memory_after, records_of}
-use Rattle.dml_types.proofs.StepLemmas.{length_records_of}
+use Rattle.dml_types.specs.Step.{batch, memory_after, records_of}
 use Rattle.dml_grammar.specs.declared.lines.Line.{Line}
 use Rattle.dml_grammar.specs.declared.lines.Line.TheVariants as line
 use Rattle.dml_script.specs.AnswerLaws.{after_lines, batch_lines, batch_text, job_lines}

@@ -4,6 +4,7 @@ pub use Rattle.dml_grammar.specs.Grammar
 pub use Rattle.dml_grammar.specs.Left
 pub use Rattle.dml_grammar.specs.Reads
 pub mod AnswerLaws
+pub mod Lines
 pub mod Output
 pub mod Run
 pub mod Runnable

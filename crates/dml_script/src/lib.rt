@@ -2,12 +2,14 @@
 //! `dml_grammar`, whose names are handed on.
 #![tactic(auto)]
 
+mod digits;
 mod input;
 mod items;
 mod laws;
 mod lists;
 mod running;
 mod sessions;
+mod shows;
 mod texts;
 mod watching;
 mod writing;

@@ -1,18 +1,18 @@
 //! A script's lines carried out on an engine: successive jobs in lists, batches whole, other lines one by one.
 
-ghost use Rattle.std.specs.Prelude.{◌≡◌, ◌≢◌, ◌+◌, ◌-◌, ◌%◌, ◌^◌, ◌<◌, ◌≤◌, ◌∷◌, ◌++◌, false, true, length, map, replicate, Err, None, Some, IfOk, IsErrOf, OnOk, OnErr};
+ghost use Rattle.std.specs.Prelude.{◌≡◌, ◌≢◌, ◌<◌, ◌≤◌, ◌∷◌, false, true, length, Err, None, IfOk, IsErrOf, OnOk, OnErr};
 ghost use Rattle.dml_image.specs.Brought.{brought, padded};
-ghost use Rattle.dml_script.specs.Run.{IsInPage, after_line, answer_of, item_of, lines_from, outside, shown_bytes};
+ghost use Rattle.dml_script.specs.Run.{added_text, after_line, answer_of, item_of, lines_from, outside};
 ghost use Rattle.dml_script.specs.Runnable.{Fits, IsAlone, MayCome};
 ghost use Rattle.dml_script.specs.Watching.{has_failed, WritesFront, WritesUpTo};
 
-use crate::items::{Item, Shown};
 use crate::lists::{MOST_JOBS, answer_batch, answer_jobs, gather};
+use crate::shows::shown_line;
 use crate::watching::Watched;
-use crate::writing::{AnswerError, write_item};
+use crate::writing::{AnswerError, write_all};
 use dml_engine::Engine;
 use dml_grammar::{Line, ScriptLines};
-use dml_image::{Image, PAGE_SIZE};
+use dml_image::PAGE_SIZE;
 use dml_types::{Job, Record};
 use std::alloc::{AllocError, Global};
 use std::io::Write;
@@ -164,17 +164,19 @@ impl Session {
             (answer_of self.old (line.now ∷ lines.old))) }
         ensures failed { IsErrOf result AnswerError.Write → has_failed writer.new ≡ true }
     {
-        let item = self.take(alloc, line)?;
-        write_item(alloc, item, writer)?;
+        let text = self.take(alloc, line)?;
+        write_all(writer, &text)?;
         Ok(lines.next_line(alloc)?)
     }
 
-    /// Takes a line that is neither the first nor a job's nor a batch's. Where memory is refused, all is as it was.
-    fn take(&mut self, alloc: Global, line: &Line) -> Result<Option<Item>, AllocError>
+    /// Takes a line that is neither the first nor a job's nor a batch's, and answers the text that it adds. Where memory
+    /// is refused, all is as it was.
+    fn take(&mut self, alloc: Global, line: &Line) -> Result<Vec<u8>, AllocError>
         requires alone { IsAlone line.now }
         requires outside { self.old.session.batch ≡ None }
         requires fits { Fits self.old.session line.now }
-        ensures item { IfOk result (λ item. item ≡ item_of self.old.staging self.old.session line.now) }
+        ensures text { IfOk result (λ text. text.items
+            ≡ added_text (item_of self.old.staging self.old.session line.now)) }
         ensures after { IfOk result (λ _. self.new.session ≡ after_line self.old.staging self.old.session line.now) }
         ensures staging { self.new.staging ≡ self.old.staging }
         ensures unchanged { OnErr result (self.new.session ≡ self.old.session) }
@@ -183,12 +185,11 @@ impl Session {
             Line::Page { page, bytes } => self.bring(*page, &bytes.list)?,
             Line::Poke { addr, bytes } => self.engine.write(*addr, &bytes.list),
             Line::Show { addr, len } => {
-                let bytes = shown(alloc, self.engine.image(), *addr, *len as usize)?;
-                return Ok(Some(Item::Show { addr: *addr, bytes }));
+                return shown_line(alloc, self.engine.image(), *addr, *len);
             }
             Line::Image { .. } | Line::Job(_) | Line::Batch | Line::End => unreachable!(),
         }
-        Ok(None)
+        Ok(Vec::new(alloc))
     }
 
     /// Brings a page: these bytes, and then zeros.
@@ -214,70 +215,4 @@ fn page_content(bytes: &[u8]) -> [u8; PAGE_SIZE]
     let mut content = [0; PAGE_SIZE];
     content[..bytes.len()].copy_from_slice(bytes);
     content
-}
-
-/// What a range shows, page by page.
-fn shown(alloc: Global, image: &Image, addr: u64, len: usize) -> Result<Shown, AllocError>
-    requires { addr + len ≤ 2 ^ 64 }
-    ensures { IfOk result (λ shown. shown ≡ shown_bytes image.now addr len) }
-{
-    let mut list = Vec::with_capacity(alloc, len)?;
-    let mut done = 0;
-    while done < len {
-        let (at, count) = next_part(addr, len, done);
-        push_part(&mut list, image, at, count)?;
-        done += count;
-    }
-    Ok(Shown { list })
-}
-
-/// The part of a range behind its first `done` bytes that is in one page: where it begins, and its length.
-fn next_part(addr: u64, len: usize, done: usize) -> (u64, usize)
-    requires inside { addr + len ≤ 2 ^ 64 }
-    requires left { done < len }
-    ensures place { result.0 ≡ addr + done }
-    ensures in_page { IsInPage result.0 result.1 }
-    ensures some { 0 < result.1 }
-    ensures within { done + result.1 ≤ len }
-{
-    let at = addr + done as u64;
-    (at, (len - done).min(PAGE_SIZE - at as usize % PAGE_SIZE))
-}
-
-/// Adds what a range in one page shows.
-#[tactic(auto, using(crate::proofs::SessionLemmas::present_shown, crate::proofs::SessionLemmas::absent_shown))]
-fn push_part(
-    list: &mut Vec<Option<u8>>,
-    image: &Image,
-    addr: u64,
-    len: usize,
-) -> Result<(), AllocError>
-    requires { IsInPage addr len }
-    ensures { OnOk result (list.new.items ≡ list.old.items ++ shown_bytes image.now addr len) }
-{
-    if image.has(addr) {
-        push_present(list, image.part(addr, len as u32))
-    } else {
-        push_absent(list, len)
-    }
-}
-
-/// Adds present bytes.
-fn push_present(list: &mut Vec<Option<u8>>, bytes: &[u8]) -> Result<(), AllocError>
-    ensures { OnOk result (list.new.items ≡ list.old.items ++ map (λ byte. Some byte) bytes.now) }
-{
-    for byte in bytes {
-        list.push(Some(*byte))?;
-    }
-    Ok(())
-}
-
-/// Adds None for so many absent bytes.
-fn push_absent(list: &mut Vec<Option<u8>>, count: usize) -> Result<(), AllocError>
-    ensures { OnOk result (list.new.items ≡ list.old.items ++ replicate count None) }
-{
-    for _ in 0..count {
-        list.push(None)?;
-    }
-    Ok(())
 }

@@ -1,0 +1,8 @@
+use Rattle.dml_script.proofs.DigitLemmas.{pair_at}
+use Rattle.dml_script.proofs.digits.pair_digits.Goals as goal
+
+pub returns-clause-tens : goal.returns-clause-tens
+returns-clause-tens c = (pair_at c.args.number c.requires).0
+
+pub returns-clause-ones : goal.returns-clause-ones
+returns-clause-ones c = (pair_at c.args.number c.requires).1

@@ -1,6 +1,6 @@
 -- What reads and writes, one after another, do to known bytes.
-use Rattle.std.proofs.Common.{◌≡◌, ℕ, ◌<◌, List, [], ◌++◌, length, take, drop, Option, None, Some, IfSome, Result, Ok, Err, OnOk, OnErr, refl, sym, ap, subst, ◌∙◌, append_assoc, append-nil, arith, length-append}
-use Rattle.std.proofs.lemmas.List.{take-append-drop}
+use Rattle.std.proofs.Common.{◌≡◌, ℕ, ◌-◌, ◌<◌, List, [], ◌++◌, length, take, drop, Option, None, Some, IfSome, Result, Ok, Err, OnOk, OnErr, refl, sym, ap, subst, ◌∙◌, append_assoc, append-nil, arith, length-append}
+use Rattle.std.proofs.lemmas.List.{take-append-drop, take_rest}
 use Rattle.std.proofs.KnownBytes.{Appends-trans, Appends-kept, Appends-nil, Consumes-trans, Consumes-whole}
 use Rattle.std.specs.Io.KnownBytes.{Appends, Consumes, IsAtEnd, Keeps}
 use Rattle.dml_script.specs.Watching.{AppendsFront, IsWritten}
@@ -84,3 +84,7 @@ then_ok (Err e) P Q f h = tt
 pub then_err : {T E : Type 0} (r : Result T E) (P Q : Type 0) → (P → Q) → OnErr r P → OnErr r Q
 then_err (Ok x) P Q f h = tt
 then_err (Err e) P Q f h = f h
+
+-- what stands from a place of a buffer on
+pub behind : (buffer : List ℕ) (at size : ℕ) → length buffer ≡ size → take (size - at) (drop at buffer) ≡ drop at buffer
+behind buffer at size long = ap (λ size. take (size - at) (drop at buffer)) (sym long) ∙ take_rest buffer at

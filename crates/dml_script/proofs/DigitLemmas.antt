@@ -72,3 +72,11 @@ pub digit_put : (xs : List ℕ) (end n : ℕ) → n < 10 → 1 ≤ end → end �
 digit_put xs end n low room within =
     let last : end - 1 + 1 ≡ end = omega arith in
     drop-set xs (end - 1) (48 + n) (omega arith) ∙ ap (λ k. (48 + n) ∷ drop k xs) last ∙ ap (λ l. l ++ drop end xs) (sym (decimal_digit n low))
+
+-- The parts of a line, as they are written and as its definition has them.
+
+pub regrouped : (a b c d e : List ℕ) → a ++ (b ++ (c ++ (d ++ e))) ≡ (a ++ b ++ c ++ d) ++ e
+regrouped a b c d e = simp append_assoc
+
+pub batch_regrouped : (a b c d e : List ℕ) → a ++ (b ++ (c ++ (d ++ e))) ≡ (a ++ b) ++ (c ++ d ++ e)
+batch_regrouped a b c d e = simp append_assoc

@@ -88,6 +88,20 @@ fn pair_digits(number: u64) -> (u8, u8)
     (PAIRS[from], PAIRS[from + 1])
 }
 
+/// Puts the two hexadecimal digits of a byte before a place of a buffer, and answers where they begin.
+#[inline(always)]
+pub fn put_byte(buffer: &mut [u8], end: usize, byte: u8) -> usize
+    requires room { 2 ≤ end }
+    requires within { end ≤ length buffer.old }
+    ensures place { result + 2 ≡ end }
+    ensures written { drop result buffer.new ≡ byte_text byte ++ drop end buffer.old }
+{
+    let (high, low) = byte_digits(byte);
+    buffer[end - 2] = high;
+    buffer[end - 1] = low;
+    end - 2
+}
+
 /// Puts the two hexadecimal digits of each byte. The loop has no branch, so that it goes by vectors.
 pub fn put_bytes(text: &mut [u8], bytes: &[u8])
     requires { length text.old ≡ 2 * length bytes.now }

@@ -6,6 +6,7 @@ mod digits;
 mod input;
 mod items;
 mod laws;
+mod lines;
 mod lists;
 mod running;
 mod sessions;

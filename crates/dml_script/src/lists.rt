@@ -7,9 +7,8 @@ ghost use Rattle.dml_script.specs.AnswerLaws.{batch_text, job_lines};
 ghost use Rattle.dml_script.specs.Run.{IsJobLine, lines_from};
 ghost use Rattle.dml_script.specs.Watching.{has_failed, Writes, WritesFront};
 
-use crate::items::Item;
 use crate::watching::Watched;
-use crate::writing::{AnswerError, write_item, write_records};
+use crate::writing::{AnswerError, write_batch, write_records};
 use dml_engine::Engine;
 use dml_grammar::{Line, ScriptLines};
 use dml_types::{Job, Record};
@@ -72,7 +71,7 @@ pub fn answer_jobs<T: Threads + Wait + Sync, W: Write>(
     records.clear();
     records.reserve(jobs.len())?;
     engine.submit_into(rt, alloc, jobs, records);
-    write_records(alloc, number, records, writer)
+    write_records(number, records, writer)
 }
 
 /// Carries out a batch, and writes the lines of its jobs' records, numbered from a number on, and its own.
@@ -97,6 +96,6 @@ pub fn answer_batch<T: Threads + Wait + Sync, W: Write>(
     ensures failed { IsErrOf result AnswerError.Write → has_failed writer.new ≡ true }
 {
     let (answer, records) = engine.submit_batch(rt, alloc, jobs)?;
-    write_records(alloc, number, &records, writer)?;
-    write_item(alloc, Some(Item::Batch { answer }), writer)
+    write_records(number, &records, writer)?;
+    write_batch(&answer, writer)
 }

@@ -3,17 +3,16 @@
 ghost use Rattle.std.specs.Prelude.{◌≡◌, ◌≢◌, ◌+◌, ◌^◌, ◌<◌, ◌≤◌, [], false, true, length, take, Err, IfErr, IfOk, IsErrOf, OnOk, OnErr};
 ghost use Rattle.std.specs.Io.KnownBytes.{Keeps};
 ghost use Rattle.dml_script.specs.AnswerLaws.{job_lines};
-ghost use Rattle.dml_script.specs.Run.{added_text};
+ghost use Rattle.dml_script.specs.Output.{batch_line, job_line};
 ghost use Rattle.dml_script.specs.Watching.{inner_of, has_failed, is_flushed, Writes, WritesFront};
 
-use crate::items::Item;
+use crate::lines::{RECORD_ROOM, put_batch, put_record};
 use crate::running::RunFault;
-use crate::texts::{TextError, out_text};
 use crate::watching::Watched;
 use dml_engine::{EngineError, SubmitError};
 use dml_image::{Image, ImageError};
-use dml_types::Record;
-use std::alloc::{AllocError, Global};
+use dml_types::{BatchRecord, Record};
+use std::alloc::AllocError;
 use std::io::Write;
 
 /// Why an answer was not written to its end.
@@ -31,17 +30,6 @@ impl From<AllocError> for AnswerError {
     ghost from_gives = { λ _ e. e ≡ NoMemory };
 
     fn from(_error: AllocError) -> AnswerError {
-        AnswerError::NoMemory
-    }
-}
-
-impl From<TextError> for AnswerError {
-    ghost use Rattle.std.specs.Prelude.{◌≡◌};
-    ghost use Rattle.dml_script.specs.declared.writing.AnswerError.TheVariants.{NoMemory};
-
-    ghost from_gives = { λ _ e. e ≡ NoMemory };
-
-    fn from(_error: TextError) -> AnswerError {
         AnswerError::NoMemory
     }
 }
@@ -81,9 +69,8 @@ impl From<SubmitError> for AnswerError {
     }
 }
 
-/// Writes the lines of records, numbered from a number on.
+/// Writes the lines of records, numbered from a number on. They are made one after another in one buffer.
 pub fn write_records<W: Write>(
-    alloc: Global,
     first: u32,
     records: &[Record],
     writer: &mut Watched<W>,
@@ -93,34 +80,49 @@ pub fn write_records<W: Write>(
     ensures ok { OnOk result (Writes W.contents writer.old writer.new (job_lines first records.now)) }
     ensures passed { result ≢ Err AnswerError.Write → has_failed writer.new ≡ false }
     ensures front { OnErr result (WritesFront W.contents writer.old writer.new (job_lines first records.now)) }
-    ensures failed { IsErrOf result AnswerError.Write → has_failed writer.new ≡ true }
+    ensures failed { OnErr result (has_failed writer.new ≡ true) }
 {
+    let mut line = [0; RECORD_ROOM];
     let mut number = first;
     for answer in records {
         let answer = *answer;
-        write_item(alloc, Some(Item::Job { number, answer }), writer)?;
+        write_record(&mut line, number, &answer, writer)?;
         number += 1;
     }
     Ok(())
 }
 
-/// Writes the text of an item, if there is one.
-pub fn write_item<W: Write>(
-    alloc: Global,
-    item: Option<Item>,
+/// Writes the line of a job's record, which is made in this buffer. The one error is `Write`.
+fn write_record<W: Write>(
+    line: &mut [u8; RECORD_ROOM],
+    number: u32,
+    answer: &Record,
     writer: &mut Watched<W>,
 ) -> Result<(), AnswerError>
-    requires writer { has_failed writer.old ≡ false }
-    ensures ok { OnOk result (Writes W.contents writer.old writer.new (added_text item)) }
+    requires { has_failed writer.old ≡ false }
+    ensures ok { OnOk result (Writes W.contents writer.old writer.new (job_line number answer.now)) }
     ensures passed { result ≢ Err AnswerError.Write → has_failed writer.new ≡ false }
-    ensures front { OnErr result (WritesFront W.contents writer.old writer.new (added_text item)) }
-    ensures failed { IsErrOf result AnswerError.Write → has_failed writer.new ≡ true }
+    ensures front { OnErr result (WritesFront W.contents writer.old writer.new (job_line number answer.now)) }
+    ensures failed { OnErr result (has_failed writer.new ≡ true) }
 {
-    let Some(item) = item else {
-        return Ok(());
-    };
-    let text = out_text(alloc, &item)?;
-    write_all(writer, text.as_bytes())
+    let at = put_record(line, number, answer);
+    write_all(writer, &line[at..])
+}
+
+/// Writes the line of a batch's record. The one error is `Write`.
+pub fn write_batch<W: Write>(
+    answer: &BatchRecord,
+    writer: &mut Watched<W>,
+) -> Result<(), AnswerError>
+    requires { has_failed writer.old ≡ false }
+    ensures ok { OnOk result (Writes W.contents writer.old writer.new (batch_line answer.now)) }
+    ensures passed { result ≢ Err AnswerError.Write → has_failed writer.new ≡ false }
+    ensures front { OnErr result (WritesFront W.contents writer.old writer.new (batch_line answer.now)) }
+    ensures failed { OnErr result (has_failed writer.new ≡ true) }
+{
+    let mut line = [0; RECORD_ROOM];
+    let at = put_batch(&mut line, answer);
+    write_all(writer, &line[at..])
 }
 
 /// Writes all of some bytes, and flushes the writer.

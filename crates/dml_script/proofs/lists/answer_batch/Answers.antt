@@ -33,23 +33,23 @@ returns-clause-ok g c =
     let done = batch c.args.engine.now.image c.args.jobs.now c.args.engine.now.settings.staging in
     let before = g.W.Write.contents (inner_of c.args.writer.now) in
     let between = g.W.Write.contents (inner_of c.write_records.new.writer) in
-    let now = g.W.Write.contents (inner_of c.write_item.new.writer) in
+    let now = g.W.Write.contents (inner_of c.write_batch.new.writer) in
     let same = c.deref.ensures.value ∙ c.in_ok-answer.ensures.records in
     let records = subst (λ (records : List Record). Appends before between (job_lines c.args.number records)) same c.in_ok-write_records.ensures.ok in
     then_ok _ _ _
     (λ wrote. Appends-trans before between now (job_lines c.args.number done.2) (batch_line done.1) records
     (subst (λ (answer : BatchRecord). Appends between now (batch_line answer)) c.in_ok-answer.ensures.answer wrote))
-    c.write_item.ensures.ok
+    c.write_batch.ensures.ok
 
 pub returns-clause-front : goal.returns-clause-front
 returns-clause-front g c =
     let done = batch c.args.engine.now.image c.args.jobs.now c.args.engine.now.settings.staging in
     let before = g.W.Write.contents (inner_of c.args.writer.now) in
     let between = g.W.Write.contents (inner_of c.write_records.new.writer) in
-    let now = g.W.Write.contents (inner_of c.write_item.new.writer) in
+    let now = g.W.Write.contents (inner_of c.write_batch.new.writer) in
     let same = c.deref.ensures.value ∙ c.in_ok-answer.ensures.records in
     let records = subst (λ (records : List Record). Appends before between (job_lines c.args.number records)) same c.in_ok-write_records.ensures.ok in
     then_err _ _ _
     (λ wrote. front_after before between now (job_lines c.args.number done.2) (batch_line done.1) records
     (subst (λ (answer : BatchRecord). AppendsFront between now (batch_line answer)) c.in_ok-answer.ensures.answer wrote))
-    c.write_item.ensures.front
+    c.write_batch.ensures.front

@@ -9,5 +9,6 @@ pub mod LoopLemmas
 pub mod PlanFacts
 pub mod StepFacts
 pub mod ReplayLemmas
+pub mod GatherLemmas
 pub mod RoundLemmas
 pub mod JoinFacts

@@ -1,6 +1,7 @@
 pub mod Types
 pub mod Plan
 pub mod World
+pub mod Gather
 pub mod Replay
 pub mod Waves
 pub mod Laws

@@ -3,6 +3,7 @@
 
 mod carrying;
 mod errors;
+mod gathering;
 mod laws;
 mod lists;
 mod planning;

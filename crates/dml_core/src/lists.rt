@@ -19,6 +19,7 @@ impl Model for SentJobs {
 
 impl SentJobs {
     ghost use Rattle.std.specs.Prelude.{◌≡◌, ◌++◌, ◌∷◌, [], OnErr, OnOk};
+    ghost use Rattle.dml_core.specs.Gather.{shorter};
 
     /// None yet.
     pub(crate) fn new(alloc: Global) -> SentJobs
@@ -36,6 +37,13 @@ impl SentJobs {
     {
         self.list.push(job)?;
         Ok(())
+    }
+
+    /// Takes back the last job.
+    pub(crate) fn take_back(&mut self)
+        ensures { self.new ≡ shorter self.old }
+    {
+        self.list.truncate(self.list.len().saturating_sub(1));
     }
 
     /// The jobs.

@@ -18,7 +18,7 @@ use dml_types::{Job, Settings};
 use std::alloc::{AllocError, Global};
 
 /// The most fetched jobs that are not committed.
-const MAX_OPEN: usize = 1024;
+pub(crate) const MAX_OPEN: usize = 1024;
 
 /// Why a step is not taken.
 #[derive(Clone, Copy, PartialEq, Eq)]
@@ -189,13 +189,17 @@ impl World {
 
 /// The waves of a plan, and the tasks of the first.
 #[derive(Drop)]
-struct Outset {
-    waves: Vec<Places>,
-    tasks: Vec<Task>,
+pub(crate) struct Outset {
+    pub(crate) waves: Vec<Places>,
+    pub(crate) tasks: Vec<Task>,
 }
 
 /// The waves of the fetched jobs that are not committed, and the tasks of the first.
-fn set_out(alloc: Global, fetched: &[Fetched], settings: &Settings) -> Result<Outset, NoMemory>
+pub(crate) fn set_out(
+    alloc: Global,
+    fetched: &[Fetched],
+    settings: &Settings,
+) -> Result<Outset, NoMemory>
     requires valid { IsValid settings.now }
     requires few { length (open_places fetched.now) ≤ 1024 }
     ensures waves { IfOk result (λ outset. outset.waves.items
@@ -231,7 +235,7 @@ fn wave_tasks(
 }
 
 /// A client's next job to be fetched.
-fn next_job(sent: &[SentJobs], fetched: &[Fetched], client: u32) -> Option<Job>
+pub(crate) fn next_job(sent: &[SentJobs], fetched: &[Fetched], client: u32) -> Option<Job>
     ensures { result ≡ slice_get (slice_index_or sent.now client []) (length (part_of client fetched.now)) }
 {
     match sent.get(client as usize) {
@@ -254,7 +258,7 @@ fn count_part(fetched: &[Fetched], client: u32) -> usize
 
 /// How many jobs are not committed.
 #[tactic(auto, using(crate::proofs::StepFacts::open_counted))]
-fn count_open(fetched: &[Fetched]) -> usize
+pub(crate) fn count_open(fetched: &[Fetched]) -> usize
     ensures { result ≡ length (open_places fetched.now) }
 {
     let mut count = 0;
@@ -272,7 +276,7 @@ fn one_if(holds: bool) -> usize
 }
 
 /// Whether each hand is empty.
-fn all_free(hands: &[Option<Task>]) -> bool
+pub(crate) fn all_free(hands: &[Option<Task>]) -> bool
     ensures { result ≡ list_all is_none hands.now }
 {
     hands.iter().all(|hand| hand.is_none())

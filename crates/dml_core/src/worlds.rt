@@ -195,11 +195,17 @@ impl World {
         ensures err { IfErr result (λ stopped. StopsAt self.entry steps.now stopped.0 stopped.1) }
     {
         let mut world = self;
-        for i in 0..steps.len() {
-            match world.take_step(alloc, &steps[i]) {
-                Ok(()) => {}
-                Err(Refusal::NotAllowed) => return Err((world, StepFault::NotAllowed(i))),
-                Err(Refusal::NoMemory) => return Err((world, StepFault::NoMemory(i))),
+        let mut place = 0;
+        while place < steps.len() {
+            let turn = world.gather(alloc, &steps[place..]);
+            let from = place + turn.taken;
+            place = from + turn.alone;
+            for i in from..place {
+                match world.take_step(alloc, &steps[i]) {
+                    Ok(()) => {}
+                    Err(Refusal::NotAllowed) => return Err((world, StepFault::NotAllowed(i))),
+                    Err(Refusal::NoMemory) => return Err((world, StepFault::NoMemory(i))),
+                }
             }
         }
         Ok(world)

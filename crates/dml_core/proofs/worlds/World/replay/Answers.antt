@@ -1,6 +1,7 @@
 use Rattle.std.proofs.Common.{◌<◌, length, Err, ap, arith}
 use Rattle.dml_types.specs.Job.{no_op_job}
 use Rattle.dml_core.specs.Types.{Submit}
+use Rattle.dml_core.proofs.GatherLemmas.{turn_reaches}
 use Rattle.dml_core.proofs.ReplayLemmas.{replay_memory, replay_more, replay_refused}
 use Rattle.dml_core.proofs.worlds.World.replay.Goals as goal
 
@@ -18,3 +19,7 @@ pub loop-i-preserved : goal.loop-i-preserved
 loop-i-preserved c =
     let below : c.loop-i.i < length c.args.steps.now = omega arith in
     replay_more c.args.self c.loop-i.world c.take_step.new.self c.args.steps.now c.loop-i.i (Submit 0 no_op_job) below c.loop-i.invariant c.in-Ok.ensures.allowed c.in-Ok.ensures.ok
+
+pub loop-i-init : goal.loop-i-init
+loop-i-init c =
+    turn_reaches c.args.self c.loop-place.world c.gather-turn.new.self c.args.steps.now c.loop-place.place c.gather-turn.result.taken c.loop-place.invariant.1 c.gather-turn.ensures.reached

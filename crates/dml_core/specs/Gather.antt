@@ -1,0 +1,75 @@
+-- Submits and fetches in a row, with one plan behind the last of them: the lists that they make longer, and the
+-- world that they leave.
+use Rattle.std.specs.Prelude.{◌≡◌, ℕ, ◌-◌, Bool, true, false, ◌&&◌, List, [], ◌∷◌, ◌++◌, Option, length, is_some, if◌then◌else◌, nat_lt, slice_get, slice_index_or, slice_set, take}
+use Rattle.dml_core.specs.Types.{Job, Fetched, Step, Submit, Fetch}
+use Rattle.dml_core.specs.Plan.{open_places, plan_of}
+use Rattle.dml_core.specs.World.{World, is_empty, new_entry, no_hand, part_of, set_out}
+
+-- what the clients sent, and what was fetched
+pub record Lists : Type 0 where
+  pub sent : List (List Job)
+  pub fetched : List Fetched
+
+abbrev pub lists : List (List Job) → List Fetched → Lists
+lists sent fetched = record { sent = sent; fetched = fetched }
+
+abbrev pub lists_of : World → Lists
+lists_of w = lists w.sent w.fetched
+
+-- the client's next job to be fetched
+abbrev pub next_of : List (List Job) → List Fetched → ℕ → Option Job
+next_of sent fetched client = slice_get (slice_index_or sent client []) (length (part_of client fetched))
+
+abbrev pub is_fetch : Step → Bool
+is_fetch (Fetch client) = true
+is_fetch s = false
+
+-- no task is in hand or finished
+abbrev pub is_idle : World → Bool
+is_idle w = no_hand w && is_empty w.finished
+
+abbrev pub may_fetch : List (List Job) → List Fetched → ℕ → Bool
+may_fetch sent fetched client = is_some (next_of sent fetched client) && nat_lt (length (open_places fetched)) 1024
+
+-- whether a step makes the lists of an idle world longer
+abbrev pub may_join : Lists → Step → Bool
+may_join now (Submit client job) = nat_lt client (length now.sent)
+may_join now (Fetch client) = may_fetch now.sent now.fetched client
+may_join now s = false
+
+-- the lists made longer by a step
+abbrev pub more_sent : List (List Job) → ℕ → Job → List (List Job)
+more_sent sent client job = slice_set sent client (slice_index_or sent client [] ++ job ∷ [])
+
+abbrev pub more_fetched : List (List Job) → List Fetched → ℕ → List Fetched
+more_fetched sent fetched client = fetched ++ new_entry client (next_of sent fetched client) ∷ []
+
+abbrev pub grown : Lists → Step → Lists
+grown now (Submit client job) = lists (more_sent now.sent client job) now.fetched
+grown now (Fetch client) = lists now.sent (more_fetched now.sent now.fetched client)
+grown now s = now
+
+-- and the step taken back
+abbrev pub shorter : {X : Type 0} → List X → List X
+shorter xs = take (length xs - 1) xs
+
+abbrev pub ungrown : Lists → Step → Lists
+ungrown now (Submit client job) =
+    lists (slice_set now.sent client (shorter (slice_index_or now.sent client []))) now.fetched
+ungrown now (Fetch client) = lists now.sent (shorter now.fetched)
+ungrown now s = now
+
+-- the steps make the first lists longer one after another, up to the last
+abbrev pub AreGathered : Lists → List Step → Lists → Type 0
+AreGathered first [] last = first ≡ last
+AreGathered first (s ∷ steps) last = (may_join first s ≡ true) × AreGathered (grown first s) steps last
+
+-- the world with these lists, planned anew if one of the steps was a fetch
+abbrev pub with_lists : World → Lists → World
+with_lists w now = record w { sent = now.sent; fetched = now.fetched }
+
+abbrev pub planned_anew : World → World
+planned_anew w = set_out (record w { waves = plan_of w.fetched w.settings.staging w.settings.chunk })
+
+abbrev pub gathered : World → Lists → Bool → World
+gathered w now fetches = if fetches then planned_anew (with_lists w now) else with_lists w now

@@ -1,0 +1,204 @@
+//! Submits and fetches in a row, with one plan behind the last of them.
+ghost use Rattle.std.specs.Prelude.{◌≡◌, ◌⊎◌, ◌||◌, ◌+◌, ◌≤◌, ◌<◌, false, length, nat_lt, slice_index_or, slice_set, take, true, []};
+ghost use Rattle.dml_core.specs.Plan.{open_places};
+ghost use Rattle.dml_core.specs.World.{Reaches, World};
+ghost use Rattle.dml_core.specs.Gather.{AreGathered, Lists, gathered, grown, is_idle, lists, lists_of, may_fetch, may_join, more_fetched, more_sent, shorter, ungrown};
+ghost use Rattle.dml_core.specs.Gather as word;
+
+use crate::lists::SentJobs;
+use crate::stepping::{MAX_OPEN, Outset, all_free, count_open, next_job, set_out};
+use crate::values::{Fetched, Step};
+use crate::worlds::World;
+use dml_types::Job;
+use std::alloc::Global;
+
+/// How many steps were taken, and how many behind them are to be taken one at a time.
+#[derive(Clone, Copy)]
+pub(crate) struct Turn {
+    pub(crate) taken: usize,
+    pub(crate) alone: usize,
+}
+
+/// How many steps made the lists longer, and whether a fetch is among them.
+#[derive(Clone, Copy)]
+struct Row {
+    count: usize,
+    fetches: bool,
+}
+
+impl World {
+    /// Takes the submits and fetches at the front of some steps, from a fetch on, as far as they can be taken. Only
+    /// the plan behind the last of them is made, since each fetch plans all open jobs anew. Where the allocator has no
+    /// memory left for it, the steps are taken back, and are to be taken one at a time: a plan for fewer jobs may do.
+    pub(crate) fn gather(&mut self, alloc: Global, steps: &[Step]) -> Turn
+        requires { 0 < length steps.now }
+        ensures within { result.taken + result.alone ≤ length steps.now }
+        ensures onward { 0 < result.taken + result.alone }
+        ensures reached { Reaches self.old (take result.taken steps.now) self.new }
+    {
+        if !is_fetch(&steps[0]) || !all_free(self.hands.as_slice()) || !self.finished.is_empty() {
+            return Turn { taken: 0, alone: 1 };
+        }
+        let row = push_steps(&mut self.sent, &mut self.fetched, steps);
+        let alone = (steps.len() - row.count).min(1);
+        if !row.fetches {
+            return Turn {
+                taken: row.count,
+                alone,
+            };
+        }
+        match set_out(alloc, self.fetched.as_slice(), &self.settings) {
+            Ok(Outset { waves, tasks }) => {
+                self.waves = waves;
+                self.committed = 0;
+                self.tasks = tasks;
+                self.taken = 0;
+                Turn {
+                    taken: row.count,
+                    alone,
+                }
+            }
+            Err(_) => {
+                take_back(&mut self.sent, &mut self.fetched, &steps[..row.count]);
+                Turn {
+                    taken: 0,
+                    alone: row.count.max(1),
+                }
+            }
+        }
+    }
+}
+
+/// Whether a step fetches.
+fn is_fetch(step: &Step) -> bool
+    ensures { result ≡ word.is_fetch step.now }
+{
+    match *step {
+        Step::Fetch { .. } => true,
+        Step::Submit { .. } | Step::Take { .. } | Step::Finish { .. } | Step::Commit => false,
+    }
+}
+
+/// Whether a fetch was among some steps, or this one fetches.
+fn is_or_fetches(fetches: bool, step: &Step) -> bool
+    ensures { result ≡ (fetches || word.is_fetch step.now) }
+{
+    fetches || is_fetch(step)
+}
+
+/// Makes the lists of an idle world longer by the steps, up to the first that cannot be taken.
+fn push_steps(sent: &mut Vec<SentJobs>, fetched: &mut Vec<Fetched>, steps: &[Step]) -> Row
+    ensures within { result.count ≤ length steps.now }
+    ensures gathered { AreGathered (lists sent.old.items fetched.old.items) (take result.count steps.now)
+        (lists sent.new.items fetched.new.items) }
+    ensures reached { (w : World) → lists_of w ≡ lists sent.old.items fetched.old.items → is_idle w ≡ true
+        → Reaches w (take result.count steps.now)
+        (gathered w (lists sent.new.items fetched.new.items) result.fetches) }
+    ensures few { result.fetches ≡ true → length (open_places fetched.new.items) ≤ 1024 }
+    ensures fixed { (result.fetches ≡ true) ⊎ (fetched.new.items ≡ fetched.old.items) }
+{
+    let mut fetches = false;
+    for i in 0..steps.len() {
+        if !push_step(sent, fetched, &steps[i]) {
+            return Row { count: i, fetches };
+        }
+        fetches = is_or_fetches(fetches, &steps[i]);
+    }
+    Row {
+        count: steps.len(),
+        fetches,
+    }
+}
+
+/// Makes the lists of an idle world longer by a step, and answers whether it could be taken.
+fn push_step(sent: &mut Vec<SentJobs>, fetched: &mut Vec<Fetched>, step: &Step) -> bool
+    ensures taken { result ≡ true → may_join (lists sent.old.items fetched.old.items) step.now ≡ true }
+    ensures more { result ≡ true → lists sent.new.items fetched.new.items
+        ≡ grown (lists sent.old.items fetched.old.items) step.now }
+    ensures same { result ≡ false → lists sent.new.items fetched.new.items
+        ≡ lists sent.old.items fetched.old.items }
+    ensures few { result ≡ true → word.is_fetch step.now ≡ true → length (open_places fetched.new.items) ≤ 1024 }
+    ensures fixed { (word.is_fetch step.now ≡ true) ⊎ (fetched.new.items ≡ fetched.old.items) }
+{
+    match *step {
+        Step::Submit { client, job } => push_sent(sent, client, job),
+        Step::Fetch { client } => push_fetched(sent.as_slice(), fetched, client),
+        Step::Take { .. } | Step::Finish { .. } | Step::Commit => false,
+    }
+}
+
+/// Puts a job behind those that a client sent, and answers whether it could.
+fn push_sent(sent: &mut Vec<SentJobs>, client: u32, job: Job) -> bool
+    ensures known { result ≡ true → nat_lt client (length sent.old.items) ≡ true }
+    ensures more { result ≡ true → sent.new.items ≡ more_sent sent.old.items client job }
+    ensures same { result ≡ false → sent.new.items ≡ sent.old.items }
+{
+    let client = client as usize;
+    if client >= sent.len() {
+        return false;
+    }
+    match sent[client].push(job) {
+        Ok(()) => true,
+        Err(_) => false,
+    }
+}
+
+/// Puts a client's next job behind those that were fetched, and answers whether it could.
+#[tactic(auto, using(crate::proofs::StepFacts::few_open))]
+fn push_fetched(sent: &[SentJobs], fetched: &mut Vec<Fetched>, client: u32) -> bool
+    ensures may { result ≡ true → may_fetch sent.now fetched.old.items client ≡ true }
+    ensures more { result ≡ true → fetched.new.items ≡ more_fetched sent.now fetched.old.items client }
+    ensures same { result ≡ false → fetched.new.items ≡ fetched.old.items }
+    ensures few { result ≡ true → length (open_places fetched.new.items) ≤ 1024 }
+{
+    let next = next_job(sent, fetched.as_slice(), client);
+    let Some(job) = next else {
+        return false;
+    };
+    if count_open(fetched.as_slice()) >= MAX_OPEN {
+        return false;
+    }
+    let entry = Fetched {
+        client,
+        job,
+        answer: None,
+    };
+    match fetched.push(entry) {
+        Ok(()) => true,
+        Err(_) => false,
+    }
+}
+
+/// Takes back the steps that made the lists longer, from the last on.
+fn take_back(sent: &mut Vec<SentJobs>, fetched: &mut Vec<Fetched>, steps: &[Step])
+    ensures { (first : Lists) → AreGathered first steps.now (lists sent.old.items fetched.old.items)
+        → first ≡ lists sent.new.items fetched.new.items }
+{
+    let mut left = steps.len();
+    while left > 0 {
+        left -= 1;
+        take_back_step(sent, fetched, &steps[left]);
+    }
+}
+
+/// Takes back the last step that made the lists longer.
+fn take_back_step(sent: &mut Vec<SentJobs>, fetched: &mut Vec<Fetched>, step: &Step)
+    ensures { lists sent.new.items fetched.new.items ≡ ungrown (lists sent.old.items fetched.old.items) step.now }
+{
+    match *step {
+        Step::Submit { client, .. } => take_back_sent(sent, client),
+        Step::Fetch { .. } => fetched.truncate(fetched.len().saturating_sub(1)),
+        Step::Take { .. } | Step::Finish { .. } | Step::Commit => {}
+    }
+}
+
+/// Takes back the last job that a client sent.
+#[tactic(auto, using(std::proofs::lemmas::List::set_past))]
+fn take_back_sent(sent: &mut Vec<SentJobs>, client: u32)
+    ensures { sent.new.items ≡ slice_set sent.old.items client (shorter (slice_index_or sent.old.items client [])) }
+{
+    let client = client as usize;
+    if client < sent.len() {
+        sent[client].take_back();
+    }
+}

@@ -2,11 +2,14 @@
 
 ghost use Rattle.std.specs.Prelude.{◌≡◌, length, IfOk};
 ghost use Rattle.std.specs.Option.{option_map};
+ghost use Rattle.std.specs.Result.{result_ok};
+ghost use Rattle.hex.specs.Hex.{decode_of};
 ghost use Rattle.dml_grammar.specs.Digits.{number_of};
 ghost use Rattle.dml_grammar.specs.Number as spec;
 
 use crate::digits::{short_decimal, short_hexadecimal};
 use crate::hexadecimal::decode_into;
+use hex::FromHexError;
 use std::alloc::{AllocError, Global};
 
 /// The number of 20 decimal digits, if they are such and it has 64 bits at most: any 19 digits are few enough, and the
@@ -70,7 +73,22 @@ pub fn bounded_number(largest: u64, word: &[u8]) -> Option<u64>
     at_most(largest, word_number(word))
 }
 
-/// The bytes that a word of `least` to `most` hexadecimal digits writes, if it is one.
+/// The bytes that hexadecimal digits write, if they are such, two digits a byte.
+fn few_bytes(alloc: Global, digits: &[u8]) -> Result<Option<Vec<u8>>, AllocError>
+    ensures { IfOk result (λ bytes. option_map (λ v. v.items) bytes ≡ result_ok (decode_of digits.now)) }
+{
+    match hex::decode(alloc, digits) {
+        Ok(bytes) => Ok(Some(bytes)),
+        Err(FromHexError::OutOfMemory) => Err(AllocError),
+        Err(_) => Ok(None),
+    }
+}
+
+/// The most digits that are decoded one by one, by the crate hex.
+const FEW_DIGITS: usize = 15;
+
+/// The bytes that a word of `least` to `most` hexadecimal digits writes, if it is one. Where there are many, they are
+/// decoded several at a time.
 pub fn word_bytes(
     alloc: Global,
     least: usize,
@@ -81,6 +99,9 @@ pub fn word_bytes(
 {
     if word.len() < least || word.len() > most {
         return Ok(None);
+    }
+    if word.len() <= FEW_DIGITS {
+        return few_bytes(alloc, word);
     }
     if word.len() % 2 == 1 {
         return Ok(None);

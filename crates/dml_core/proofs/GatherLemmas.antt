@@ -1,5 +1,5 @@
 -- Submits and fetches in a row.
-use Rattle.std.proofs.Common.{◌≡◌, ◌⊎◌, ℕ, ◌+◌, ◌-◌, ◌<◌, ◌≤◌, Bool, true, false, cond, drop, Option, inl, inr, List, [], ◌∷◌, ◌++◌, length, get_or, set, take, refl, sym, ◌∙◌, ap, subst, arith}
+use Rattle.std.proofs.Common.{◌≡◌, ◌⊎◌, ℕ, ◌+◌, ◌-◌, ◌<◌, ◌≤◌, Bool, true, false, drop, Option, inl, inr, List, [], ◌∷◌, ◌++◌, length, get_or, set, take, refl, sym, ◌∙◌, ap, subst, arith}
 use Rattle.std.proofs.lemmas.Bool.{and_from, and_parts, ltb-true, or_left, or_right}
 use Rattle.std.proofs.lemmas.List.{get_or-set_same, length_push, set-set, set-get_or, take_more, take_rest}
 use Rattle.std.proofs.Math.Seq.{take-add, take-append_seam}
@@ -8,7 +8,7 @@ use Rattle.dml_types.specs.Memory.{Memory}
 use Rattle.dml_core.specs.Plan.{jobs_of, open_places, plan_of, tasks_of}
 use Rattle.dml_core.specs.Types.{Job, Settings, Fetched, Task, Step, Submit, Fetch, Take, Finish, Commit}
 use Rattle.dml_core.specs.World.{Kept, World, after, is_allowed, is_empty, no_hand, Reaches}
-use Rattle.dml_core.specs.Gather.{Lists, lists, lists_of, is_fetch, is_idle, may_join, next_of, grown, shorter, ungrown, AreGathered, gathered, with_lists}
+use Rattle.dml_core.specs.Gather.{Lists, lists, lists_of, is_fetch, is_idle, may_join, next_of, grown, shorter, ungrown, AreGathered, gathered}
 use Rattle.dml_core.proofs.ReplayLemmas.{reaches_append, replay_more}
 use Rattle.dml_core.proofs.StepFacts.{world}
 

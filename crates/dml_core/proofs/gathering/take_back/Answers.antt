@@ -1,4 +1,4 @@
-use Rattle.std.proofs.Common.{◌≡◌, ◌+◌, ◌-◌, ◌<◌, ℕ, length, take, sym, subst, arith}
+use Rattle.std.proofs.Common.{◌≡◌, ◌+◌, ◌-◌, ◌<◌, ℕ, length, take, subst, arith}
 use Rattle.dml_types.specs.Job.{no_op_job}
 use Rattle.dml_core.specs.Types.{Submit}
 use Rattle.dml_core.specs.Gather.{AreGathered, lists}

@@ -2,6 +2,7 @@ pub mod DigitLemmas
 pub mod EntryLemmas
 pub mod FirstFaultLemmas
 pub mod LaneLemmas
+pub mod LeadingLemmas
 pub mod LeftLemmas
 pub mod LineLemmas
 pub mod NumberLemmas

@@ -1,18 +1,23 @@
 -- Laws of lines all of whose slots are numbers.
-use Rattle.std.proofs.Common.{◌≡◌, ℕ, List, [], ◌∷◌, map, refl, sym, ◌∙◌, ap, ap₂, Bool, true, false, Option, Some, None}
+use Rattle.std.proofs.Common.{◌≡◌, ℕ, List, [], ◌∷◌, map, refl, sym, ◌∙◌, ap, ap₂, Bool, true, false, Option, Some, None, is_none, is_some, not}
 use Rattle.std.specs.List.{flat_map, list_all}
 use Rattle.std.proofs.lemmas.List.Folds.{list_all-map}
 use Rattle.dml_grammar.specs.declared.faults.Kind.{Kind}
-use Rattle.dml_grammar.specs.declared.faults.Kind.TheVariants.{BadRange}
+use Rattle.dml_grammar.specs.declared.faults.Kind.TheVariants.{BadNumber, BadRange}
 use Rattle.dml_grammar.specs.declared.lines.Line.{Line}
+use Rattle.dml_grammar.specs.declared.table.Part.{Part}
+use Rattle.dml_grammar.specs.declared.table.Part.TheVariants.{One}
 use Rattle.dml_grammar.specs.declared.table.Slot.TheVariants.{Number, Digits}
 use Rattle.dml_grammar.specs.declared.table.Word.{Word}
 use Rattle.dml_grammar.specs.declared.table.Word.TheVariants as word
 use Rattle.dml_types.specs.declared.operations.Op.{Op}
 use Rattle.dml_types.specs.declared.operations.Op.TheVariants.{NoOp, Move, Fill, Compare, ComparePattern, CreateDelta, ApplyDelta, Dualcast}
 use Rattle.dml_grammar.specs.Grammar as grammar
-use Rattle.dml_grammar.specs.NumberLines.{are_numbers, entries_fault, entries_numbers, has_digits, is_number}
+use Rattle.dml_grammar.specs.Leading.{BeginsWith}
+use Rattle.dml_grammar.specs.Number.{at_most, word_number}
+use Rattle.dml_grammar.specs.NumberLines.{Takes, are_numbers, entries_fault, entries_numbers, has_digits, is_number}
 use Rattle.dml_grammar.specs.Table.{parts_of}
+use Rattle.dml_grammar.specs.Text.{words}
 use Rattle.dml_grammar.proofs.LineLemmas.{Entries, first_of_front, first_of_more, fitted_slots, slots_of}
 
 abbrev numbers_in : Entries → List (Option ℕ)
@@ -85,3 +90,17 @@ pub values_are_plain : (first : Word) (ws : List (List ℕ)) (entries : Entries)
 values_are_plain first ws entries numbers bytes plain is read none =
     let same = plain_values first ws entries numbers bytes plain is read none in
     ap₂ (λ (ns : List (Option ℕ)) (bs : List ℕ). let v : grammar.Values = record { numbers = ns; bytes = bs } in v) same.0 same.1
+
+-- a word that was read at the head of a line
+
+fault_seen : (number : Option ℕ) (bad : Bool) → is_some number ≡ not bad → is_none number ≡ bad
+fault_seen None true seen = refl
+fault_seen None false seen = cc
+fault_seen (Some n) true seen = cc
+fault_seen (Some n) false seen = refl
+
+pub number_taken : (part : Part) (largest : ℕ) (line rest : List ℕ) (n : ℕ) (number : Option ℕ) (bad : Bool) → part ≡ One (Number largest)
+    → BeginsWith n rest line → number ≡ at_most largest (Some n) → is_some number ≡ not bad → Takes part (words line) number bad (words rest)
+number_taken part largest line rest n number bad is begins read fault =
+    let same : number ≡ at_most largest (word_number begins.0) = read ∙ ap (at_most largest) (sym begins.2) in
+    rw is (Some begins.0, ap grammar.word_after begins.1, same, ap (λ (b : Bool). (b, BadNumber)) (ap is_none (sym same) ∙ fault_seen number bad fault))

@@ -4,6 +4,7 @@ pub mod FirstByte
 pub mod FirstFault
 pub mod Grammar
 pub mod Lanes
+pub mod Leading
 pub mod Left
 pub mod Number
 pub mod NumberLines

@@ -51,11 +51,11 @@ pub fn short_hexadecimal(digits: &[u8]) -> Option<u64>
 
 /// What a byte is worth as a decimal digit; 10 or more where it is none.
 #[inline(always)]
-fn decimal_worth(byte: u8) -> u8
+pub fn decimal_worth(byte: u8) -> u64
     ensures digit { nat_lt result 10 ≡ is_digit byte 10 }
     ensures value { result < 10 → digit_value byte ≡ result }
 {
-    byte.wrapping_sub(b'0')
+    u64::from(byte).wrapping_sub(u64::from(b'0'))
 }
 
 /// The number that at most 19 decimal digits write: it always has 64 bits at most, so no step is tested.
@@ -70,7 +70,7 @@ pub fn short_decimal(digits: &[u8]) -> Option<u64>
         if value >= 10 {
             return None;
         }
-        number = number * 10 + u64::from(value);
+        number = number * 10 + value;
     }
     Some(number)
 }

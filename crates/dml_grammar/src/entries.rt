@@ -1,14 +1,15 @@
 //! The words of a line, fitted to the parts that its first word has, and what they write.
 
-ghost use Rattle.std.specs.Prelude.{◌≡◌, ◌≤◌, ◌∷◌, ◌++◌, [], length, IfOk, IfErr, OnOk, Some, None, true, false};
+ghost use Rattle.std.specs.Prelude.{◌≡◌, ◌≤◌, ◌∷◌, ◌++◌, [], length, IfOk, IfErr, IfSome, OnOk, Some, None, true, false};
 ghost use Rattle.std.specs.Option.{option_map};
 ghost use Rattle.dml_grammar.specs.Grammar as grammar;
-ghost use Rattle.dml_grammar.specs.NumberLines.{is_number, are_numbers, entries_fault, entries_numbers};
+ghost use Rattle.dml_grammar.specs.NumberLines.{is_number, are_numbers, entries_fault, entries_numbers, Takes};
 ghost use Rattle.dml_grammar.specs.Reads.{word_seen, entries_seen, values_seen, slot_faults, Fails};
 ghost use Rattle.dml_grammar.specs.Text.{words};
 
 use crate::faults::{Kind, ReadError};
-use crate::numbers::{bounded_number, word_bytes};
+use crate::leading::next_number;
+use crate::numbers::{at_most, bounded_number, word_bytes};
 use crate::table::{MOST_PARTS, Part, Slot, name_of};
 use crate::words::next_word;
 use arrayvec::ArrayVec;
@@ -158,8 +159,43 @@ fn read_number(part: Part, word: Option<&[u8]>) -> (Option<u64>, bool)
     (number, number.is_none())
 }
 
+/// What a part that is a number takes of a line: the number of its word, if one stands there, whether it is a fault,
+/// and what follows; None where its word is missing.
+#[inline(never)]
+fn read_any_part<'a>(part: &Part, line: &'a [u8]) -> Option<(Option<u64>, bool, &'a [u8])>
+    requires { is_number (grammar.slot_of part.now) ≡ true }
+    ensures none { result ≡ None → grammar.taken part.now (words line.now) ≡ None }
+    ensures some { IfSome result (λ r. Takes part.now (words line.now) r.0 r.1 (words r.2.now)) }
+{
+    let (word, rest) = taken(*part, line)?;
+    let (number, is_fault) = read_number(*part, word);
+    Some((number, is_fault, rest))
+}
+
+/// The same, where most words are read and cut off in one pass: a decimal number, or no suffix at the end of a line.
+#[inline(always)]
+fn read_part<'a>(part: &Part, line: &'a [u8]) -> Option<(Option<u64>, bool, &'a [u8])>
+    requires { is_number (grammar.slot_of part.now) ≡ true }
+    ensures none { result ≡ None → grammar.taken part.now (words line.now) ≡ None }
+    ensures some { IfSome result (λ r. Takes part.now (words line.now) r.0 r.1 (words r.2.now)) }
+{
+    if let Part::Named(..) = *part
+        && line.is_empty()
+    {
+        return Some((None, false, line));
+    }
+    if let Part::One(Slot::Number(largest)) = *part
+        && let Some((number, rest)) = next_number(line)
+    {
+        let number = at_most(largest, Some(number));
+        return Some((number, number.is_none(), rest));
+    }
+    read_any_part(part, line)
+}
+
 /// Reads the words of a line whose parts are all numbers, in one pass and without a list of its entries: the number of
 /// each part, or the line's first fault.
+#[inline(never)]
 pub fn read_numbers(
     parts: &[Part],
     line: &[u8],
@@ -169,15 +205,15 @@ pub fn read_numbers(
     requires plain { are_numbers parts.now ≡ true }
     requires empty { numbers.old.items ≡ [] }
     ensures fault { result ≡ entries_fault (grammar.fitted parts.now (words line.now)) }
-    ensures numbers { result ≡ None → Some numbers.new.items ≡ entries_numbers (grammar.fitted parts.now (words line.now)) }
+    ensures numbers { result ≡ None
+        → Some numbers.new.items ≡ entries_numbers (grammar.fitted parts.now (words line.now)) }
 {
     let mut rest = line;
     let mut is_bad = false;
     for part in parts {
-        let Some((word, after)) = taken(*part, rest) else {
+        let Some((number, is_fault, after)) = read_part(part, rest) else {
             return Some(Kind::WrongWords);
         };
-        let (number, is_fault) = read_number(*part, word);
         numbers.push(number);
         is_bad = is_bad || is_fault;
         rest = after;

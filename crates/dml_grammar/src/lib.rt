@@ -7,6 +7,7 @@ mod faults;
 mod hexadecimal;
 mod judge;
 mod laws;
+mod leading;
 mod lines;
 mod numbers;
 mod progress;

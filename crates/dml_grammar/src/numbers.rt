@@ -57,7 +57,8 @@ fn word_number(word: &[u8]) -> Option<u64>
 }
 
 /// The number, if there is one and it is not above the largest.
-fn at_most(largest: u64, number: Option<u64>) -> Option<u64>
+#[inline(always)]
+pub fn at_most(largest: u64, number: Option<u64>) -> Option<u64>
     ensures { result ≡ spec.at_most largest number }
 {
     match number {

@@ -45,7 +45,7 @@ pub fn next_line(text: &[u8]) -> (&[u8], &[u8])
 }
 
 /// Whether a byte is a space or a tab.
-fn is_blank(byte: u8) -> bool
+pub fn is_blank(byte: u8) -> bool
     ensures { result ≡ text_spec.is_blank byte }
 {
     byte == b' ' || byte == b'\t'

@@ -24,4 +24,4 @@ loop-digit-preserved c =
     sym c.decimal_worth-value.ensures.digit ∙ lt-ltb c.decimal_worth-value.result 10 c.if-value-ge10.false in
     let more = decimal_more c.args.digits.now c.loop-digit.digit-index c.loop-digit.number c.decimal_worth-value.result c.loop-digit-test.true digit
     (c.decimal_worth-value.ensures.value c.if-value-ge10.false) c.loop-digit.invariant.digits c.loop-digit.invariant.number in
-    record { digits = more.0; number = rw c.from.ensures more.1 }
+    record { digits = more.0; number = more.1 }

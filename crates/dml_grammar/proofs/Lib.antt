@@ -11,4 +11,5 @@ pub mod PageLemmas
 pub mod PairLemmas
 pub mod PresenceLemmas
 pub mod Rows
+pub mod TableLemmas
 pub mod WordLemmas

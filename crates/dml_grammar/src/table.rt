@@ -103,12 +103,31 @@ fn find_word(rows: &[(&[u8], Word)], text: &[u8]) -> Option<Word>
     None
 }
 
-/// The first word with this text, if it is one.
-pub fn word_named(text: &[u8]) -> Option<Word>
+/// The first word with this text, if it is one, by the table.
+#[inline(never)]
+fn word_in_table(text: &[u8]) -> Option<Word>
     ensures { result ≡ word_named text.now }
 {
     let first = text.first()?;
     find_word(beginning_with(*first), text)
+}
+
+/// The first word with this text, if it is one. Most lines are those of jobs, whose words are told by their letters.
+#[inline(always)]
+pub fn word_named(text: &[u8]) -> Option<Word>
+    ensures { result ≡ word_named text.now }
+{
+    match text {
+        b"move" => Some(Word::Job(Op::Move)),
+        b"fill" => Some(Word::Job(Op::Fill)),
+        b"noop" => Some(Word::Job(Op::NoOp)),
+        b"apply" => Some(Word::Job(Op::ApplyDelta)),
+        b"create" => Some(Word::Job(Op::CreateDelta)),
+        b"compare" => Some(Word::Job(Op::Compare)),
+        b"dualcast" => Some(Word::Job(Op::Dualcast)),
+        b"compare-pattern" => Some(Word::Job(Op::ComparePattern)),
+        _ => word_in_table(text),
+    }
 }
 
 /// The parts of a job's line.

@@ -8,7 +8,9 @@ use Rattle.std.proofs.lemmas.List.Sums.{fold-append}
 use Rattle.dml_types.specs.Job.{no_op_job}
 use Rattle.dml_grammar.specs.declared.lines.Line.{Line}
 use Rattle.dml_grammar.specs.declared.lines.Line.TheVariants as line
-use Rattle.dml_grammar.specs.Grammar.{brings, is_present, most_jobs, open_after, open_jobs, pages_of}
+use Rattle.dml_grammar.specs.declared.table.Word.{Word}
+use Rattle.dml_grammar.specs.declared.table.Word.TheVariants as word
+use Rattle.dml_grammar.specs.Grammar.{Values, brings, is_present, line_of, most_jobs, open_after, open_jobs, pages_of}
 use Rattle.dml_grammar.specs.Pages.{Tracks, Alike, MayBeOpen, batch_lines, bringing, image_lines, progress_lines}
 use Rattle.dml_grammar.specs.Reads.{IsNext}
 
@@ -223,6 +225,24 @@ pub noted_same : (present : List Bool) (jobs more : Option ℕ) (l : Line) → M
 noted_same present jobs more l may opens some none =
     noted present present jobs more l (pages_of_progress present jobs may some) opens
     (tracks_same present (progress_lines present jobs) l some (progress_tracked present jobs) none)
+
+-- whether a first word's line changes what is known of pages
+abbrev pub is_noted : Word → Bool
+is_noted word.Image = true
+is_noted word.Page = true
+is_noted other = false
+
+pub noted_plain : (present : List Bool) (jobs more : Option ℕ) (first : Word) (v : Values) → MayBeOpen present jobs → more ≡ open_after jobs (line_of first v)
+    → IsNext (progress_lines present jobs) (line_of first v) → is_noted first ≡ false
+    → Alike (progress_lines present more) (progress_lines present jobs ++ line_of first v ∷ [])
+noted_plain present jobs more word.Image v may opens next plain = cc
+noted_plain present jobs more word.Page v may opens next plain = cc
+noted_plain present jobs more word.Poke v may opens next plain = noted_same present jobs more (line_of word.Poke v) may opens next (λ page. refl)
+noted_plain present jobs more (word.Job op) v may opens next plain = noted_same present jobs more (line_of (word.Job op) v) may opens next.0 (λ page. refl)
+noted_plain present jobs more word.Raw v may opens next plain = noted_same present jobs more (line_of word.Raw v) may opens next.0 (λ page. refl)
+noted_plain present jobs more word.Batch v may opens next plain = noted_same present jobs more (line_of word.Batch v) may opens next (λ page. refl)
+noted_plain present jobs more word.End v may opens next plain = noted_same present jobs more (line_of word.End v) may opens next (λ page. refl)
+noted_plain present jobs more word.Show v may opens next plain = noted_same present jobs more (line_of word.Show v) may opens next (λ page. refl)
 
 -- the batch that is open behind a line that may come next
 open_same : (present after : List Bool) (jobs : Option ℕ) → MayBeOpen present jobs → 0 < length after → MayBeOpen after jobs

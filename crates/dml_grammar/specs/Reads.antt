@@ -39,6 +39,11 @@ entries_seen entries = map (λ e. (e.0, word_seen e.1)) entries
 abbrev pub values_seen : Values → grammar.Values
 values_seen values = record { numbers = values.numbers.items; bytes = values.bytes.items }
 
+-- the line of a first word and of values, if there is one
+abbrev pub line_seen : Option Word → Values → Option Line
+line_seen None values = None
+line_seen (Some first) values = Some (grammar.line_of first (values_seen values))
+
 abbrev pub slot_faults : List (Slot × Option (Bor (List ℕ))) → List (Bool × Kind)
 slot_faults entries = map (λ e. grammar.slot_fault e.0 e.1) (entries_seen entries)
 

@@ -79,6 +79,41 @@ pub struct Values {
     pub bytes: Vec<u8>,
 }
 
+impl Values {
+    ghost use Rattle.std.specs.Prelude.{◌≡◌, []};
+    ghost use Rattle.dml_grammar.specs.Grammar as grammar;
+    ghost use Rattle.dml_grammar.specs.Reads.{FitsAt, values_seen};
+
+    /// No value yet.
+    pub fn new(alloc: Global) -> Values
+        ensures numbers { result.numbers.items ≡ [] }
+        ensures bytes { result.bytes.items ≡ [] }
+    {
+        Values {
+            numbers: ArrayVec::new(),
+            bytes: Vec::new(alloc),
+        }
+    }
+
+    /// The number of an entry, or 0 where its word was left out.
+    pub fn number_at(&self, place: usize) -> u64
+        ensures { result ≡ grammar.number_at (values_seen self.now) place }
+    {
+        match self.numbers.get(place) {
+            Some(Some(number)) => *number,
+            _ => 0,
+        }
+    }
+
+    /// The number of an entry that fits a field of 32 bits.
+    pub fn size_at(&self, place: usize) -> u32
+        requires { FitsAt (values_seen self.now) place 32 }
+        ensures { result ≡ grammar.number_at (values_seen self.now) place }
+    {
+        self.number_at(place) as u32
+    }
+}
+
 /// What a word writes, as its slot says: a number, or bytes.
 fn read_word(alloc: Global, slot: Slot, word: &[u8]) -> Result<(Option<u64>, Vec<u8>), ReadError>
     ensures number { IfOk result (λ v. v.0 ≡ grammar.slot_number slot (Some word.now)) }

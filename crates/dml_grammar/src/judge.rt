@@ -4,7 +4,7 @@ ghost use Rattle.std.specs.Prelude.{◌≡◌, ◌+◌, ◌<◌, [], length, IfO
 ghost use Rattle.std.specs.List.{list_all};
 ghost use Rattle.dml_grammar.specs.Grammar as grammar;
 ghost use Rattle.dml_grammar.specs.NumberLines.{has_digits};
-ghost use Rattle.dml_grammar.specs.Reads.{Condemns, Fails, FitsAt, FitsFields, FitsJob, HasSizes, IsNext, values_seen, fine_or_skipped};
+ghost use Rattle.dml_grammar.specs.Reads.{Condemns, Fails, FitsAt, FitsFields, FitsJob, HasSizes, IsNext, line_seen, values_seen, fine_or_skipped};
 ghost use Rattle.dml_grammar.specs.Table.{word_named};
 ghost use Rattle.dml_grammar.specs.Text.{is_text, words};
 
@@ -15,10 +15,10 @@ use crate::progress::Progress;
 use crate::table::{MOST_PARTS, Word, parts_of, word_named};
 use crate::text::is_text;
 use crate::words::next_word;
-use arrayvec::ArrayVec;
 use dml_desc::decode;
 use dml_types::{Job, MOST_JOBS, Op};
 use std::alloc::Global;
+use std::mem;
 
 /// The most bytes of a line.
 const LONGEST_LINE: usize = 16_384;
@@ -30,38 +30,20 @@ fn is_comment(first: &[u8]) -> bool
     matches!(first, [b'#', ..])
 }
 
-/// The number of an entry, or 0 where its word was left out.
-fn number_at(values: &Values, place: usize) -> u64
-    ensures { result ≡ grammar.number_at (values_seen values.now) place }
-{
-    match values.numbers.get(place) {
-        Some(Some(number)) => *number,
-        _ => 0,
-    }
-}
-
-/// The number of an entry that fits a field of 32 bits.
-fn size_at(values: &Values, place: usize) -> u32
-    requires { FitsAt (values_seen values.now) place 32 }
-    ensures { result ≡ grammar.number_at (values_seen values.now) place }
-{
-    number_at(values, place) as u32
-}
-
 /// Whether a line's numbers are out of range.
 fn is_out_of_range(word: Word, values: &Values, progress: &Progress) -> bool
     requires { HasSizes word (values_seen values.now) }
     ensures value { result ≡ grammar.is_out_of_range word (values_seen values.now) progress.now }
     ensures fields { result ≡ false → FitsFields word (values_seen values.now) }
 {
-    let first = number_at(values, 0);
+    let first = values.number_at(0);
     match word {
         Word::Image => !(1..=4096).contains(&first),
         Word::Page => !progress.has_page(first),
         Word::Poke => !progress.has_bytes(first, values.bytes.len()),
         Word::Job(_) | Word::Raw | Word::Batch | Word::End => false,
         Word::Show => {
-            let len = number_at(values, 1);
+            let len = values.number_at(1);
             !(1..=65_536).contains(&len) || u128::from(first) + u128::from(len) > 1 << 64
         }
     }
@@ -72,7 +54,7 @@ fn flagged(job: Job, values: &Values, place: usize) -> Job
     requires { FitsAt (values_seen values.now) place 32 }
     ensures { result ≡ grammar.flagged job (values_seen values.now) place }
 {
-    job.with_flags(size_at(values, place))
+    job.with_flags(values.size_at(place))
 }
 
 /// A job with a check and then flags, from an entry on; both may have been left out.
@@ -94,56 +76,41 @@ fn job_of(op: Op, values: &Values) -> Job
     requires { FitsJob op (values_seen values.now) }
     ensures { result ≡ grammar.job_of op (values_seen values.now) }
 {
-    let (first, second) = (number_at(values, 0), number_at(values, 1));
+    let (first, second) = (values.number_at(0), values.number_at(1));
     match op {
         Op::NoOp => flagged(Job::no_op(), values, 0),
-        Op::Move => flagged(
-            Job::move_bytes(first, second, size_at(values, 2)),
-            values,
-            3,
-        ),
-        Op::Fill => flagged(Job::fill(first, second, size_at(values, 2)), values, 3),
-        Op::Compare => suffixed(Job::compare(first, second, size_at(values, 2)), values, 3),
+        Op::Move => flagged(Job::move_bytes(first, second, values.size_at(2)), values, 3),
+        Op::Fill => flagged(Job::fill(first, second, values.size_at(2)), values, 3),
+        Op::Compare => suffixed(Job::compare(first, second, values.size_at(2)), values, 3),
         Op::ComparePattern => {
-            let job = Job::compare_pattern(first, second, size_at(values, 2));
+            let job = Job::compare_pattern(first, second, values.size_at(2));
             suffixed(job, values, 3)
         }
         Op::CreateDelta => {
-            let (size, most) = (size_at(values, 2), size_at(values, 4));
-            let job = Job::create_delta(first, second, size, number_at(values, 3), most);
+            let (size, most) = (values.size_at(2), values.size_at(4));
+            let job = Job::create_delta(first, second, size, values.number_at(3), most);
             suffixed(job, values, 5)
         }
         Op::ApplyDelta => {
-            let (delta_size, size) = (size_at(values, 1), size_at(values, 3));
-            let job = Job::apply_delta(first, delta_size, number_at(values, 2), size);
+            let (delta_size, size) = (values.size_at(1), values.size_at(3));
+            let job = Job::apply_delta(first, delta_size, values.number_at(2), size);
             flagged(job, values, 4)
         }
         Op::Dualcast => {
-            let (third, size) = (number_at(values, 2), size_at(values, 3));
+            let (third, size) = (values.number_at(2), values.size_at(3));
             flagged(Job::dualcast(first, second, third, size), values, 4)
         }
     }
 }
 
-/// The line of values that fit its fields.
-fn line_of(word: Word, values: Values) -> Line
-    requires { FitsFields word (values_seen values) }
-    ensures { result ≡ grammar.line_of word (values_seen values) }
+/// The line of values that fit its fields. It reads them where they lie, since a line of a job wants few of them, and
+/// takes the bytes out of them.
+pub fn line_of(alloc: Global, word: Word, values: &mut Values) -> Line
+    requires { FitsFields word (values_seen values.old) }
+    ensures { result ≡ grammar.line_of word (values_seen values.old) }
 {
-    let first = number_at(&values, 0);
     match word {
-        Word::Image => Line::Image {
-            pages: first as u32,
-        },
-        Word::Page => Line::Page {
-            page: first as u32,
-            bytes: Bytes { list: values.bytes },
-        },
-        Word::Poke => Line::Poke {
-            addr: first,
-            bytes: Bytes { list: values.bytes },
-        },
-        Word::Job(op) => Line::Job(job_of(op, &values)),
+        Word::Job(op) => Line::Job(job_of(op, values)),
         Word::Raw => {
             let mut descriptor = [0; 64];
             descriptor.copy_from_slice(&values.bytes);
@@ -151,32 +118,30 @@ fn line_of(word: Word, values: Values) -> Line
         }
         Word::Batch => Line::Batch,
         Word::End => Line::End,
+        Word::Image => Line::Image {
+            pages: values.size_at(0),
+        },
+        Word::Page => Line::Page {
+            page: values.size_at(0),
+            bytes: bytes_of(alloc, values),
+        },
+        Word::Poke => Line::Poke {
+            addr: values.number_at(0),
+            bytes: bytes_of(alloc, values),
+        },
         Word::Show => Line::Show {
-            addr: first,
-            len: size_at(&values, 1),
+            addr: values.number_at(0),
+            len: values.size_at(1),
         },
     }
 }
 
-/// The line of values that fit its fields, where it has no digits. It reads the values where they lie, since a line of a
-/// job wants few of them.
-fn plain_line_of(word: Word, values: &Values) -> Line
-    requires plain { has_digits word ≡ false }
-    requires fits { FitsFields word (values_seen values.now) }
-    ensures { result ≡ grammar.line_of word (values_seen values.now) }
+/// The bytes of values, taken out of them.
+fn bytes_of(alloc: Global, values: &mut Values) -> Bytes
+    ensures { result ≡ (values_seen values.old).bytes }
 {
-    match word {
-        Word::Job(op) => Line::Job(job_of(op, values)),
-        Word::Image => Line::Image {
-            pages: size_at(values, 0),
-        },
-        Word::Show => Line::Show {
-            addr: number_at(values, 0),
-            len: size_at(values, 1),
-        },
-        Word::Batch => Line::Batch,
-        Word::End => Line::End,
-        Word::Page | Word::Poke | Word::Raw => unreachable!(),
+    Bytes {
+        list: mem::replace(&mut values.bytes, Vec::new(alloc)),
     }
 }
 
@@ -186,24 +151,28 @@ fn read_digit_words(
     progress: &Progress,
     word: Word,
     rest: &[u8],
-) -> Result<Line, ReadError>
+    values: &mut Values,
+) -> Result<(), ReadError>
     requires image { grammar.is_image word ≡ true → progress.now ≡ [] }
     requires others { grammar.is_image word ≡ false → 0 < length progress.now }
     requires room { grammar.is_job word ≡ true → unwrap_or (grammar.open_jobs progress.now) 0 < grammar.most_jobs }
     ensures fine { OnOk result (grammar.first_of (grammar.rest_faults word (words rest.now) progress.now) ≡ None) }
-    ensures line { IfOk result (λ line. grammar.accepted (Some word) (words rest.now) ≡ grammar.Fine line) }
-    ensures next { IfOk result (λ line. IsNext progress.now line) }
+    ensures line { OnOk result (grammar.accepted (Some word) (words rest.now)
+        ≡ grammar.Fine (grammar.line_of word (values_seen values.new))) }
+    ensures fits { OnOk result (FitsFields word (values_seen values.new)) }
+    ensures next { OnOk result (IsNext progress.now (grammar.line_of word (values_seen values.new))) }
     ensures err { IfErr result (λ e. Fails e (grammar.first_of
         (grammar.rest_faults word (words rest.now) progress.now))) }
 {
     let Some(entries) = fit(parts_of(word), rest) else {
         return Err(ReadError::Fault(Kind::WrongWords));
     };
-    let values = read_entries(alloc, entries.as_slice())?;
-    if is_out_of_range(word, &values, progress) {
+    let read = read_entries(alloc, entries.as_slice())?;
+    *values = read;
+    if is_out_of_range(word, values, progress) {
         return Err(ReadError::Fault(Kind::BadRange));
     }
-    Ok(line_of(word, values))
+    Ok(())
 }
 
 /// Whether a line with this first word may have hexadecimal digits.
@@ -215,32 +184,32 @@ fn has_digits(word: Word) -> bool
 
 /// The line of a known first word that may stand here, of the words after it, which are all numbers.
 fn read_plain_words(
-    alloc: Global,
     progress: &Progress,
     word: Word,
     rest: &[u8],
-) -> Result<Line, ReadError>
+    values: &mut Values,
+) -> Result<(), ReadError>
     requires plain { has_digits word ≡ false }
     requires image { grammar.is_image word ≡ true → progress.now ≡ [] }
     requires others { grammar.is_image word ≡ false → 0 < length progress.now }
     requires room { grammar.is_job word ≡ true → unwrap_or (grammar.open_jobs progress.now) 0 < grammar.most_jobs }
     ensures fine { OnOk result (grammar.first_of (grammar.rest_faults word (words rest.now) progress.now) ≡ None) }
-    ensures line { IfOk result (λ line. grammar.accepted (Some word) (words rest.now) ≡ grammar.Fine line) }
-    ensures next { IfOk result (λ line. IsNext progress.now line) }
+    ensures line { OnOk result (grammar.accepted (Some word) (words rest.now)
+        ≡ grammar.Fine (grammar.line_of word (values_seen values.new))) }
+    ensures fits { OnOk result (FitsFields word (values_seen values.new)) }
+    ensures next { OnOk result (IsNext progress.now (grammar.line_of word (values_seen values.new))) }
     ensures err { IfErr result (λ e. Fails e (grammar.first_of
         (grammar.rest_faults word (words rest.now) progress.now))) }
 {
-    let mut values = Values {
-        numbers: ArrayVec::new(),
-        bytes: Vec::new(alloc),
-    };
+    values.numbers.clear();
+    values.bytes.clear();
     if let Some(kind) = read_numbers(parts_of(word), rest, &mut values.numbers) {
         return Err(ReadError::Fault(kind));
     }
-    if is_out_of_range(word, &values, progress) {
+    if is_out_of_range(word, values, progress) {
         return Err(ReadError::Fault(Kind::BadRange));
     }
-    Ok(plain_line_of(word, &values))
+    Ok(())
 }
 
 /// The line of a known first word that may stand here, of the words after it.
@@ -249,20 +218,23 @@ fn read_words(
     progress: &Progress,
     word: Word,
     rest: &[u8],
-) -> Result<Line, ReadError>
+    values: &mut Values,
+) -> Result<(), ReadError>
     requires image { grammar.is_image word ≡ true → progress.now ≡ [] }
     requires others { grammar.is_image word ≡ false → 0 < length progress.now }
     requires room { grammar.is_job word ≡ true → unwrap_or (grammar.open_jobs progress.now) 0 < grammar.most_jobs }
     ensures fine { OnOk result (grammar.first_of (grammar.rest_faults word (words rest.now) progress.now) ≡ None) }
-    ensures line { IfOk result (λ line. grammar.accepted (Some word) (words rest.now) ≡ grammar.Fine line) }
-    ensures next { IfOk result (λ line. IsNext progress.now line) }
+    ensures line { OnOk result (grammar.accepted (Some word) (words rest.now)
+        ≡ grammar.Fine (grammar.line_of word (values_seen values.new))) }
+    ensures fits { OnOk result (FitsFields word (values_seen values.new)) }
+    ensures next { OnOk result (IsNext progress.now (grammar.line_of word (values_seen values.new))) }
     ensures err { IfErr result (λ e. Fails e (grammar.first_of
         (grammar.rest_faults word (words rest.now) progress.now))) }
 {
     if has_digits(word) {
-        return read_digit_words(alloc, progress, word, rest);
+        return read_digit_words(alloc, progress, word, rest, values);
     }
-    read_plain_words(alloc, progress, word, rest)
+    read_plain_words(progress, word, rest, values)
 }
 
 /// Whether a first word may not stand here: the first line is the `image` line, and the only one; and in a batch there
@@ -303,11 +275,14 @@ fn read_line(
     text: &[u8],
     first: &[u8],
     rest: &[u8],
-) -> Result<Line, ReadError>
+    values: &mut Values,
+) -> Result<Word, ReadError>
     ensures fine { let faults = grammar.faults_of text.now first.now (words rest.now) progress.now in
         OnOk result (grammar.first_of faults ≡ None) }
-    ensures line { IfOk result (λ line. grammar.accepted (word_named first.now) (words rest.now) ≡ grammar.Fine line) }
-    ensures next { IfOk result (λ line. IsNext progress.now line) }
+    ensures line { IfOk result (λ word. grammar.accepted (word_named first.now) (words rest.now)
+        ≡ grammar.Fine (grammar.line_of word (values_seen values.new))) }
+    ensures fits { IfOk result (λ word. FitsFields word (values_seen values.new)) }
+    ensures next { IfOk result (λ word. IsNext progress.now (grammar.line_of word (values_seen values.new))) }
     ensures err { let faults = grammar.faults_of text.now first.now (words rest.now) progress.now in
         IfErr result (λ e. Fails e (grammar.first_of faults)) }
 {
@@ -323,13 +298,23 @@ fn read_line(
     if let Some(kind) = misplaced(word, progress) {
         return Err(ReadError::Fault(kind));
     }
-    read_words(alloc, progress, word, rest)
+    read_words(alloc, progress, word, rest, values)?;
+    Ok(word)
 }
 
-/// What a line of text is after the lines read so far: None where it is skipped.
-pub fn judge(alloc: Global, progress: &Progress, text: &[u8]) -> Result<Option<Line>, ReadError>
-    ensures ok { IfOk result (λ line. grammar.verdict text.now progress.now ≡ fine_or_skipped line) }
-    ensures next { IfOk result (λ line. IfSome line (λ line. IsNext progress.now line)) }
+/// What a line of text is after the lines read so far: its first word, and what the others write; None where it is
+/// skipped.
+pub fn judge(
+    alloc: Global,
+    progress: &Progress,
+    text: &[u8],
+    values: &mut Values,
+) -> Result<Option<Word>, ReadError>
+    ensures ok { IfOk result (λ word. grammar.verdict text.now progress.now
+        ≡ fine_or_skipped (line_seen word values.new)) }
+    ensures fits { IfOk result (λ word. IfSome word (λ word. FitsFields word (values_seen values.new))) }
+    ensures next { IfOk result (λ word. IfSome word (λ word.
+        IsNext progress.now (grammar.line_of word (values_seen values.new)))) }
     ensures err { IfErr result (λ e. Condemns e (grammar.verdict text.now progress.now)) }
 {
     let Some((first, rest)) = next_word(text) else {
@@ -338,5 +323,6 @@ pub fn judge(alloc: Global, progress: &Progress, text: &[u8]) -> Result<Option<L
     if is_comment(first) {
         return Ok(None);
     }
-    read_line(alloc, progress, text, first, rest).map(Some)
+    let word = read_line(alloc, progress, text, first, rest, values)?;
+    Ok(Some(word))
 }

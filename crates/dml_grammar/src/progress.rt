@@ -3,7 +3,8 @@
 ghost use Rattle.std.specs.Prelude.{◌≡◌, ◌≤◌, unwrap_or};
 ghost use Rattle.dml_grammar.specs.Grammar as grammar;
 
-use crate::lines::Line;
+use crate::entries::Values;
+use crate::table::Word;
 use std::alloc::{AllocError, Global};
 use std::marker::Model;
 
@@ -33,7 +34,7 @@ impl Progress {
     ghost use Rattle.std.specs.Prelude.{◌≡◌, ◌≤◌, ◌∷◌, ◌++◌, [], length, nat_eq, nat_lt, OnOk, OnErr};
     ghost use Rattle.dml_grammar.specs.Grammar as grammar;
     ghost use Rattle.dml_grammar.specs.Pages.{Alike};
-    ghost use Rattle.dml_grammar.specs.Reads.{IsNext};
+    ghost use Rattle.dml_grammar.specs.Reads.{IsNext, values_seen};
 
     /// No line yet.
     pub fn new(alloc: Global) -> Progress
@@ -91,24 +92,25 @@ impl Progress {
         self.jobs
     }
 
-    /// Takes note of a line that may come next.
+    /// Takes note of a line that may come next, by its first word and its values.
     #[tactic(auto, using(crate::proofs::PageLemmas::noted_same, crate::proofs::PageLemmas::open_behind))]
-    pub fn note(&mut self, alloc: Global, next: &Line) -> Result<(), AllocError>
-        requires { IsNext self.old next.now }
-        ensures noted { OnOk result (Alike self.new (self.old ++ next.now ∷ [])) }
+    pub fn note(&mut self, alloc: Global, word: Word, values: &Values) -> Result<(), AllocError>
+        requires { IsNext self.old (grammar.line_of word (values_seen values.now)) }
+        ensures noted { OnOk result (Alike self.new
+            (self.old ++ grammar.line_of word (values_seen values.now) ∷ [])) }
         ensures unchanged { OnErr result (self.new ≡ self.old) }
     {
-        let jobs = open_after(self.jobs, next);
-        match next {
-            Line::Image { pages } => {
-                self.present = vec![in alloc; false; *pages as usize]?;
+        let jobs = open_after(self.jobs, word);
+        match word {
+            Word::Image => {
+                self.present = vec![in alloc; false; values.number_at(0) as usize]?;
                 self.jobs = jobs;
             }
-            Line::Page { page, .. } => {
-                self.present[*page as usize] = true;
+            Word::Page => {
+                self.present[values.number_at(0) as usize] = true;
                 self.jobs = jobs;
             }
-            Line::Poke { .. } | Line::Job(_) | Line::Batch | Line::End | Line::Show { .. } => {
+            Word::Poke | Word::Job(_) | Word::Raw | Word::Batch | Word::End | Word::Show => {
                 self.jobs = jobs;
             }
         }
@@ -116,15 +118,15 @@ impl Progress {
     }
 }
 
-/// The number of jobs of the open batch, if one is, behind another line.
-fn open_after(jobs: Option<u32>, next: &Line) -> Option<u32>
+/// The number of jobs of the open batch, if one is, behind another line with this first word.
+fn open_after(jobs: Option<u32>, word: Word) -> Option<u32>
     requires { unwrap_or jobs 0 ≤ grammar.most_jobs }
-    ensures { result ≡ grammar.open_after jobs next.now }
+    ensures { (values : grammar.Values) → result ≡ grammar.open_after jobs (grammar.line_of word values) }
 {
-    match next {
-        Line::Batch => Some(0),
-        Line::End => None,
-        Line::Job(_) => jobs.map(|jobs| jobs + 1),
+    match word {
+        Word::Batch => Some(0),
+        Word::End => None,
+        Word::Job(_) | Word::Raw => jobs.map(|jobs| jobs + 1),
         _ => jobs,
     }
 }

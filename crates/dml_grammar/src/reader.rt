@@ -4,15 +4,17 @@ ghost use Rattle.std.specs.Prelude.{◌≡◌, ◌+◌, ◌≤◌, ◌∷◌, �
 ghost use Rattle.std.specs.Str.Lines.{lines};
 ghost use Rattle.dml_grammar.specs.Grammar as grammar;
 ghost use Rattle.dml_grammar.specs.Left.{left_from, nothing_but, with_line};
-ghost use Rattle.dml_grammar.specs.Reads.{IsNext};
+ghost use Rattle.dml_grammar.specs.Reads.{FitsFields, IsNext, values_seen};
 ghost use Rattle.dml_grammar.specs.declared.faults.ScriptError.TheVariants as errors;
 ghost use Rattle.dml_grammar.specs.declared.faults.ScriptFault.{ScriptFault as TheFault};
 
+use crate::entries::Values;
 use crate::faults::{Kind, ReadError, ScriptError, ScriptFault};
-use crate::judge::judge;
+use crate::judge::{judge, line_of};
 use crate::lines::Line;
 use crate::progress::Progress;
 use crate::script::MAX_SCRIPT;
+use crate::table::Word;
 use crate::words::next_line;
 use std::alloc::Global;
 use std::marker::Model;
@@ -40,8 +42,9 @@ impl<'a> Model for LineReader<'a> {
 }
 
 impl<'a> LineReader<'a> {
-    ghost use Rattle.std.specs.Prelude.{◌≡◌, ◌≤◌, length};
-    ghost use Rattle.dml_grammar.specs.Left.{Gives, all_left};
+    ghost use Rattle.std.specs.Prelude.{◌≡◌, ◌≤◌, length, IfOk, IfSome};
+    ghost use Rattle.dml_grammar.specs.Left.{Finds, Gives, Passes, all_left};
+    ghost use Rattle.dml_grammar.specs.Reads.{FitsFields, values_seen};
 
     /// Before the first line of a text of at most `MAX_SCRIPT` bytes.
     #[tactic(auto, unfolding(crate::specs::Left::left_from))]
@@ -59,26 +62,49 @@ impl<'a> LineReader<'a> {
 
     /// The next line that is not skipped, None behind the last one, or the text's first fault. Where memory is
     /// refused, the same line is still the next.
-    #[tactic(auto, using(crate::proofs::LeftLemmas::left_alike))]
     pub fn next(&mut self, alloc: Global) -> Result<Option<Line>, ScriptError>
         ensures { Gives result self.old self.new }
     {
-        let Some(found) = find_line(alloc, &self.progress, self.rest, self.number, self.opened)?
-        else {
+        let mut values = Values::new(alloc);
+        let Some(word) = self.step(alloc, &mut values)? else {
             return Ok(None);
         };
-        self.progress.note(alloc, &found.line)?;
+        Ok(Some(line_of(alloc, word, &mut values)))
+    }
+
+    /// Passes over the next line as `next` gives it; false behind the last one.
+    pub fn pass(&mut self, alloc: Global) -> Result<bool, ScriptError>
+        ensures { Passes result self.old self.new }
+    {
+        let mut values = Values::new(alloc);
+        let word = self.step(alloc, &mut values)?;
+        Ok(word.is_some())
+    }
+
+    /// The next line as its first word and its values.
+    #[tactic(auto, using(crate::proofs::LeftLemmas::left_alike))]
+    #[inline(never)]
+    fn step(&mut self, alloc: Global, values: &mut Values) -> Result<Option<Word>, ScriptError>
+        ensures gives { Finds result values.new self.old self.new }
+        ensures fits { IfOk result (λ word. IfSome word (λ word. FitsFields word (values_seen values.new))) }
+    {
+        let (rest, number, opened) = (self.rest, self.number, self.opened);
+        let Some(found) = find_line(alloc, &self.progress, rest, number, opened, values)? else {
+            return Ok(None);
+        };
+        self.progress.note(alloc, found.word, values)?;
         self.rest = found.rest;
         self.number = found.number;
         self.opened = found.opened;
-        Ok(Some(found.line))
+        Ok(Some(found.word))
     }
 }
 
-/// A line, the text behind it, the number of that text's first line and that of the last `batch` line before it.
+/// The first word of a line, the text behind the line, the number of that text's first line and that of the last `batch`
+/// line before it.
 #[derive(Drop)]
 struct FoundLine<'a> {
-    line: Line,
+    word: Word,
     rest: &'a [u8],
     number: u32,
     opened: u32,
@@ -93,13 +119,17 @@ fn find_line<'a>(
     text: &'a [u8],
     number: u32,
     opened: u32,
+    values: &mut Values,
 ) -> Result<Option<FoundLine<'a>>, ScriptError>
     requires { number + length text.now ≤ 4194305 }
     ensures line { IfOk result (λ found. MatchOption found (left_from number opened progress.now (lines text.now) ≡
         nothing_but None)
         (λ f. left_from number opened progress.now (lines text.now)
-        ≡ with_line f.line (left_from f.number f.opened (progress.now ++ f.line ∷ []) (lines f.rest.now)))) }
-    ensures next { IfOk result (λ found. IfSome found (λ f. IsNext progress.now f.line)) }
+        ≡ with_line (grammar.line_of f.word (values_seen values.new)) (left_from f.number f.opened
+        (progress.now ++ grammar.line_of f.word (values_seen values.new) ∷ []) (lines f.rest.now)))) }
+    ensures fits { IfOk result (λ found. IfSome found (λ f. FitsFields f.word (values_seen values.new))) }
+    ensures next { IfOk result (λ found. IfSome found (λ f.
+        IsNext progress.now (grammar.line_of f.word (values_seen values.new)))) }
     ensures count { IfOk result (λ found. IfSome found (λ f. f.number + length f.rest.now ≤ 4194305)) }
     ensures fault { (fault : TheFault) → IsErrOf result (errors.Fault fault) →
         left_from number opened progress.now (lines text.now) ≡ nothing_but (Some fault) }
@@ -109,12 +139,12 @@ fn find_line<'a>(
         let (text, after) = next_line(rest);
         number += 1;
         rest = after;
-        match judge(alloc, progress, text) {
+        match judge(alloc, progress, text, values) {
             Ok(None) => {}
-            Ok(Some(line)) => {
+            Ok(Some(word)) => {
                 return Ok(Some(FoundLine {
-                    opened: opening_number(number - 1, &line, opened),
-                    line,
+                    opened: opening_number(number - 1, word, opened),
+                    word,
                     rest,
                     number,
                 }));
@@ -127,12 +157,12 @@ fn find_line<'a>(
     Ok(None)
 }
 
-/// The number of the last `batch` line, behind a line of this number.
-fn opening_number(number: u32, line: &Line, opened: u32) -> u32
-    ensures { result ≡ grammar.opening_number number line.now opened }
+/// The number of the last `batch` line, behind a line of this number with this first word.
+fn opening_number(number: u32, word: Word, opened: u32) -> u32
+    ensures { (values : grammar.Values) → result ≡ grammar.opening_number number (grammar.line_of word values) opened }
 {
-    match line {
-        Line::Batch => number,
+    match word {
+        Word::Batch => number,
         _ => opened,
     }
 }

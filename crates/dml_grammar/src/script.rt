@@ -87,6 +87,6 @@ pub fn read_script<'a>(alloc: Global, bytes: &'a [u8]) -> Result<Script<'a>, Scr
     ensures { Reads result (parse bytes.now) }
 {
     let mut lines = LineReader::new(alloc, bytes);
-    while lines.next(alloc)?.is_some() {}
+    while lines.pass(alloc)? {}
     Ok(Script { text: bytes })
 }

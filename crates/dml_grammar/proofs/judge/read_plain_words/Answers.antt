@@ -15,15 +15,15 @@ returns-in-Some-clause-err c =
 pub is_out_of_range-requires : goal.is_out_of_range-requires
 is_out_of_range-requires c =
     let found = no_fault_found (grammar.fitted (parts_of c.args.word) (words c.args.rest.now)) (rw c.parts_of.ensures.parts at c.in_default.ensures.fault) in
-    let same = values_are_plain c.args.word (words c.args.rest.now) found.0 c.read_numbers.new.numbers.items c.new-2.result.items c.requires.plain found.1
-    (rw c.parts_of.ensures.parts at (c.read_numbers.ensures.numbers c.in_default.is)) c.new-2.ensures.items in
+    let same = values_are_plain c.args.word (words c.args.rest.now) found.0 c.read_numbers.new.numbers.items c.clear-2.new.self.items c.requires.plain found.1
+    (rw c.parts_of.ensures.parts at (c.read_numbers.ensures.numbers c.in_default.is)) c.clear-2.ensures.items in
     subst (HasSizes c.args.word) (sym same) (sizes_of_fitted c.args.word (words c.args.rest.now) found.0 found.1 found.2)
 
 pub returns-clause-fine : goal.returns-clause-fine
 returns-clause-fine c =
     let found = no_fault_found (grammar.fitted (parts_of c.args.word) (words c.args.rest.now)) (rw c.parts_of.ensures.parts at c.in_default.ensures.fault) in
-    let same = values_are_plain c.args.word (words c.args.rest.now) found.0 c.read_numbers.new.numbers.items c.new-2.result.items c.requires.plain found.1
-    (rw c.parts_of.ensures.parts at (c.read_numbers.ensures.numbers c.in_default.is)) c.new-2.ensures.items in
+    let same = values_are_plain c.args.word (words c.args.rest.now) found.0 c.read_numbers.new.numbers.items c.clear-2.new.self.items c.requires.plain found.1
+    (rw c.parts_of.ensures.parts at (c.read_numbers.ensures.numbers c.in_default.is)) c.clear-2.ensures.items in
     let within = ap (λ (v : grammar.Values). grammar.is_out_of_range c.args.word v c.args.progress.now) (sym same)
     ∙ sym c.is_out_of_range.ensures.value ∙ c.if-is_out_of_range.false in
     none_behind c.args.word (grammar.fitted (parts_of c.args.word) (words c.args.rest.now)) found.0 c.args.progress.now found.1 found.2 within
@@ -31,7 +31,7 @@ returns-clause-fine c =
 pub returns-clause-line : goal.returns-clause-line
 returns-clause-line c =
     let found = no_fault_found (grammar.fitted (parts_of c.args.word) (words c.args.rest.now)) (rw c.parts_of.ensures.parts at c.in_default.ensures.fault) in
-    let same = values_are_plain c.args.word (words c.args.rest.now) found.0 c.read_numbers.new.numbers.items c.new-2.result.items c.requires.plain found.1
-    (rw c.parts_of.ensures.parts at (c.read_numbers.ensures.numbers c.in_default.is)) c.new-2.ensures.items in
+    let same = values_are_plain c.args.word (words c.args.rest.now) found.0 c.read_numbers.new.numbers.items c.clear-2.new.self.items c.requires.plain found.1
+    (rw c.parts_of.ensures.parts at (c.read_numbers.ensures.numbers c.in_default.is)) c.clear-2.ensures.items in
     ap (λ (o : Option Entries). grammar.Fine (grammar.line_of c.args.word (grammar.values_of (unwrap_or o [])))) found.1
-    ∙ ap (λ (v : grammar.Values). grammar.Fine (grammar.line_of c.args.word v)) (sym same) ∙ ap grammar.Fine (sym c.plain_line_of.ensures)
+    ∙ ap (λ (v : grammar.Values). grammar.Fine (grammar.line_of c.args.word v)) (sym same)

@@ -53,9 +53,6 @@ whole_is : (ds : List ℕ) (front last : ℕ) → length ds ≡ 20 → Some fron
     → number_of 10 ds ≡ Some (front * 10 + last)
 whole_is ds front last long first second = long_number_is ds long ∙ rw (← first, ← second) refl
 
-no_front : (ds : List ℕ) → length ds ≡ 20 → None ≡ number_of 10 (take 19 ds) → number_of 10 ds ≡ None
-no_front ds long first = long_number_is ds long ∙ rw (← first) refl
-
 -- a product or a sum that does not fit is that of no number of 64 bits
 pub long_product : (ds : List ℕ) (front last : ℕ) → length ds ≡ 20 → Some front ≡ number_of 10 (take 19 ds) → Some last ≡ number_of 10 (drop 19 ds)
     → ¬ (front * 10 < 2 ^ 64) → None ≡ at_most greatest (number_of 10 ds)

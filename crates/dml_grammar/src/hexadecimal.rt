@@ -47,7 +47,8 @@ fn paired(values: u8x16) -> u8x8
     requires long { length values ≡ 16 }
     requires small { (k : ℕ) → slice_index values k < 16 }
     ensures long { length result ≡ 8 }
-    ensures pairs { (j : ℕ) → j < 8 → slice_index result j ≡ slice_index values (2 * j) * 16 + slice_index values (2 * j + 1) }
+    ensures pairs { (j : ℕ) → j < 8
+        → slice_index result j ≡ slice_index values (2 * j) * 16 + slice_index values (2 * j + 1) }
 {
     let high: u8x8 = values.swizzle([0, 2, 4, 6, 8, 10, 12, 14]);
     let low: u8x8 = values.swizzle([1, 3, 5, 7, 9, 11, 13, 15]);

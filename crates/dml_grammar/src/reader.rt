@@ -100,8 +100,8 @@ impl<'a> LineReader<'a> {
     }
 }
 
-/// The first word of a line, the text behind the line, the number of that text's first line and that of the last `batch`
-/// line before it.
+/// The first word of a line, the text behind the line, the number of that text's first line and that of the last
+/// `batch` line before it.
 #[derive(Drop)]
 struct FoundLine<'a> {
     word: Word,

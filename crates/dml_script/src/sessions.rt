@@ -169,8 +169,8 @@ impl Session {
         Ok(lines.next_line(alloc)?)
     }
 
-    /// Takes a line that is neither the first nor a job's nor a batch's, and answers the text that it adds. Where memory
-    /// is refused, all is as it was.
+    /// Takes a line that is neither the first nor a job's nor a batch's, and answers the text that it adds. Where
+    /// memory is refused, all is as it was.
     fn take(&mut self, alloc: Global, line: &Line) -> Result<Vec<u8>, AllocError>
         requires alone { IsAlone line.now }
         requires outside { self.old.session.batch ≡ None }

@@ -54,18 +54,19 @@ few_digits radix most ds some few fits =
     let up : radix ^ length ds ≤ radix ^ most = pow-le-pow_right some few in
     omega arith
 
--- the same of few decimal digits at the head of a text
-pub few_below : (most : ℕ) (ds : List ℕ) (i : ℕ) → i ≤ length ds → i < most → 10 ^ most ≤ 2 ^ 64 → list_all (λ c. is_digit c 10) (take i ds) ≡ true
-    → digits_value 10 (take i ds) * 10 + 10 ≤ 2 ^ 64
-few_below most ds i within few fits all =
-    let below = digits_value-lt 10 (take i ds) (all_digits 10 (take i ds) all) in
+-- the same of few digits at the head of a text
+pub few_below : (radix most : ℕ) (ds : List ℕ) (i : ℕ) → 2 ≤ radix → i ≤ length ds → i < most → radix ^ most ≤ 2 ^ 64
+    → list_all (λ c. is_digit c radix) (take i ds) ≡ true → digits_value radix (take i ds) * radix + radix ≤ 2 ^ 64
+few_below radix most ds i least within few fits all =
+    let below = digits_value-lt radix (take i ds) (all_digits radix (take i ds) all) in
     let long : length (take i ds) ≡ i = omega (arith, length-take i ds) in
-    let some : 0 < 10 = omega arith in
+    let some : 0 < radix = omega arith in
     let next : i + 1 ≤ most = omega arith in
-    let more : 10 ^ (i + 1) ≤ 10 ^ most = pow-le-pow_right some next in
-    let power : 10 ^ (i + 1) ≡ 10 ^ i * 10 = pow_more 10 i in
-    let here : digits_value 10 (take i ds) < 10 ^ i = rw long at below in
-    omega (arith, more, power, here, fits)
+    let more : radix ^ (i + 1) ≤ radix ^ most = pow-le-pow_right some next in
+    let power : radix ^ (i + 1) ≡ radix ^ i * radix = pow_more radix i in
+    let here : digits_value radix (take i ds) < radix ^ i = rw long at below in
+    let up : radix * (digits_value radix (take i ds) + 1) ≤ radix * radix ^ i = mul-le-mul_left radix (omega arith) in
+    omega (arith, more, power, up, fits)
 
 -- one digit more
 pub number_more : (radix : ℕ) (ds : List ℕ) (i n : ℕ) → radix ≤ 16 → i < length ds → worth (get_or ds i 0) < radix

@@ -8,7 +8,7 @@ pub overflow_mul-number : goal.overflow_mul-number
 overflow_mul-number c =
     let most : c.min-most.result ≤ 19 = omega (arith, c.min-most.ensures) in
     let inside : c.min-most.result ≤ length c.args.text.now = omega (arith, c.min-most.ensures) in
-    let below = few_below 19 c.args.text.now c.loop-n.n (omega arith) (omega arith) (omega arith) c.loop-n.invariant.digits in
+    let below = few_below 10 19 c.args.text.now c.loop-n.n (omega arith) (omega arith) (omega arith) (omega arith) c.loop-n.invariant.digits in
     let small : c.loop-n.number * 10 + 10 ≤ 2 ^ 64 = rw c.loop-n.invariant.number below in
     record { fits = omega (arith, small) }
 
@@ -16,7 +16,7 @@ pub overflow_add-number : goal.overflow_add-number
 overflow_add-number c =
     let most : c.min-most.result ≤ 19 = omega (arith, c.min-most.ensures) in
     let inside : c.min-most.result ≤ length c.args.text.now = omega (arith, c.min-most.ensures) in
-    let below = few_below 19 c.args.text.now c.loop-n.n (omega arith) (omega arith) (omega arith) c.loop-n.invariant.digits in
+    let below = few_below 10 19 c.args.text.now c.loop-n.n (omega arith) (omega arith) (omega arith) (omega arith) c.loop-n.invariant.digits in
     let small : c.loop-n.number * 10 + 10 ≤ 2 ^ 64 = rw c.loop-n.invariant.number below in
     record { fits = omega (arith, small) }
 

@@ -3,7 +3,7 @@ use Rattle.std.proofs.Common.{◌≡◌, ℕ, zero, suc, ◌+◌, ◌-◌, ◌*�
 use Rattle.std.proofs.lemmas.List.{places, length-set, get_or-set_same}
 use Rattle.std.proofs.lemmas.List.Folds.{list_all-append}
 use Rattle.std.proofs.lemmas.Bool.{and_parts}
-use Rattle.dml_types.specs.Memory.{Memory, IsMemory, Put, has, has_all, overwrite, put, puts_made}
+use Rattle.dml_types.specs.Memory.{Memory, IsMemory, Put, has_all, overwrite, put, puts_made}
 use Rattle.dml_types.specs.Delta.{block_number}
 use Rattle.dml_types.proofs.MemoryLemmas.{has_all_within, length_overwrite, put_keeps, puts_present}
 use Rattle.dml_image.specs.Table.{table_memory, AreWhole}
@@ -19,10 +19,6 @@ made_both memory (p ∷ puts) more = made_both (put memory p.address p.bytes) pu
 pub present_after : (memory : Memory) (puts more : List Put) → are_present (puts_made memory puts) more ≡ are_present memory more
 present_after memory puts more =
     ap (λ (present : List Bool). are_present (record memory { present = present; bytes = [] }) more) (puts_present memory puts)
-
-pub has_after : (memory : Memory) (puts : List Put) (address : ℕ) → has (puts_made memory puts) address ≡ has memory address
-has_after memory puts address =
-    ap (λ (present : List Bool). has (record memory { present = present; bytes = [] }) address) (puts_present memory puts)
 
 pub kept_after_puts : (memory : Memory) (puts : List Put) → IsMemory memory → are_present memory puts ≡ true → IsMemory (puts_made memory puts)
 kept_after_puts memory [] good here = good

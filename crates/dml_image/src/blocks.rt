@@ -48,7 +48,7 @@ fn entry_block(entries: &[u8], i: usize) -> [u8; 8]
 }
 
 impl Table {
-    /// Puts the blocks of all whole entries, a page at a time as far as their numbers rise.
+    /// Puts the blocks of all whole entries, a page at a time as long as the next one lies in the same page.
     pub fn put_blocks(&mut self, target: u64, entries: &[u8])
         requires memory { IsMemory self.old }
         requires present { IsTrue (are_present self.old (block_puts target entries.now)) }

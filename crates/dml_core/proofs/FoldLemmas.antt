@@ -2,6 +2,7 @@
 use Rattle.std.proofs.Common.{◌≡◌, ℕ, ◌+◌, ◌-◌, ◌<◌, ◌≤◌, zero, suc, Bool, true, false, cond, List, [], ◌∷◌, ◌++◌, length, get_or, set, map, filter, drop, refl, sym, ◌∙◌, ap, arith, ⊎_elim, Option, None, Some}
 use Rattle.std.proofs.lemmas.Bool.{cases_eq, eq-eqb, ne_eqb, both_ways}
 use Rattle.std.proofs.lemmas.List.{set_comm, set-get_or, map-set, length-set, length-map, get_or-set_same, get_or-set_other, get_or_append_left, set-append_left, drop_all, drop_more}
+use Rattle.std.proofs.lemmas.List.Folds.{list_any_at}
 use Rattle.std.specs.Prelude.{nat_eq, ◌||◌, is_some, slice_get}
 use Rattle.std.specs.List.{range_with_len}
 use Rattle.dml_types.specs.Job.{no_op_job}
@@ -32,6 +33,17 @@ at_map g (entry ∷ fetched) (suc i) = at_map g fetched i
 
 pub job_entry : (fetched : List Fetched) (i : ℕ) → job_at (jobs_of fetched) i ≡ (entry_at fetched i).job
 job_entry fetched i = at_map (λ entry. entry.job) fetched i
+
+-- an element of a list is among it
+pub member_here : (places : List ℕ) (i place : ℕ) → i < length places → get_or places i 0 ≡ place → is_in place places ≡ true
+member_here places i place below here = list_any_at (nat_eq place) places i 0 below (eq-eqb place (get_or places i 0) (sym here))
+
+-- a test that is looked at second
+pub or_turned : (a b : Bool) → (b || a) ≡ (a || b)
+or_turned true true = refl
+or_turned true false = refl
+or_turned false true = refl
+or_turned false false = refl
 
 -- what a new answer does not change stays
 pub field_stays : {X : Type 0} (g : Fetched → X) (fetched : List Fetched) (i : ℕ) (entry : Fetched) → g entry ≡ g (entry_at fetched i) → map g (set fetched i entry) ≡ map g fetched

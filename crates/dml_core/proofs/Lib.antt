@@ -9,6 +9,7 @@ pub mod LoopLemmas
 pub mod PlanFacts
 pub mod StepFacts
 pub mod ReplayLemmas
+pub mod CountLemmas
 pub mod GatherLemmas
 pub mod RoundLemmas
 pub mod JoinFacts

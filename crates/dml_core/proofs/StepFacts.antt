@@ -1,6 +1,7 @@
 -- What the steps of the code rest on.
 use Rattle.std.proofs.Common.{◌≡◌, ℕ, ◌+◌, ◌<◌, ◌≤◌, Bool, true, false, not, cond, List, [], ◌∷◌, ◌++◌, length, get_or, filter, take, drop, sym, ◌∙◌, ap, arith, Option, None, Some}
 use Rattle.std.proofs.lemmas.List.{length-append, length_push, length-drop, drop-drop, drop_all, get_or-drop, take_all, get_or_append_left}
+use Rattle.std.proofs.Math.Seq.{get_or-append_seam}
 use Rattle.std.proofs.lemmas.List.Elements.{filter_more}
 use Rattle.std.proofs.lemmas.Bool.{and_from, eq-eqb, ne_eqb}
 use Rattle.std.specs.Prelude.{nat_eq, is_none, ◌&&◌}
@@ -18,7 +19,7 @@ abbrev pub world : Settings → Memory → List (List Job) → List Fetched → 
 world settings image sent fetched waves to_do hands finished =
     record { settings = settings; image = image; sent = sent; fetched = fetched; waves = waves; to_do = to_do; hands = hands; finished = finished }
 
-one_more : {X : Type 0} (xs : List X) (b : Bool) (x : X) → length (xs ++ cond b (x ∷ []) []) ≡ length xs + cond b 1 0
+pub one_more : {X : Type 0} (xs : List X) (b : Bool) (x : X) → length (xs ++ cond b (x ∷ []) []) ≡ length xs + cond b 1 0
 one_more xs true x = length_push xs x
 one_more xs false x = let cut = length-append xs [] in omega (arith, cut)
 
@@ -50,6 +51,17 @@ opened_more fetched entry =
 
 pub few_open : (fetched : List Fetched) (entry : Fetched) → length (open_places fetched) < 1024 → length (open_places (fetched ++ entry ∷ [])) ≤ 1024
 few_open fetched entry few = let more = opened_more fetched entry in omega (arith, few, more)
+
+-- an open one opens one
+pub open_more : (fetched : List Fetched) (entry : Fetched) → entry.answer ≡ None → length (open_places (fetched ++ entry ∷ [])) ≡ length (open_places fetched) + 1
+open_more fetched entry unanswered =
+    let list = fetched ++ entry ∷ [] in
+    let size = length_push fetched entry in
+    let more = ap (λ n. length (filter (is_open list) (range_with_len 0 n))) size ∙ (ap length (kept_more (is_open list) (length fetched)) ∙ one_more (filter (is_open list) (range_with_len 0 (length fetched))) (is_open list (length fetched)) (length fetched)) in
+    let same = ap length (filter_range_same (is_open list) (is_open fetched) 0 (length fetched) (λ i low below. ap (λ (e : Fetched). is_none e.answer) (get_or_append_left fetched (entry ∷ []) no_entry i (let e : i < length fetched = omega arith in e)))) in
+    let own : is_open list (length fetched) ≡ true =
+    ap (λ (e : Fetched). is_none e.answer) (get_or-append_seam fetched entry [] no_entry) ∙ ap is_none unanswered in
+    more ∙ (ap (λ b. length (filter (is_open list) (range_with_len 0 (length fetched))) + cond b 1 0) own ∙ ap (λ n. n + 1) same)
 
 -- the tasks of the next wave are the same before a commit and behind it
 pub next_tasks : (fetched : List Fetched) (before after : Progress) (staging chunk : ℕ) (places wave : List ℕ) → after ≡ run_all (carry_out staging) before places → before.fetched ≡ fetched → tasks_of (jobs_of after.fetched) staging chunk wave ≡ tasks_of (jobs_of fetched) staging chunk wave

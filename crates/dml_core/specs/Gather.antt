@@ -1,6 +1,6 @@
 -- Submits and fetches in a row, with one plan behind the last of them: the lists that they make longer, and the
 -- world that they leave.
-use Rattle.std.specs.Prelude.{◌≡◌, ℕ, ◌-◌, Bool, true, false, ◌&&◌, List, [], ◌∷◌, ◌++◌, Option, length, is_some, if◌then◌else◌, nat_lt, slice_get, slice_index_or, slice_set, take}
+use Rattle.std.specs.Prelude.{◌≡◌, ℕ, ◌-◌, ◌<◌, Bool, true, false, ◌&&◌, List, [], ◌∷◌, ◌++◌, Option, length, is_some, if◌then◌else◌, nat_lt, slice_get, slice_index, slice_index_or, slice_set, take}
 use Rattle.dml_core.specs.Types.{Job, Fetched, Step, Submit, Fetch}
 use Rattle.dml_core.specs.Plan.{open_places, plan_of}
 use Rattle.dml_core.specs.World.{World, is_empty, new_entry, no_hand, part_of, set_out}
@@ -19,6 +19,10 @@ lists_of w = lists w.sent w.fetched
 -- the client's next job to be fetched
 abbrev pub next_of : List (List Job) → List Fetched → ℕ → Option Job
 next_of sent fetched client = slice_get (slice_index_or sent client []) (length (part_of client fetched))
+
+-- so many jobs were fetched of each client
+pub record AreParts (parts : List ℕ) (fetched : List Fetched) : Type 0 where
+  pub each : (client : ℕ) → client < length parts → slice_index parts client ≡ length (part_of client fetched)
 
 abbrev pub is_fetch : Step → Bool
 is_fetch (Fetch client) = true

@@ -2,11 +2,12 @@
 ghost use Rattle.std.specs.Prelude.{◌≡◌, ◌⊎◌, ◌||◌, ◌+◌, ◌≤◌, ◌<◌, false, length, nat_lt, slice_index_or, slice_set, take, true, []};
 ghost use Rattle.dml_core.specs.Plan.{open_places};
 ghost use Rattle.dml_core.specs.World.{Reaches, World};
-ghost use Rattle.dml_core.specs.Gather.{AreGathered, Lists, gathered, grown, is_idle, lists, lists_of, may_fetch, may_join, more_fetched, more_sent, shorter, ungrown};
+ghost use Rattle.dml_core.specs.Gather.{AreGathered, AreParts, Lists, gathered, grown, is_idle, lists, lists_of, may_fetch, may_join, more_fetched, more_sent, shorter, ungrown};
 ghost use Rattle.dml_core.specs.Gather as word;
 
+use crate::counts::{count_one, count_parts, next_counted};
 use crate::lists::SentJobs;
-use crate::stepping::{MAX_OPEN, Outset, all_free, count_open, next_job, set_out};
+use crate::stepping::{MAX_OPEN, Outset, all_free, count_open, set_out};
 use crate::values::{Fetched, Step};
 use crate::worlds::World;
 use dml_types::Job;
@@ -86,7 +87,8 @@ fn is_or_fetches(fetches: bool, step: &Step) -> bool
     fetches || is_fetch(step)
 }
 
-/// Makes the lists of an idle world longer by the steps, up to the first that cannot be taken.
+/// Makes the lists of an idle world longer by the steps, up to the first that cannot be taken. What was fetched is
+/// counted once, since each fetch counts one job more.
 fn push_steps(sent: &mut Vec<SentJobs>, fetched: &mut Vec<Fetched>, steps: &[Step]) -> Row
     ensures within { result.count ≤ length steps.now }
     ensures gathered { AreGathered (lists sent.old.items fetched.old.items) (take result.count steps.now)
@@ -98,8 +100,10 @@ fn push_steps(sent: &mut Vec<SentJobs>, fetched: &mut Vec<Fetched>, steps: &[Ste
     ensures fixed { (result.fetches ≡ true) ⊎ (fetched.new.items ≡ fetched.old.items) }
 {
     let mut fetches = false;
+    let mut open_jobs = count_open(fetched.as_slice());
+    let mut parts = count_parts(fetched.as_slice());
     for i in 0..steps.len() {
-        if !push_step(sent, fetched, &steps[i]) {
+        if !push_step(sent, fetched, &mut open_jobs, &mut parts, &steps[i]) {
             return Row { count: i, fetches };
         }
         fetches = is_or_fetches(fetches, &steps[i]);
@@ -110,8 +114,19 @@ fn push_steps(sent: &mut Vec<SentJobs>, fetched: &mut Vec<Fetched>, steps: &[Ste
     }
 }
 
-/// Makes the lists of an idle world longer by a step, and answers whether it could be taken.
-fn push_step(sent: &mut Vec<SentJobs>, fetched: &mut Vec<Fetched>, step: &Step) -> bool
+/// Makes the lists of an idle world longer by a step, and answers whether it could be taken. So many of the fetched
+/// jobs are open, and so many each client's.
+fn push_step(
+    sent: &mut Vec<SentJobs>,
+    fetched: &mut Vec<Fetched>,
+    open_jobs: &mut usize,
+    parts: &mut [usize],
+    step: &Step,
+) -> bool
+    requires open_jobs { open_jobs.old ≡ length (open_places fetched.old.items) }
+    requires parts { AreParts parts.old fetched.old.items }
+    ensures open_jobs { result ≡ true → open_jobs.new ≡ length (open_places fetched.new.items) }
+    ensures parts { result ≡ true → AreParts parts.new fetched.new.items }
     ensures taken { result ≡ true → may_join (lists sent.old.items fetched.old.items) step.now ≡ true }
     ensures more { result ≡ true → lists sent.new.items fetched.new.items
         ≡ grown (lists sent.old.items fetched.old.items) step.now }
@@ -122,7 +137,7 @@ fn push_step(sent: &mut Vec<SentJobs>, fetched: &mut Vec<Fetched>, step: &Step) 
 {
     match *step {
         Step::Submit { client, job } => push_sent(sent, client, job),
-        Step::Fetch { client } => push_fetched(sent.as_slice(), fetched, client),
+        Step::Fetch { client } => push_fetched(sent.as_slice(), fetched, open_jobs, parts, client),
         Step::Take { .. } | Step::Finish { .. } | Step::Commit => false,
     }
 }
@@ -143,19 +158,30 @@ fn push_sent(sent: &mut Vec<SentJobs>, client: u32, job: Job) -> bool
     }
 }
 
-/// Puts a client's next job behind those that were fetched, and answers whether it could.
-#[tactic(auto, using(crate::proofs::StepFacts::few_open))]
-fn push_fetched(sent: &[SentJobs], fetched: &mut Vec<Fetched>, client: u32) -> bool
+/// Puts a client's next job behind those that were fetched, of which so many are open, and so many each client's, and
+/// answers whether it could.
+#[tactic(auto, using(crate::proofs::StepFacts::few_open, crate::proofs::StepFacts::open_more))]
+fn push_fetched(
+    sent: &[SentJobs],
+    fetched: &mut Vec<Fetched>,
+    open_jobs: &mut usize,
+    parts: &mut [usize],
+    client: u32,
+) -> bool
+    requires open_jobs { open_jobs.old ≡ length (open_places fetched.old.items) }
+    requires parts { AreParts parts.old fetched.old.items }
     ensures may { result ≡ true → may_fetch sent.now fetched.old.items client ≡ true }
     ensures more { result ≡ true → fetched.new.items ≡ more_fetched sent.now fetched.old.items client }
     ensures same { result ≡ false → fetched.new.items ≡ fetched.old.items }
     ensures few { result ≡ true → length (open_places fetched.new.items) ≤ 1024 }
+    ensures open_jobs { result ≡ true → open_jobs.new ≡ length (open_places fetched.new.items) }
+    ensures parts { result ≡ true → AreParts parts.new fetched.new.items }
 {
-    let next = next_job(sent, fetched.as_slice(), client);
+    let next = next_counted(sent, fetched.as_slice(), parts, client);
     let Some(job) = next else {
         return false;
     };
-    if count_open(fetched.as_slice()) >= MAX_OPEN {
+    if *open_jobs >= MAX_OPEN {
         return false;
     }
     let entry = Fetched {
@@ -164,7 +190,11 @@ fn push_fetched(sent: &[SentJobs], fetched: &mut Vec<Fetched>, client: u32) -> b
         answer: None,
     };
     match fetched.push(entry) {
-        Ok(()) => true,
+        Ok(()) => {
+            *open_jobs += 1;
+            count_one(parts, client);
+            true
+        }
         Err(_) => false,
     }
 }

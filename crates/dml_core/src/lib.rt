@@ -2,6 +2,7 @@
 #![tactic(auto)]
 
 mod carrying;
+mod counts;
 mod errors;
 mod gathering;
 mod laws;

@@ -1,5 +1,5 @@
 //! The waves of the jobs that are not committed.
-ghost use Rattle.std.specs.Prelude.{◌≡◌, ◌≤◌, ◌<◌, ◌++◌, ◌∷◌, [], All, IfOk, OnOk, if◌then◌else◌, is_some, length, map, slice_index};
+ghost use Rattle.std.specs.Prelude.{◌≡◌, ◌≤◌, ◌<◌, ◌++◌, ◌∷◌, ◌||◌, [], All, IfOk, OnOk, if◌then◌else◌, is_some, length, map, slice_index};
 ghost use Rattle.dml_types.specs.Job.{no_op_job};
 ghost use Rattle.dml_types.specs.Limits.{IsValid};
 ghost use Rattle.dml_types.specs.Refusal.{need, refusal};
@@ -10,6 +10,7 @@ ghost use Rattle.dml_core.specs.Plan.{jobs_of};
 ghost use Rattle.dml_core.specs.Plan as word;
 
 use crate::lists::Places;
+use crate::stepping::one_if;
 use crate::values::Fetched;
 use dml_desc::{Checked, check};
 use dml_levels::{LevelError, Wave, levels, waves};
@@ -219,11 +220,37 @@ fn first_wave(
     ensures { IfOk result (λ wave. wave ≡ word.first_wave (jobs_of fetched.now) staging places.now chosen.now) }
 {
     let mut list = Vec::new(alloc);
+    let mut seen = 0;
     for place in places {
-        let stands = is_refused(&fetched[*place].job, staging) || is_member(*place, chosen);
-        push_if(&mut list, *place, stands)?;
+        let among = is_chosen(*place, chosen, seen);
+        seen += one_if(among);
+        push_if(
+            &mut list,
+            *place,
+            stands(&fetched[*place].job, staging, among),
+        )?;
     }
     Ok(Places { list })
+}
+
+/// Whether a job stands in the first wave, since it is chosen or refused.
+#[tactic(auto, using(crate::proofs::FoldLemmas::or_turned))]
+fn stands(job: &Job, staging: u32, is_chosen: bool) -> bool
+    ensures { result ≡ (is_some (refusal job.now staging) || is_chosen) }
+{
+    is_chosen || is_refused(job, staging)
+}
+
+/// Whether a place is chosen. So many chosen ones were seen, and they mostly stand in order, so the next one is looked
+/// at before all others.
+#[tactic(auto, using(crate::proofs::FoldLemmas::member_here))]
+fn is_chosen(place: usize, chosen: &[usize], seen: usize) -> bool
+    ensures { result ≡ is_in place chosen.now }
+{
+    if seen < chosen.len() && chosen[seen] == place {
+        return true;
+    }
+    is_member(place, chosen)
 }
 
 /// Whether a place is among some others.

@@ -269,7 +269,7 @@ pub(crate) fn count_open(fetched: &[Fetched]) -> usize
 }
 
 /// 1 or 0.
-fn one_if(holds: bool) -> usize
+pub(crate) fn one_if(holds: bool) -> usize
     ensures { result ≡ (if holds then 1 else 0) }
 {
     if holds { 1 } else { 0 }

@@ -31,6 +31,8 @@ loop-i-preserved c =
       reach = λ w is idle.
           subst (λ (b : Bool). Reaches w (take (i + 1) steps) (gathered w new b)) (sym now)
           (gather_reaches w old new steps i (Submit 0 no_op_job) c.loop-i.fetches below idle (c.loop-i.invariant.reach w is idle) may more);
+      counted = c.push_step.ensures.open_jobs joined;
+      parts = c.push_step.ensures.parts joined;
       few = λ set. few_more c.loop-i.fetches _ old.fetched new.fetched c.loop-i.invariant.few (c.push_step.ensures.few joined) c.push_step.ensures.fixed (sym now ∙ set);
       fixed =
           let P : Bool → Type 0 = λ b. (b ≡ true) ⊎ (new.fetched ≡ first.fetched) in

@@ -1,7 +1,7 @@
 use Rattle.std.proofs.Common.{◌≡◌, ◌≤◌, ◌⊎◌, true, length, take}
 use Rattle.dml_core.specs.Plan.{open_places}
 use Rattle.dml_core.specs.World.{World, Reaches}
-use Rattle.dml_core.specs.Gather.{AreGathered, gathered, is_idle, lists, lists_of}
+use Rattle.dml_core.specs.Gather.{AreGathered, AreParts, gathered, is_idle, lists, lists_of}
 use Rattle.dml_core.proofs.gathering.push_steps.Given as goal
 
 abbrev pub invariant-loop-i : goal.invariant-loop-i
@@ -10,6 +10,8 @@ invariant-loop-i l = record {
   reach :
       (w : World) → lists_of w ≡ lists l.initial.sent.items l.initial.fetched.items → is_idle w ≡ true
       → Reaches w (take l.i l.steps) (gathered w (lists l.sent.items l.fetched.items) l.fetches);
+  counted : l.open_jobs ≡ length (open_places l.fetched.items);
+  parts : AreParts l.parts l.fetched.items;
   few : l.fetches ≡ true → length (open_places l.fetched.items) ≤ 1024;
   fixed : (l.fetches ≡ true) ⊎ (l.fetched.items ≡ l.initial.fetched.items);
 }

@@ -62,6 +62,9 @@ want_records='dml_engine:refused_later_growths dml_engine:refused_later_growths_
 dml_engine:refused_later_growths_of_a_fenced_batch dml_engine:refused_list_by_cells
 dml_engine:refused_conflict_chain'
 
+# The tests of calls that end at each refusal, and do without none: they say `ended` then.
+end_each='dml_core:refused_row'
+
 # is_in NAME LIST
 is_in() {
     case " $(echo $2) " in
@@ -174,6 +177,8 @@ library() {
                 complain "$key: growth $number: status $status: $(cat "$work/out")"
             fi
             [ -f "$work/log" ] || break
+            ! is_in "$key" "$end_each" || grep -q '^ended ' "$work/out" ||
+                complain "$key: growth $number: the call does without it"
             number=$((number + 1))
         done
         counted "$key" "$((number - 1 - before))"
@@ -222,7 +227,7 @@ done
 for twice in $(cut -d ' ' -f 1 "$work/counts" | sort | uniq -d); do
     complain "two tests of one crate are named $twice"
 done
-for wanted in $take_none $make_nothing $want_records; do
+for wanted in $take_none $make_nothing $want_records $end_each; do
     grep -q "^$wanted " "$work/counts" || complain "there is no test $wanted"
 done
 

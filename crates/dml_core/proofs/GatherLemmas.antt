@@ -2,13 +2,14 @@
 use Rattle.std.proofs.Common.{◌≡◌, ◌⊎◌, ℕ, ◌+◌, ◌-◌, ◌<◌, ◌≤◌, Bool, true, false, drop, Option, inl, inr, List, [], ◌∷◌, ◌++◌, length, get_or, set, take, refl, sym, ◌∙◌, ap, subst, arith}
 use Rattle.std.proofs.lemmas.Bool.{and_from, and_parts, ltb-true, or_left, or_right}
 use Rattle.std.proofs.lemmas.List.{get_or-set_same, length_push, set-set, set-get_or, take_more, take_rest}
+use Rattle.std.proofs.lemmas.Option.{slice_get-get_or}
 use Rattle.std.proofs.Math.Seq.{take-add, take-append_seam}
-use Rattle.std.specs.Prelude.{◌&&◌, ◌||◌, is_some, nat_lt}
+use Rattle.std.specs.Prelude.{◌&&◌, ◌||◌, IfSome, is_some, nat_lt}
 use Rattle.dml_types.specs.Memory.{Memory}
 use Rattle.dml_core.specs.Plan.{jobs_of, open_places, plan_of, tasks_of}
 use Rattle.dml_core.specs.Types.{Job, Settings, Fetched, Task, Step, Submit, Fetch, Take, Finish, Commit}
 use Rattle.dml_core.specs.World.{Kept, World, after, is_allowed, is_empty, no_hand, Reaches}
-use Rattle.dml_core.specs.Gather.{Lists, lists, lists_of, is_fetch, is_idle, may_join, next_of, grown, shorter, ungrown, AreGathered, gathered}
+use Rattle.dml_core.specs.Gather.{Lists, lists, lists_of, is_fetch, is_idle, may_join, next_of, grown, shorter, ungrown, AreGathered, FetchesAt, gathered}
 use Rattle.dml_core.proofs.ReplayLemmas.{reaches_append, replay_more}
 use Rattle.dml_core.proofs.StepFacts.{world}
 
@@ -103,6 +104,12 @@ pub fixed_more : (fetches now : Bool) (first old new : List Fetched) → (fetche
 fixed_more fetches now first old new (inl is) here = inl (or_left fetches now is)
 fixed_more fetches now first old new (inr same) (inl is) = inl (or_right fetches now is)
 fixed_more fetches now first old new (inr same) (inr own) = inr (own ∙ same)
+
+-- the last fetch that was found
+pub fetches_here : (steps : List Step) (i : ℕ) (d : Step) → i < length steps → is_fetch (get_or steps i d) ≡ true → FetchesAt steps (i + 1 - 1)
+fetches_here steps i d below is =
+    let here : FetchesAt steps i = subst (λ (s : Option Step). IfSome s (λ (x : Step). is_fetch x ≡ true)) (sym (slice_get-get_or steps i d below)) is in
+    subst (FetchesAt steps) (let e : i ≡ i + 1 - 1 = omega arith in e) here
 
 -- all steps that made the lists longer are taken back
 pub gather_back : (first now : Lists) (steps : List Step) (left : ℕ) → left ≤ 0 → AreGathered first (take left steps) now → first ≡ now

@@ -1,6 +1,6 @@
 -- Submits and fetches in a row, with one plan behind the last of them: the lists that they make longer, and the
 -- world that they leave.
-use Rattle.std.specs.Prelude.{◌≡◌, ℕ, ◌-◌, ◌<◌, Bool, true, false, ◌&&◌, List, [], ◌∷◌, ◌++◌, Option, length, is_some, if◌then◌else◌, nat_lt, slice_get, slice_index, slice_index_or, slice_set, take}
+use Rattle.std.specs.Prelude.{◌≡◌, ℕ, ◌-◌, ◌<◌, Bool, true, false, ◌&&◌, IfSome, List, [], ◌∷◌, ◌++◌, Option, length, is_some, if◌then◌else◌, nat_lt, slice_get, slice_index, slice_index_or, slice_set, take}
 use Rattle.dml_core.specs.Types.{Job, Fetched, Step, Submit, Fetch}
 use Rattle.dml_core.specs.Plan.{open_places, plan_of}
 use Rattle.dml_core.specs.World.{World, is_empty, new_entry, no_hand, part_of, set_out}
@@ -27,6 +27,10 @@ pub record AreParts (parts : List ℕ) (fetched : List Fetched) : Type 0 where
 abbrev pub is_fetch : Step → Bool
 is_fetch (Fetch client) = true
 is_fetch s = false
+
+-- the step at a place fetches
+abbrev pub FetchesAt : List Step → ℕ → Type 0
+FetchesAt steps i = IfSome (slice_get steps i) (λ s. is_fetch s ≡ true)
 
 -- no task is in hand or finished
 abbrev pub is_idle : World → Bool

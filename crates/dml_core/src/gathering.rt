@@ -1,8 +1,8 @@
 //! Submits and fetches in a row, with one plan behind the last of them.
-ghost use Rattle.std.specs.Prelude.{◌≡◌, ◌⊎◌, ◌||◌, ◌+◌, ◌≤◌, ◌<◌, false, length, nat_lt, slice_index_or, slice_set, take, true, []};
+ghost use Rattle.std.specs.Prelude.{◌≡◌, ◌⊎◌, ◌||◌, ◌+◌, ◌-◌, ◌≤◌, ◌<◌, false, length, nat_lt, slice_index_or, slice_set, take, true, []};
 ghost use Rattle.dml_core.specs.Plan.{open_places};
 ghost use Rattle.dml_core.specs.World.{Reaches, World};
-ghost use Rattle.dml_core.specs.Gather.{AreGathered, AreParts, Lists, gathered, grown, is_idle, lists, lists_of, may_fetch, may_join, more_fetched, more_sent, shorter, ungrown};
+ghost use Rattle.dml_core.specs.Gather.{AreGathered, AreParts, FetchesAt, Lists, gathered, grown, is_idle, lists, lists_of, may_fetch, may_join, more_fetched, more_sent, shorter, ungrown};
 ghost use Rattle.dml_core.specs.Gather as word;
 
 use crate::counts::{count_one, count_parts, next_counted};
@@ -13,11 +13,13 @@ use crate::worlds::World;
 use dml_types::Job;
 use std::alloc::Global;
 
-/// How many steps were taken, and how many behind them are to be taken one at a time.
+/// How many steps were taken, and how many behind them are to be taken one at a time. The last of these may have been
+/// tried already: where it is allowed, there was no memory for it.
 #[derive(Clone, Copy)]
 pub(crate) struct Turn {
     pub(crate) taken: usize,
     pub(crate) alone: usize,
+    pub(crate) is_tried: bool,
 }
 
 /// How many steps made the lists longer, and whether a fetch is among them.
@@ -28,9 +30,10 @@ struct Row {
 }
 
 impl World {
-    /// Takes the submits and fetches at the front of some steps, from a fetch on, as far as they can be taken. Only
-    /// the plan behind the last of them is made, since each fetch plans all open jobs anew. Where the allocator has no
-    /// memory left for it, the steps are taken back, and are to be taken one at a time: a plan for fewer jobs may do.
+    /// Takes the submits and fetches at the front of some steps, from a fetch to the last one, as far as they can be
+    /// taken. Only the plan behind the last fetch is made, since each fetch plans all open jobs anew. Where the
+    /// allocator has no memory left for it, the steps are taken back: there is none for the last fetch, and those
+    /// before it are to be taken one at a time.
     pub(crate) fn gather(&mut self, alloc: Global, steps: &[Step]) -> Turn
         requires { 0 < length steps.now }
         ensures within { result.taken + result.alone ≤ length steps.now }
@@ -38,15 +41,17 @@ impl World {
         ensures reached { Reaches self.old (take result.taken steps.now) self.new }
     {
         if !is_fetch(&steps[0]) || !all_free(self.hands.as_slice()) || !self.finished.is_empty() {
-            return Turn { taken: 0, alone: 1 };
+            return none_taken(1, false);
         }
-        let row = push_steps(&mut self.sent, &mut self.fetched, steps);
-        let alone = (steps.len() - row.count).min(1);
+        let front = &steps[..row_end(steps)];
+        let row = push_steps(&mut self.sent, &mut self.fetched, front);
+        let behind = Turn {
+            taken: row.count,
+            alone: (front.len() - row.count).min(1),
+            is_tried: true,
+        };
         if !row.fetches {
-            return Turn {
-                taken: row.count,
-                alone,
-            };
+            return behind;
         }
         match set_out(alloc, self.fetched.as_slice(), &self.settings) {
             Ok(Outset { waves, tasks }) => {
@@ -54,19 +59,26 @@ impl World {
                 self.committed = 0;
                 self.tasks = tasks;
                 self.taken = 0;
-                Turn {
-                    taken: row.count,
-                    alone,
-                }
+                behind
             }
             Err(_) => {
-                take_back(&mut self.sent, &mut self.fetched, &steps[..row.count]);
-                Turn {
-                    taken: 0,
-                    alone: row.count.max(1),
-                }
+                take_back(&mut self.sent, &mut self.fetched, &front[..row.count]);
+                none_taken(row_end(&front[..row.count.max(1)]), true)
             }
         }
+    }
+}
+
+/// No step was taken, and so many are to be taken one at a time, of which the last may have been tried.
+fn none_taken(alone: usize, is_tried: bool) -> Turn
+    ensures taken { result.taken ≡ 0 }
+    ensures alone { result.alone ≡ alone }
+    ensures is_tried { result.is_tried ≡ is_tried }
+{
+    Turn {
+        taken: 0,
+        alone,
+        is_tried,
     }
 }
 
@@ -78,6 +90,26 @@ fn is_fetch(step: &Step) -> bool
         Step::Fetch { .. } => true,
         Step::Submit { .. } | Step::Take { .. } | Step::Finish { .. } | Step::Commit => false,
     }
+}
+
+/// How many steps stand in a row at the front of some that begin with a fetch: the submits and fetches, to the last
+/// fetch among them.
+#[tactic(auto, using(crate::proofs::GatherLemmas::fetches_here))]
+fn row_end(steps: &[Step]) -> usize
+    requires { 0 < length steps.now }
+    ensures within { result ≤ length steps.now }
+    ensures onward { 0 < result }
+    ensures last { FetchesAt steps.now 0 → FetchesAt steps.now (result - 1) }
+{
+    let mut end = 1;
+    for i in 1..steps.len() {
+        if is_fetch(&steps[i]) {
+            end = i + 1;
+        } else if !matches!(steps[i], Step::Submit { .. }) {
+            return end;
+        }
+    }
+    end
 }
 
 /// Whether a fetch was among some steps, or this one fetches.

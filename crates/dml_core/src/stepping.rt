@@ -46,6 +46,49 @@ impl World {
         }
     }
 
+    /// Takes a step, or says that there is no memory for it where it was tried in vain and is allowed. Where it is
+    /// refused, nothing is changed.
+    pub(crate) fn take_alone(
+        &mut self,
+        alloc: Global,
+        step: &Step,
+        is_tried: bool,
+    ) -> Result<(), Refusal>
+        ensures allowed { OnOk result (is_allowed self.old step.now ≡ true) }
+        ensures ok { OnOk result (self.new ≡ after self.old step.now) }
+        ensures err { OnErr result (self.new ≡ self.old) }
+        ensures not_allowed { result ≡ Err Refusal.NotAllowed → is_allowed self.old step.now ≡ false }
+        ensures no_memory { result ≡ Err Refusal.NoMemory → is_allowed self.old step.now ≡ true }
+        ensures may_grow { result ≡ Err Refusal.NoMemory → may_grow step.now ≡ true }
+    {
+        if is_tried && self.may_join(step) {
+            return Err(Refusal::NoMemory);
+        }
+        self.take_step(alloc, step)
+    }
+
+    /// Whether a step is a submit or a fetch, and allowed.
+    fn may_join(&self, step: &Step) -> bool
+        ensures allowed { result ≡ true → is_allowed self.now step.now ≡ true }
+        ensures may_grow { result ≡ true → may_grow step.now ≡ true }
+    {
+        match *step {
+            Step::Submit { client, .. } => (client as usize) < self.sent.len(),
+            Step::Fetch { client } => self.may_fetch(client),
+            Step::Take { .. } | Step::Finish { .. } | Step::Commit => false,
+        }
+    }
+
+    /// Whether a client's next job may be fetched.
+    fn may_fetch(&self, client: u32) -> bool
+        ensures { result ≡ is_allowed self.now (Fetch client) }
+    {
+        next_job(self.sent.as_slice(), self.fetched.as_slice(), client).is_some()
+            && all_free(self.hands.as_slice())
+            && self.finished.is_empty()
+            && count_open(self.fetched.as_slice()) < MAX_OPEN
+    }
+
     /// A client sends a job.
     fn submit(&mut self, client: u32, job: Job) -> Result<(), Refusal>
         ensures allowed { OnOk result (is_allowed self.old (Submit client job) ≡ true) }

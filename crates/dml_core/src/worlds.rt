@@ -201,7 +201,8 @@ impl World {
             let from = place + turn.taken;
             place = from + turn.alone;
             for i in from..place {
-                match world.take_step(alloc, &steps[i]) {
+                let is_tried = turn.is_tried && i + 1 == place;
+                match world.take_alone(alloc, &steps[i], is_tried) {
                     Ok(()) => {}
                     Err(Refusal::NotAllowed) => return Err((world, StepFault::NotAllowed(i))),
                     Err(Refusal::NoMemory) => return Err((world, StepFault::NoMemory(i))),

@@ -463,3 +463,86 @@ fn refused_replay(rt: HostRuntime) -> Result<(), Fail> {
     expect_before(&rt, &world, done.saturating_add(5));
     Ok(())
 }
+
+/// A world in which the first of three clients sent four jobs, and the steps of `refused_row`: a row of submits and
+/// fetches, a submit behind it, and what carries out the six fetched jobs, all of the same 8 bytes.
+fn row(alloc: Global) -> Option<(World, Vec<Step>)> {
+    let fetch = Step::Fetch { client: 0 };
+    let row = [
+        fetch,
+        sent(2, 0),
+        Step::Fetch { client: 2 },
+        fetch,
+        fetch,
+        fetch,
+        sent(1, 0),
+        Step::Fetch { client: 1 },
+        sent(2, 0),
+    ];
+    let mut steps = Vec::from_array(alloc, row).ok()?;
+    for _ in 0..6 {
+        steps
+            .extend_from_slice(&[
+                Step::Take { worker: 0 },
+                Step::Finish { worker: 0 },
+                Step::Commit,
+            ])
+            .ok()?;
+    }
+    let world = world(alloc, 3)?.replay(alloc, &[sent(0, 0); 4]).ok()?;
+    Some((world, steps))
+}
+
+/// Whether a step is a client's submit.
+fn is_sent(step: &Step, own: u32) -> bool {
+    matches!(*step, Step::Submit { client, .. } if client == own)
+}
+
+/// The world behind some of the steps of `row`.
+fn expect_row(rt: &impl Abort, world: &World, steps: &[Step]) {
+    for (client, before) in [(0, 4_usize), (1, 0), (2, 0)] {
+        let more = steps.iter().filter(|step| is_sent(step, client)).count();
+        assert_eq!(rt; world.sent(client).len(), before.saturating_add(more));
+    }
+    let fetches = steps
+        .iter()
+        .filter(|step| matches!(**step, Step::Fetch { .. }));
+    assert_eq!(rt; world.fetched().len(), fetches.count());
+    let commits = steps.iter().filter(|step| **step == Step::Commit);
+    let answers = world
+        .fetched()
+        .iter()
+        .filter(|job| job.answer == Some(FILLED));
+    assert_eq!(rt; answers.count(), commits.count());
+}
+
+/// What `refused_row` does before its call.
+#[test]
+fn set_up_of_row(rt: HostRuntime) -> Result<(), Fail> {
+    let (world, steps) = row(rt.alloc()).ok_or("no memory")?;
+    expect_row(&rt, &world, &steps.as_slice()[..0]);
+    Ok(())
+}
+
+/// A row of submits and fetches has one plan, behind its last fetch, which is step 7. Where that is refused, the world
+/// is the one before this fetch; a list that cannot grow at an earlier step, which are 0, 1, 5 and 6, leaves the one
+/// before that step. The call that is made again from there on goes to the end. Each refusal ends the call, and that is
+/// said.
+#[test]
+fn refused_row(rt: HostRuntime) -> Result<(), Fail> {
+    let (world, steps) = row(rt.alloc()).ok_or("no memory")?;
+    let (world, done) = replayed(rt.alloc(), world, steps.as_slice()).ok_or("not allowed")?;
+    let Some(rest) = steps.as_slice().get(done..) else {
+        return Err("a step behind the last".into());
+    };
+    if !rest.is_empty() {
+        println!(rt; "ended at {done}").expect(&rt, "output");
+        assert!(rt; matches!(done, 0 | 1 | 5 | 6 | 7 | 9..));
+    }
+    expect_row(&rt, &world, &steps.as_slice()[..done]);
+    let Ok(world) = world.replay(rt.alloc(), rest) else {
+        return Err("refused again".into());
+    };
+    expect_row(&rt, &world, steps.as_slice());
+    Ok(())
+}

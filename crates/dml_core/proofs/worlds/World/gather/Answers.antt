@@ -1,9 +1,9 @@
-use Rattle.std.proofs.Common.{◌≡◌, true, nat_eq, List, [], length, get_or, map, drop, take, rules, sym, ap, subst, ◌∙◌, arith}
+use Rattle.std.proofs.Common.{◌≡◌, ◌≤◌, true, nat_eq, List, [], length, get_or, map, drop, take, rules, sym, ap, subst, ◌∙◌, arith}
 use Rattle.std.proofs.lemmas.Bool.{and_from, eq-eqb, eqb-true}
-use Rattle.std.proofs.lemmas.List.{nil_from_length}
+use Rattle.std.proofs.lemmas.List.{length-take, nil_from_length, take-take}
 use Rattle.std.specs.Prelude.{is_none}
 use Rattle.std.specs.List.{list_all}
-use Rattle.dml_core.specs.Types.{Fetched, Task}
+use Rattle.dml_core.specs.Types.{Fetched, Step, Task}
 use Rattle.dml_core.specs.Plan.{jobs_of, plan_of, tasks_of}
 use Rattle.dml_core.specs.World.{World, Reaches, is_empty, kept_task}
 use Rattle.dml_core.specs.Gather.{is_idle}
@@ -16,6 +16,10 @@ returns-in-Ok-clause-reached c =
     let s = c.self.inside in
     let row = c.push_steps-row in
     let steps = take row.result.count c.args.steps.now in
+    let front = take c.row_end.result c.args.steps.now in
+    let within : row.result.count ≤ c.row_end.result =
+    (let size = length-take c.row_end.result c.args.steps.now in omega (arith, size, row.ensures.within)) in
+    let cut : take row.result.count front ≡ steps = take-take row.result.count c.row_end.result c.args.steps.now within in
     let sent = row.new.sent.items in
     let fetched = row.new.fetched.items in
     let plan = c.in-Ok.field-0.waves.items in
@@ -37,4 +41,5 @@ returns-in-Ok-clause-reached c =
     c.in-Ok.ensures.tasks ∙ ap (λ (list : List Fetched). tasks_of (jobs_of list) s.settings.staging s.settings.chunk (get_or plan 0 [])) c.as_slice-2.ensures.value in
     let new = world s.settings s.image sent fetched plan tasks s.hands.items (map (kept_task fetched s.image) s.finished.items) in
     subst (λ (w : World). Reaches w steps new) c.self.view_is
-    (gather_view s.settings s.image s.sent.items sent s.fetched.items fetched (drop s.committed s.waves.items) (drop s.taken s.tasks.items) s.hands.items kept (map (kept_task fetched s.image) s.finished.items) plan tasks steps row.result.fetches row.ensures.reached idle anew same planned ready)
+    (subst (λ (list : List Step). Reaches old list new) cut
+    (gather_view s.settings s.image s.sent.items sent s.fetched.items fetched (drop s.committed s.waves.items) (drop s.taken s.tasks.items) s.hands.items kept (map (kept_task fetched s.image) s.finished.items) plan tasks (take row.result.count front) row.result.fetches row.ensures.reached idle anew same planned ready))

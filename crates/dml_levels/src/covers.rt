@@ -1,4 +1,4 @@
-ghost use Rattle.std.specs.Prelude.{◌≡◌, ◌≤◌, All, false, length};
+ghost use Rattle.std.specs.Prelude.{◌≡◌, ◌≤◌, [], All, false, length};
 ghost use Rattle.std.specs.List.{list_any};
 ghost use Rattle.std.specs.List.Sorted.{IsNonDecreasing};
 ghost use Rattle.dml_types.specs.Job.{is_past};
@@ -27,19 +27,32 @@ impl Model for Cover {
 }
 
 impl Cover {
-    /// Of ranges.
+    /// Of no range.
+    pub fn none() -> Cover
+        ensures { result ≡ [] }
+    {
+        Cover {
+            list: ArrayVec::new(),
+        }
+    }
+
+    /// Becomes that of ranges, where it lies: a new one would be copied, and what reads its cells would wait for that.
     #[tactic(auto, using(crate::proofs::CoverLemmas::not_past))]
-    pub fn of(starts: &[u64], guide: &Guide, spans: &Spans) -> Cover
+    #[inline(always)]
+    pub fn set(&mut self, starts: &[u64], guide: &Guide, spans: &Spans)
         requires sorted { IsNonDecreasing starts.now }
         requires guide { IsGuide starts.now guide.now }
         requires within { list_any is_past spans.now ≡ false }
-        ensures { result ≡ cover_of starts.now spans.now }
+        ensures { self.new ≡ cover_of starts.now spans.now }
     {
-        let mut list = ArrayVec::new();
-        for span in spans.list.as_slice() {
-            list.push(Cells::of(starts, guide, span));
+        let list = spans.list.as_slice();
+        *self = Cover::none();
+        if list.len() > 0 {
+            self.list.push(Cells::of(starts, guide, &list[0]));
+            if list.len() > 1 {
+                self.list.push(Cells::of(starts, guide, &list[1]));
+            }
         }
-        Cover { list }
     }
 
     /// The greatest height of these cells.

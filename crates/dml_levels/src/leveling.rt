@@ -101,10 +101,12 @@ fn levels_by_cells(
 {
     let mut levels = Vec::with_capacity(alloc, jobs.len())?;
     let mut heights = Heights::new(alloc, starts.len() + 1)?;
+    let mut reads = Cover::none();
+    let mut writes = Cover::none();
     for job in jobs {
         let touched = touches(job);
-        let reads = Cover::of(starts, guide, &touched.reads);
-        let writes = Cover::of(starts, guide, &touched.writes);
+        reads.set(starts, guide, &touched.reads);
+        writes.set(starts, guide, &touched.writes);
         let level = heights.level_of(&reads, &writes);
         heights.raise(&reads, &writes, level.saturating_add(1));
         levels.push(level)?;

@@ -14,26 +14,26 @@ footprint_is starts job these those reads writes a b c d = cc
 
 pub level_of-level-requires-clause-reads : goal.level_of-level-requires-clause-reads
 level_of-level-requires-clause-reads c =
-    reads_within c.args.starts.now c.job-item.result (record { reads = c.of-reads.result; writes = c.of-writes.result }) (length c.loop-job.heights.written.items)
-    (footprint_is c.args.starts.now c.job-item.result _ _ c.of-reads.result c.of-writes.result c.touches-touched.ensures.reads c.touches-touched.ensures.writes c.of-reads.ensures c.of-writes.ensures)
+    reads_within c.args.starts.now c.job-item.result (record { reads = c.set.new.self; writes = c.set-in-loop-job.new.self }) (length c.loop-job.heights.written.items)
+    (footprint_is c.args.starts.now c.job-item.result _ _ c.set.new.self c.set-in-loop-job.new.self c.touches-touched.ensures.reads c.touches-touched.ensures.writes c.set.ensures c.set-in-loop-job.ensures)
     c.loop-job.invariant.written_long
 
 pub level_of-level-requires-clause-writes : goal.level_of-level-requires-clause-writes
 level_of-level-requires-clause-writes c =
-    writes_within c.args.starts.now c.job-item.result (record { reads = c.of-reads.result; writes = c.of-writes.result }) (length c.loop-job.heights.touched.items)
-    (footprint_is c.args.starts.now c.job-item.result _ _ c.of-reads.result c.of-writes.result c.touches-touched.ensures.reads c.touches-touched.ensures.writes c.of-reads.ensures c.of-writes.ensures)
+    writes_within c.args.starts.now c.job-item.result (record { reads = c.set.new.self; writes = c.set-in-loop-job.new.self }) (length c.loop-job.heights.touched.items)
+    (footprint_is c.args.starts.now c.job-item.result _ _ c.set.new.self c.set-in-loop-job.new.self c.touches-touched.ensures.reads c.touches-touched.ensures.writes c.set.ensures c.set-in-loop-job.ensures)
     c.loop-job.invariant.touched_long
 
 pub raise-requires-clause-reads : goal.raise-requires-clause-reads
 raise-requires-clause-reads c =
-    reads_within c.args.starts.now c.job-item.result (record { reads = c.of-reads.result; writes = c.of-writes.result }) (length c.loop-job.heights.touched.items)
-    (footprint_is c.args.starts.now c.job-item.result _ _ c.of-reads.result c.of-writes.result c.touches-touched.ensures.reads c.touches-touched.ensures.writes c.of-reads.ensures c.of-writes.ensures)
+    reads_within c.args.starts.now c.job-item.result (record { reads = c.set.new.self; writes = c.set-in-loop-job.new.self }) (length c.loop-job.heights.touched.items)
+    (footprint_is c.args.starts.now c.job-item.result _ _ c.set.new.self c.set-in-loop-job.new.self c.touches-touched.ensures.reads c.touches-touched.ensures.writes c.set.ensures c.set-in-loop-job.ensures)
     c.loop-job.invariant.touched_long
 
 pub raise-requires-clause-writes : goal.raise-requires-clause-writes
 raise-requires-clause-writes c =
-    writes_within c.args.starts.now c.job-item.result (record { reads = c.of-reads.result; writes = c.of-writes.result }) (length c.loop-job.heights.touched.items)
-    (footprint_is c.args.starts.now c.job-item.result _ _ c.of-reads.result c.of-writes.result c.touches-touched.ensures.reads c.touches-touched.ensures.writes c.of-reads.ensures c.of-writes.ensures)
+    writes_within c.args.starts.now c.job-item.result (record { reads = c.set.new.self; writes = c.set-in-loop-job.new.self }) (length c.loop-job.heights.touched.items)
+    (footprint_is c.args.starts.now c.job-item.result _ _ c.set.new.self c.set-in-loop-job.new.self c.touches-touched.ensures.reads c.touches-touched.ensures.writes c.set.ensures c.set-in-loop-job.ensures)
     c.loop-job.invariant.touched_long
 
 pub loop-job-preserved : goal.loop-job-preserved
@@ -47,9 +47,9 @@ loop-job-preserved c =
     let room : i < length jobs = omega arith in
     let own : c.job-item.result ≡ get_or jobs i no_op_job = get_or_read jobs i _ room c.job-item.is no_op_job in
     subst (λ (list : List ℕ). AreRisen starts jobs (i + 1) list new) (sym c.in_ok-push.ensures.items)
-    (risen_next starts jobs (record { reads = c.of-reads.result; writes = c.of-writes.result }) i levels c.loop-job.heights new level c.saturating_add.result
+    (risen_next starts jobs (record { reads = c.set.new.self; writes = c.set-in-loop-job.new.self }) i levels c.loop-job.heights new level c.saturating_add.result
     c.requires.starts room
-    (footprint_is starts c.job-item.result _ _ c.of-reads.result c.of-writes.result c.touches-touched.ensures.reads c.touches-touched.ensures.writes c.of-reads.ensures c.of-writes.ensures
+    (footprint_is starts c.job-item.result _ _ c.set.new.self c.set-in-loop-job.new.self c.touches-touched.ensures.reads c.touches-touched.ensures.writes c.set.ensures c.set-in-loop-job.ensures
     ∙ ap (footprint_of starts) own)
     c.loop-job.invariant c.level_of-level.ensures
     (λ low. omega (arith, low, room)) c.raise.ensures.touched c.raise.ensures.written)

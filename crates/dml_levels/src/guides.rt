@@ -66,7 +66,7 @@ impl Guide {
 }
 
 /// For each run up to the one given, which is that of the last start, how many starts lie before it; none where there
-/// are too many starts.
+/// is but one run, or where there are too many starts.
 fn count_before(
     alloc: Global,
     starts: &[u64],
@@ -79,7 +79,7 @@ fn count_before(
     ensures { IfOk result (λ before. AreBefore starts.now base shift before.items) }
 {
     let mut before = Vec::with_capacity(alloc, last_run.saturating_add(1))?;
-    if starts.len() > MOST_GUIDED {
+    if last_run == 0 || starts.len() > MOST_GUIDED {
         return Ok(before);
     }
     for k in 0..starts.len() {

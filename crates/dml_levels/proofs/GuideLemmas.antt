@@ -15,13 +15,6 @@ run_le base shift x y before =
     let whole : (x - base) / size * size ≤ x - base = div-mul-le_self (x - base) size in
     le-div ((x - base) / size) (y - base) size some (omega (arith, whole, before))
 
-pub before_none : (starts : List ℕ) (base shift : ℕ) → AreBefore starts base shift []
-before_none starts base shift = record {
-  within = λ run below. absurd (omega (arith, below));
-  low = λ run k below. absurd (omega (arith, below));
-  high = λ run k below. absurd (omega (arith, below));
-}
-
 -- one run more, before which all starts below k lie
 pub before_more : (starts : List ℕ) (base shift k : ℕ) (before : List ℕ) → IsNonDecreasing starts → k < length starts → AreBefore starts base shift before → ((j : ℕ) → j < k → run_of base shift (slice_index starts j) < length before) → length before ≤ run_of base shift (slice_index starts k) → AreBefore starts base shift (before ++ k ∷ [])
 before_more starts base shift k before sorted inside known gone here =
@@ -58,13 +51,6 @@ start_high starts base shift address k run higher is =
     ⊎_elim (λ high. high)
     (λ low. absurd (omega (arith, higher, is, run_le base shift (slice_index starts k) address low)))
     (cases_lt address (slice_index starts k))
-
-pub sought_all : (starts : List ℕ) (address : ℕ) → IsSought starts address 0 (length starts)
-sought_all starts address = record {
-  within = omega arith;
-  low = λ k below. absurd (omega (arith, below));
-  high = λ k from below. absurd (omega (arith, from, below));
-}
 
 -- the first start behind the run
 pub record IsEnd (starts : List ℕ) (base shift run first end : ℕ) : Type 0 where

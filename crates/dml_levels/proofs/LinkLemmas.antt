@@ -1,7 +1,7 @@
 -- Places that are linked by their levels.
-use Rattle.std.proofs.Common.{◌≡◌, ◌≢◌, ℕ, ◌+◌, ◌-◌, ◌<◌, ◌≤◌, zero, suc, List, length, get_or, set, replicate, sym, ◌∙◌, ap, subst, arith, ⊎_elim}
+use Rattle.std.proofs.Common.{◌≡◌, ◌≢◌, ℕ, ◌+◌, ◌-◌, ◌<◌, ◌≤◌, zero, suc, List, length, get_or, set, sym, ◌∙◌, ap, subst, arith, ⊎_elim}
 use Rattle.std.proofs.lemmas.Bool.{cases_eq, cond-true, cond-false, eq-eqb, ne_eqb}
-use Rattle.std.proofs.lemmas.List.{get_or-replicate, get_or-set_other, get_or-set_same, length-replicate, length-set}
+use Rattle.std.proofs.lemmas.List.{get_or-set_other, get_or-set_same, length-set}
 use Rattle.std.specs.Prelude.{nat_eq, slice_index}
 use Rattle.dml_order.specs.Waves.{depth, later_places}
 use Rattle.dml_order.proofs.WaveLemmas.{level_below_depth}
@@ -66,16 +66,6 @@ is_next levels level from found within is =
       same = λ below. first.same (omega (arith, below));
       rest = first.rest ∙ ap (later_places levels level found) (let e : from + (length levels - from) - found ≡ length levels - found = omega arith in e);
     }
-
--- no place is linked yet
-pub linked_none : (levels : List ℕ) → AreLinked levels (replicate (length levels + depth levels) (length levels)) (length levels)
-linked_none levels = record {
-  long = length-replicate (length levels + depth levels) (length levels);
-  next = λ i from below. absurd (omega (arith, from, below));
-  first = λ level below.
-      get_or-replicate (length levels + depth levels) (length levels + level) (length levels) 0 (omega (arith, below))
-      ∙ sym (ap (first_place levels level (length levels)) (let e : length levels - length levels ≡ 0 = omega arith in e));
-}
 
 one_more : (levels : List ℕ) (level place : ℕ) → place < length levels → first_from levels level place ≡ first_place levels level place (suc (length levels - (place + 1)))
 one_more levels level place below = ap (first_place levels level place) (let e : length levels - place ≡ suc (length levels - (place + 1)) = omega arith in e)

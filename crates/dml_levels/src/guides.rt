@@ -8,8 +8,8 @@ use std::alloc::{AllocError, Global};
 const MOST_GUIDED: usize = 4_294_967_295;
 
 /// Where the cell of an address is sought. The addresses from the first start, `base`, on lie in runs of 2^`shift`
-/// addresses; for each run up to that of the last start, how many starts lie before it. There are at most twice as many runs as starts, so that
-/// few starts lie in one, unless most of them lie close together.
+/// addresses; for each run up to that of the last start, how many starts lie before it. There are at most twice as
+/// many runs as starts, so that few starts lie in one, unless most of them lie close together.
 #[derive(Debug, Drop)]
 pub struct Guide {
     pub base: u64,

@@ -39,7 +39,8 @@ impl Heights {
         requires reads { All (λ cells. cells.end ≤ length self.old.touched.items) reads.now }
         requires writes { All (λ cells. cells.end ≤ length self.old.touched.items) writes.now }
         requires long { length self.old.written.items ≡ length self.old.touched.items }
-        ensures touched { IsRaised self.old.touched.items (IsTouched (record { reads = reads.now; writes = writes.now })) height self.new.touched.items }
+        ensures touched { IsRaised self.old.touched.items
+            (IsTouched (record { reads = reads.now; writes = writes.now })) height self.new.touched.items }
         ensures written { IsRaised self.old.written.items (IsCovered writes.now) height
             self.new.written.items }
     {

@@ -53,7 +53,10 @@ fn cell_at(starts: &[u64], guide: &Guide, address: u64) -> usize
     let (mut first, mut left) = guide.part(starts, address);
     while left > 0 {
         let half = left - left / 2;
-        first += half * usize::from(starts[first + half - 1] <= address);
+        let start = starts[first + half - 1];
+        // 1 where the start is at the address or before it, by a carry: no processor foresees which way a branch goes.
+        let reached = (u128::from(address) + (1 << 64) - u128::from(start)) >> 64;
+        first += half * reached as usize;
         left -= half;
     }
     first

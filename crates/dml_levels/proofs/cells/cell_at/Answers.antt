@@ -1,5 +1,5 @@
-use Rattle.std.proofs.Common.{◌≡◌, ℕ, ◌+◌, ◌-◌, ◌*◌, ◌/◌, get_or, ap, arith, ◌∙◌, ⊎_elim}
-use Rattle.std.proofs.lemmas.Bool.{cases_lt, le-leb, lt-leb}
+use Rattle.std.proofs.Common.{◌≡◌, ℕ, ◌+◌, ◌-◌, ◌*◌, ◌/◌, get_or, ap, arith, ⊎_elim}
+use Rattle.std.proofs.lemmas.Bool.{cases_lt}
 use Rattle.dml_levels.proofs.CellLemmas.{sought_found, sought_high, sought_low}
 use Rattle.dml_levels.proofs.cells.cell_at.Goals as goal
 
@@ -10,13 +10,13 @@ loop-left-preserved c =
     let first = c.loop-left.first in
     let left = c.loop-left.left in
     let half : ℕ = left - left / 2 in
-    let added = c.from.result in
+    let added : ℕ = (c.from.result + 18446744073709551616 - c.from-in-loop-left.result) / 18446744073709551616 in
     ⊎_elim (λ high.
-    let none : added ≡ 0 = c.from.ensures ∙ ap mir.Val.bool_byte (lt-leb (get_or starts (first + half - 1) 0) address high) in
+    let none : added ≡ 0 = omega (arith, high, c.from.ensures, c.from-in-loop-left.ensures) in
     let next : first + half * added ≡ first + half * 0 = ap (λ n. first + half * n) none in
     sought_high starts address first left half (first + half * added) (left - half) c.requires.sorted c.loop-left.invariant (omega arith) (omega arith) (omega arith) high (omega (arith, next)) (omega arith))
     (λ low.
-    let one : added ≡ 1 = c.from.ensures ∙ ap mir.Val.bool_byte (le-leb (get_or starts (first + half - 1) 0) address low) in
+    let one : added ≡ 1 = omega (arith, low, c.from.ensures, c.from-in-loop-left.ensures) in
     let next : first + half * added ≡ first + half * 1 = ap (λ n. first + half * n) one in
     sought_low starts address first left half (first + half * added) (left - half) c.requires.sorted c.loop-left.invariant (omega arith) (omega arith) low (omega (arith, next)) (omega arith))
     (cases_lt address (get_or starts (first + half - 1) 0))

@@ -81,7 +81,7 @@ brought_by_levels chunk jobs levels =
     capped (sum_by brought (map (λ level. capped (shared_at chunk jobs levels level)) (range_with_len 0 1024)))
 
 -- whether a list that is worth a second worker has levels that are: it has but one, or what they bring is enough for a
--- worker, and makes up for the cut of its waves, which looks at every job for every level
+-- worker, and makes up for the cut of its waves, counted as a look at every job for every level
 abbrev pub levels_pay : ℕ → List Job → List ℕ → Bool
 levels_pay chunk jobs levels =
     if nat_le (depth levels) 1

@@ -28,8 +28,8 @@ const TASK_BYTES: u64 = 2048;
 /// as measured.
 const JOB_TASKS: u64 = 8;
 
-/// The bytes that are taken off for one look at a job for one level, where waves are cut: twice what is as dear, as
-/// measured.
+/// The bytes that the cut of waves is counted as for each job at each level: twice what a look at a job for a level
+/// cost where each level looked at all jobs, as measured.
 const LOOK_BYTES: u64 = 32;
 
 /// How many shared bytes make up for a byte that the calling thread writes alone behind a wave, as measured.
@@ -146,8 +146,8 @@ fn workers_for(bytes: u64, most: u32) -> u32
 }
 
 /// Of a list that is worth a second worker, whether some of its levels are: whether they share enough bytes for one, and
-/// these make up for the cut of its waves, which looks at every job for every level. No wave of another level is given a
-/// second worker.
+/// these make up for the cut of its waves, counted as a look at every job for every level. No wave of another level is
+/// given a second worker.
 pub fn levels_pay(jobs: &[Checked], levels: &[u32], chunk: u32) -> bool
     requires { IsChunk chunk }
     ensures rule { result ≡ word.levels_pay chunk jobs.now levels.now }

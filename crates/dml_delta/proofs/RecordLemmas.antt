@@ -258,15 +258,6 @@ block_in_page memory address aligned =
         let page : (address + i) / 4096 ≡ address / 4096 = omega arith in
         ap (λ (p : ℕ). get_or memory.present p false) page
 
-pub allowed_by : (memory : Memory) (job : Job) (least offset : ℕ) → least ≤ offset → is_block memory job offset ≡ true → is_allowed memory job least offset ≡ true
-allowed_by memory job least offset low here = ap₂ (λ (a b : Bool). a && b) (le-leb least offset low) here
-
-pub refused_below : (memory : Memory) (job : Job) (least offset : ℕ) → offset < least → is_allowed memory job least offset ≡ false
-refused_below memory job least offset low = and_left (nat_le least offset) (is_block memory job offset) (lt-leb least offset low)
-
-pub refused_by : (memory : Memory) (job : Job) (least offset : ℕ) → is_block memory job offset ≡ false → is_allowed memory job least offset ≡ false
-refused_by memory job least offset gone = and_right (nat_le least offset) (is_block memory job offset) gone
-
 -- the blocks of a page, by the byte at which one of them begins
 pub no_block : (memory : Memory) (job : Job) (offset : ℕ) → job.size / 8 ≤ offset → is_block memory job offset ≡ false
 no_block memory job offset past = and_left (nat_lt offset (job.size / 8)) (has_block memory job.target offset) (le-ltb offset (job.size / 8) past)

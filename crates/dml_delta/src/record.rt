@@ -1,9 +1,9 @@
 //! The entries of a delta record as an apply reads and judges them.
-ghost use Rattle.std.specs.Prelude.{◌≡◌, ◌/◌, ◌%◌, ◌^◌, ◌<◌, ◌≤◌, false, Some, length, IsTrue};
+ghost use Rattle.std.specs.Prelude.{◌≡◌, ◌/◌, ◌%◌, ◌^◌, ◌<◌, ◌≤◌, true, false, Some, length, IsTrue};
 ghost use Rattle.dml_types.specs.declared.operations.Op.TheVariants.{ApplyDelta};
 ghost use Rattle.dml_types.specs.Job.{op_of};
 ghost use Rattle.dml_types.specs.Memory.{IsMemory, bytes_at, has_all};
-ghost use Rattle.dml_delta.specs.Record.{allowed_in, is_block, least_in, AreBlocks};
+ghost use Rattle.dml_delta.specs.Record.{allowed_in, is_allowed, is_block, least_in, AreBlocks};
 
 use dml_desc::Checked;
 use dml_image::{Image, PAGE_SIZE};
@@ -60,16 +60,29 @@ pub fn judge(image: &Image, job: &Checked, least: u32, entries: &[u8]) -> Run
     let mut least = least;
     let mut known = 0;
     for i in 0..count {
-        let offset = u32::from(block_number(entries, i));
-        known = known_behind(image, job, least, known, offset);
-        if offset < least || offset >= known {
+        let offset = block_number(entries, i);
+        if !is_allowed(image, job, least, &mut known, offset) {
             let good = i as u32;
             return Run { good, least };
         }
-        least = offset + 1;
+        least = u32::from(offset) + 1;
     }
     let good = count as u32;
     Run { good, least }
+}
+
+/// Whether an offset is not below the least one, and is that of a present block of the destination. The blocks from
+/// `least` up to `known` are present ones; so are those from the offset up to the new `known`, where it is allowed.
+#[inline(always)]
+fn is_allowed(image: &Image, job: &Checked, least: u32, known: &mut u32, offset: u16) -> bool
+    requires operation { op_of job.now ≡ Some ApplyDelta }
+    requires known { AreBlocks image.now job.now least known.old }
+    ensures value { result ≡ is_allowed image.now job.now least offset }
+    ensures known { result ≡ true → AreBlocks image.now job.now offset known.new }
+{
+    let offset = u32::from(offset);
+    *known = known_behind(image, job, least, *known, offset);
+    offset >= least && offset < *known
 }
 
 /// A number such that all blocks from an offset on up to it are present blocks of the destination, where those from

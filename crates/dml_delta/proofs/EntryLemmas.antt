@@ -1,5 +1,5 @@
 -- The entries of blocks, one after another.
-use Rattle.std.proofs.Common.{◌≡◌, ℕ, zero, suc, ◌+◌, ◌-◌, ◌*◌, ◌<◌, ◌≤◌, Bool, true, false, List, [], ◌∷◌, ◌++◌, length, drop, cond, refl, ◌∙◌, ap, ap₂, arith, sym, zero-add, append_assoc, take}
+use Rattle.std.proofs.Common.{◌≡◌, ℕ, zero, suc, ◌+◌, ◌-◌, ◌*◌, ◌<◌, ◌≤◌, Bool, true, false, List, [], ◌∷◌, ◌++◌, length, drop, cond, refl, ◌∙◌, ap, ap₂, arith, zero-add, append_assoc, take}
 use Rattle.std.specs.List.{range_with_len, filter, flat_map}
 use Rattle.std.proofs.lemmas.List.{append-nil, length-append, length-take}
 use Rattle.std.proofs.lemmas.Slice.{take-put_mid}
@@ -106,14 +106,6 @@ gathered_next f passes at skipped none pass =
         gathered_split f passes 0 at n
         ∙ (ap (λ (xs : List ℕ). gathered f passes 0 at ++ xs) (ap (λ (k : ℕ). gathered f passes k n) (zero-add at) ∙ gathered_none f passes at n none)
         ∙ append-nil (gathered f passes 0 at))
-
-pub gathered_end : (f : ℕ → List ℕ) (passes : ℕ → Bool) (at n : ℕ) → at ≤ n → ((i : ℕ) → passes (at + i) ≡ false) → gathered f passes 0 at ≡ gathered f passes 0 n
-gathered_end f passes at n within none =
-    let long : n ≡ at + (n - at) = omega arith in
-    sym (ap (gathered f passes 0) long
-    ∙ (gathered_split f passes 0 at (n - at)
-    ∙ (ap (λ (xs : List ℕ). gathered f passes 0 at ++ xs) (ap (λ (k : ℕ). gathered f passes k (n - at)) (zero-add at) ∙ gathered_none f passes at (n - at) (λ i below. none i))
-    ∙ append-nil (gathered f passes 0 at))))
 
 -- an entry for a block of a list
 pub length_entry_in : (number : ℕ) (bytes : List ℕ) (i : ℕ) → length (nth_entry number bytes i) ≤ 10

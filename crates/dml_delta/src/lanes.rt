@@ -90,8 +90,8 @@ fn add_marked(entries: &mut Entries, marks: u64, blocks: &[u8], number: u32, roo
     }
 }
 
-/// Adds the entries of the marked ones of up to eight blocks, for which there is room. A mark is cleared by its place, so
-/// that the next one is soon found.
+/// Adds the entries of the marked ones of up to eight blocks, for which there is room. A mark is cleared by its place,
+/// so that the next one is soon found.
 fn add_entries(entries: &mut Entries, marks: u64, blocks: &[u8], number: u32)
     requires few { length blocks.now ≤ 64 }
     requires marks { (i : ℕ) → is_marked marks i ≡ true → 8 * i + 8 ≤ length blocks.now }

@@ -111,12 +111,6 @@ fetches_here steps i d below is =
     let here : FetchesAt steps i = subst (λ (s : Option Step). IfSome s (λ (x : Step). is_fetch x ≡ true)) (sym (slice_get-get_or steps i d below)) is in
     subst (FetchesAt steps) (let e : i ≡ i + 1 - 1 = omega arith in e) here
 
--- all steps that made the lists longer are taken back
-pub gather_back : (first now : Lists) (steps : List Step) (left : ℕ) → left ≤ 0 → AreGathered first (take left steps) now → first ≡ now
-gather_back first now steps left none all =
-    let P : ℕ → Type 0 = λ n. AreGathered first (take n steps) now in
-    subst P (let e : left ≡ 0 = omega arith in e) all
-
 -- the steps of a turn, behind those that were taken before
 pub turn_reaches : (w v next : World) (steps : List Step) (place taken : ℕ) → Reaches w (take place steps) v → Reaches v (take taken (take (length steps - place) (drop place steps))) next → Reaches w (take (place + taken) steps) next
 turn_reaches w v next steps place taken before turn =
@@ -137,12 +131,4 @@ gather_view settings image sent new_sent fetched new_fetched waves to_do hands f
     ∙ (ap (λ (l : List Task). world settings image new_sent new_fetched plan l hands finished) set
     ∙ (ap (λ (p : List (List ℕ)). world settings image new_sent new_fetched p (tasks_of (jobs_of new_fetched) settings.staging settings.chunk (get_or p 0 [])) hands finished) planned
     ∙ ap (gathered old (lists new_sent new_fetched)) (sym anew))) in
-    subst (λ (x : World). Reaches old steps x) (sym made) (leads old refl idle)
-
-pub sent_view : (settings : Settings) (image : Memory) (sent new_sent : List (List Job)) (fetched new_fetched : List Fetched) (waves : List (List ℕ)) (to_do : List Task) (hands : List (Option Task)) (finished new_finished : List Kept) (steps : List Step) (fetches : Bool) → LeadsTo sent fetched steps (lists new_sent new_fetched) fetches → is_idle (world settings image sent fetched waves to_do hands finished) ≡ true → fetches ≡ false → new_finished ≡ finished → Reaches (world settings image sent fetched waves to_do hands finished) steps (world settings image new_sent new_fetched waves to_do hands new_finished)
-sent_view settings image sent new_sent fetched new_fetched waves to_do hands finished new_finished steps fetches leads idle as_before same =
-    let old = world settings image sent fetched waves to_do hands finished in
-    let made : world settings image new_sent new_fetched waves to_do hands new_finished ≡ gathered old (lists new_sent new_fetched) fetches =
-    ap (λ (kept : List Kept). world settings image new_sent new_fetched waves to_do hands kept) same
-    ∙ ap (gathered old (lists new_sent new_fetched)) (sym as_before) in
     subst (λ (x : World). Reaches old steps x) (sym made) (leads old refl idle)

@@ -464,32 +464,32 @@ fn refused_replay(rt: HostRuntime) -> Result<(), Fail> {
     Ok(())
 }
 
-/// A world in which the first of three clients sent four jobs, and the steps of `refused_row`: a row of submits and
-/// fetches, a submit behind it, and what carries out the six fetched jobs, all of the same 8 bytes.
+/// A client sends a no-op.
+fn idle(client: u32) -> Step {
+    Step::Submit {
+        client,
+        job: Job::no_op(),
+    }
+}
+
+/// A world in which the first of three clients sent four no-ops, and the steps of `refused_row`: a row of submits and
+/// fetches, a submit behind it, and a commit of the six fetched jobs.
 fn row(alloc: Global) -> Option<(World, Vec<Step>)> {
     let fetch = Step::Fetch { client: 0 };
     let row = [
         fetch,
-        sent(2, 0),
+        idle(2),
         Step::Fetch { client: 2 },
         fetch,
         fetch,
         fetch,
-        sent(1, 0),
+        idle(1),
         Step::Fetch { client: 1 },
-        sent(2, 0),
+        idle(2),
+        Step::Commit,
     ];
-    let mut steps = Vec::from_array(alloc, row).ok()?;
-    for _ in 0..6 {
-        steps
-            .extend_from_slice(&[
-                Step::Take { worker: 0 },
-                Step::Finish { worker: 0 },
-                Step::Commit,
-            ])
-            .ok()?;
-    }
-    let world = world(alloc, 3)?.replay(alloc, &[sent(0, 0); 4]).ok()?;
+    let steps = Vec::from_array(alloc, row).ok()?;
+    let world = world(alloc, 3)?.replay(alloc, &[idle(0); 4]).ok()?;
     Some((world, steps))
 }
 
@@ -508,12 +508,15 @@ fn expect_row(rt: &impl Abort, world: &World, steps: &[Step]) {
         .iter()
         .filter(|step| matches!(**step, Step::Fetch { .. }));
     assert_eq!(rt; world.fetched().len(), fetches.count());
-    let commits = steps.iter().filter(|step| **step == Step::Commit);
-    let answers = world
-        .fetched()
-        .iter()
-        .filter(|job| job.answer == Some(FILLED));
-    assert_eq!(rt; answers.count(), commits.count());
+    let is_committed = steps.iter().any(|step| *step == Step::Commit);
+    let want = if is_committed {
+        Some(bare(Status::Success))
+    } else {
+        None
+    };
+    for entry in world.fetched() {
+        assert_eq!(rt; entry.answer, want);
+    }
 }
 
 /// What `refused_row` does before its call.
@@ -537,7 +540,7 @@ fn refused_row(rt: HostRuntime) -> Result<(), Fail> {
     };
     if !rest.is_empty() {
         println!(rt; "ended at {done}").expect(&rt, "output");
-        assert!(rt; matches!(done, 0 | 1 | 5 | 6 | 7 | 9..));
+        assert!(rt; matches!(done, 0 | 1 | 5 | 6 | 7));
     }
     expect_row(&rt, &world, &steps.as_slice()[..done]);
     let Ok(world) = world.replay(rt.alloc(), rest) else {

@@ -92,8 +92,11 @@ fn is_fetch(step: &Step) -> bool
     }
 }
 
+/// The most steps of a row: those of as many submits and fetches as may be open.
+const MOST_STEPS: usize = 2 * MAX_OPEN;
+
 /// How many steps stand in a row at the front of some that begin with a fetch: the submits and fetches, to the last
-/// fetch among them.
+/// fetch among them. A row is looked through before its first step is judged, so it has not too many.
 #[tactic(auto, using(crate::proofs::GatherLemmas::fetches_here))]
 fn row_end(steps: &[Step]) -> usize
     requires { 0 < length steps.now }
@@ -102,7 +105,7 @@ fn row_end(steps: &[Step]) -> usize
     ensures last { FetchesAt steps.now 0 → FetchesAt steps.now (result - 1) }
 {
     let mut end = 1;
-    for i in 1..steps.len() {
+    for i in 1..steps.len().min(MOST_STEPS) {
         if is_fetch(&steps[i]) {
             end = i + 1;
         } else if !matches!(steps[i], Step::Submit { .. }) {

@@ -1,5 +1,5 @@
 //! The waves of the jobs that are not committed.
-ghost use Rattle.std.specs.Prelude.{◌≡◌, ◌≤◌, ◌<◌, ◌++◌, ◌∷◌, ◌||◌, [], All, IfOk, OnOk, if◌then◌else◌, is_some, length, map, slice_index};
+ghost use Rattle.std.specs.Prelude.{◌≡◌, ◌≤◌, ◌<◌, ◌++◌, ◌∷◌, ◌||◌, [], All, IfOk, OnOk, if◌then◌else◌, is_some, length, map, slice_index, true};
 ghost use Rattle.dml_types.specs.Job.{no_op_job};
 ghost use Rattle.dml_types.specs.Limits.{IsValid};
 ghost use Rattle.dml_types.specs.Refusal.{need, refusal};
@@ -222,35 +222,35 @@ fn first_wave(
     let mut list = Vec::new(alloc);
     let mut seen = 0;
     for place in places {
-        let among = is_chosen(*place, chosen, seen);
-        seen += one_if(among);
+        let is_known = is_next(*place, chosen, seen);
+        seen += one_if(is_known);
+        let job = &fetched[*place].job;
         push_if(
             &mut list,
             *place,
-            stands(&fetched[*place].job, staging, among),
+            stands(job, staging, *place, chosen, is_known),
         )?;
     }
     Ok(Places { list })
 }
 
-/// Whether a job stands in the first wave, since it is chosen or refused.
+/// Whether a job at a place stands in the first wave, since it is refused or chosen; it may be known to be chosen. A
+/// refused job is looked for among the chosen ones no further.
 #[tactic(auto, using(crate::proofs::FoldLemmas::or_turned))]
-fn stands(job: &Job, staging: u32, is_chosen: bool) -> bool
-    ensures { result ≡ (is_some (refusal job.now staging) || is_chosen) }
+fn stands(job: &Job, staging: u32, place: usize, chosen: &[usize], is_known: bool) -> bool
+    requires { is_known ≡ true → is_in place chosen.now ≡ true }
+    ensures { result ≡ (is_some (refusal job.now staging) || is_in place chosen.now) }
 {
-    is_chosen || is_refused(job, staging)
+    is_known || is_refused(job, staging) || is_member(place, chosen)
 }
 
-/// Whether a place is chosen. So many chosen ones were seen, and they mostly stand in order, so the next one is looked
-/// at before all others.
+/// Whether a place is the next chosen one, behind so many that were seen. They mostly stand in order, so it is looked at
+/// before all others.
 #[tactic(auto, using(crate::proofs::FoldLemmas::member_here))]
-fn is_chosen(place: usize, chosen: &[usize], seen: usize) -> bool
-    ensures { result ≡ is_in place chosen.now }
+fn is_next(place: usize, chosen: &[usize], seen: usize) -> bool
+    ensures { result ≡ true → is_in place chosen.now ≡ true }
 {
-    if seen < chosen.len() && chosen[seen] == place {
-        return true;
-    }
-    is_member(place, chosen)
+    seen < chosen.len() && chosen[seen] == place
 }
 
 /// Whether a place is among some others.

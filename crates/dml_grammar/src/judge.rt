@@ -145,7 +145,7 @@ fn bytes_of(alloc: Global, values: &mut Values) -> Bytes
     }
 }
 
-/// The line of a known first word that may stand here, of the words after it, among which digits may be.
+/// Reads the words after a known first word that may stand here, among which digits may be, to their values.
 fn read_digit_words(
     alloc: Global,
     progress: &Progress,
@@ -182,7 +182,7 @@ fn has_digits(word: Word) -> bool
     matches!(word, Word::Page | Word::Poke | Word::Raw)
 }
 
-/// The line of a known first word that may stand here, of the words after it, which are all numbers.
+/// Reads the words after a known first word that may stand here, which are all numbers, to their values.
 fn read_plain_words(
     progress: &Progress,
     word: Word,
@@ -212,7 +212,7 @@ fn read_plain_words(
     Ok(())
 }
 
-/// The line of a known first word that may stand here, of the words after it.
+/// Reads the words after a known first word that may stand here to their values.
 fn read_words(
     alloc: Global,
     progress: &Progress,
@@ -267,7 +267,8 @@ fn misplaced_by_batch(word: Word, jobs: Option<u32>) -> Option<Kind>
     }
 }
 
-/// The line of text with this first word and what follows it, after the lines read so far.
+/// Reads a line of text with this first word and what follows it, after the lines read so far: the word that it names,
+/// and the values of what follows.
 #[tactic(auto, using(crate::proofs::LineLemmas::misplaced_first, crate::proofs::LineLemmas::placed_rest))]
 fn read_line(
     alloc: Global,

@@ -67,7 +67,7 @@ fn blank_len(text: &[u8]) -> usize
 /// The bytes of a step.
 const STEP: usize = 16;
 
-/// The most bytes of a word that are looked at one by one.
+/// The bytes of a word behind which the search goes by vectors.
 const NEAR: usize = 32;
 
 /// The place of the lowest bit that is set; 16 where none is.
@@ -106,7 +106,7 @@ fn long_word_len(text: &[u8]) -> usize
 }
 
 /// How many bytes a text begins with that are no blanks. Most words are short, and end in the first step; those that do
-/// not, and those at the end of a line, go byte by byte.
+/// not, and those at the end of a line, go byte by byte up to 32 bytes, and from there on by vectors.
 #[tactic(auto, using(crate::proofs::WordLemmas::position_or_len_at))]
 #[inline(always)]
 fn word_len(text: &[u8]) -> usize

@@ -5,10 +5,9 @@ use Rattle.std.proofs.lemmas.List.{get_or-set_other, length-set}
 use Rattle.std.proofs.lemmas.Grind.{get_or-set_at}
 use Rattle.std.specs.Prelude.{nat_le}
 use Rattle.std.specs.List.Sorted.{IsNonDecreasing}
-use Rattle.dml_types.specs.declared.spans.Span.{Span}
 use Rattle.dml_levels.specs.declared.cells.Cells.{Cells}
-use Rattle.dml_levels.specs.Guides.{IsSought}
-use Rattle.dml_levels.specs.Cells.{cell_of, cells_of, IsCell, IsGreatest, IsRaised}
+use Rattle.dml_levels.specs.Starts.{IsSought}
+use Rattle.dml_levels.specs.Cells.{cell_of, IsCell, IsGreatest, IsRaised}
 
 cell_low : (start : ℕ) (xs : List ℕ) (x : ℕ) → start ≤ x → cell_of (start ∷ xs) x ≡ suc (cell_of xs x)
 cell_low start xs x low = ap (λ b. length (cond b (start ∷ filter (λ s. nat_le s x) xs) (filter (λ s. nat_le s x) xs))) (le-leb start x low)
@@ -66,7 +65,7 @@ sought_found starts address first left known none =
     cell_is starts address first (omega (arith, known.within)) known.low (λ k from below. known.high k (omega (arith, from, none)) below)
 
 -- a start in a lower place than the cell lies at the address or before it
-starts_low : (starts : List ℕ) (x k : ℕ) → k < cell_of starts x → IsNonDecreasing starts → get_or starts k 0 ≤ x
+pub starts_low : (starts : List ℕ) (x k : ℕ) → k < cell_of starts x → IsNonDecreasing starts → get_or starts k 0 ≤ x
 starts_low starts x k below sorted =
     ⊎_elim (λ high.
     absurd (omega (arith, below, few starts x k (λ j from to. omega (arith, high, sorted k j 0 from to)))))
@@ -84,12 +83,6 @@ cell_within [] x = omega arith
 cell_within (s ∷ xs) x =
     let rest = cell_within xs x in
     ⊎_elim (λ high. omega (arith, rest, cell_high s xs x high)) (λ low. omega (arith, rest, cell_low s xs x low)) (cases_lt x s)
-
--- no range starts between the two addresses
-pub same_cell : (starts : List ℕ) (x y cell : ℕ) → IsNonDecreasing starts → x ≤ y → cell ≡ cell_of starts x → (cell < length starts → y < get_or starts cell 0) → cell ≡ cell_of starts y
-same_cell starts x y cell sorted before is next =
-    cell_is starts y cell (omega (arith, is, cell_within starts x)) (λ k below. omega (arith, before, starts_low starts x k (omega (arith, is, below)) sorted))
-    (λ k from below. omega (arith, next (omega (arith, from, below)), sorted cell k 0 from below))
 
 abbrev pub cells_from : ℕ → ℕ → Cells
 cells_from first end = record { first = first; end = end }
@@ -138,8 +131,3 @@ raised_all old new cells cell height known done near = record {
   inside = λ k covers. known.inside k (record { from = covers.from; to = omega (arith, covers.to, done) });
   outside = λ k. ⊎_elim (λ covers. inl (record { from = covers.from; to = omega (arith, covers.from, covers.to, near) })) (λ kept. inr kept) (known.outside k);
 }
-
--- first and last address lie in one cell
-pub cells_one : (starts : List ℕ) (range : Span) (cell : ℕ) → cell ≡ cell_of starts range.start → cell ≡ cell_of starts (range.start + (range.len - 1)) → cells_from cell (cell + 1) ≡ cells_of starts range
-cells_one starts range cell first last =
-    ap (λ n. cells_from n (cell + 1)) first ∙ ap (λ n. cells_from (cell_of starts range.start) (n + 1)) last

@@ -1,5 +1,4 @@
 pub mod CellLemmas
-pub mod GuideLemmas
 pub mod MeetLemmas
 pub mod PlaceLemmas
 pub mod RiseLemmas
@@ -22,3 +21,4 @@ pub mod FenceLemmas
 pub mod PartLaws
 pub mod PieceLaws
 pub mod BatchLaws
+pub mod StartLemmas

@@ -1,11 +1,11 @@
 pub mod Cells
 pub mod Fences
-pub mod Guides
 pub mod Hulls
 pub mod Laws
 pub mod Links
 pub mod Pieces
 pub mod Rooms
+pub mod Starts
 pub mod Tasks
 pub mod Touched
 pub mod Waves

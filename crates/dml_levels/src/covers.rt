@@ -3,11 +3,10 @@ ghost use Rattle.std.specs.List.{list_any};
 ghost use Rattle.std.specs.List.Sorted.{IsNonDecreasing};
 ghost use Rattle.dml_types.specs.Job.{is_past};
 ghost use Rattle.dml_levels.specs.Cells.{IsCovered, IsGreatest, IsRaised, cover_of};
-ghost use Rattle.dml_levels.specs.Guides.{IsGuide};
 
 use crate::cells::Cells;
-use crate::guides::Guide;
 use crate::ranges::Spans;
+use crate::starts::Starts;
 use arrayvec::ArrayVec;
 use std::marker::Model;
 
@@ -36,21 +35,22 @@ impl Cover {
         }
     }
 
-    /// Becomes that of ranges, where it lies: a new one would be copied, and what reads its cells would wait for that.
+    /// Becomes that of ranges, of which the first is likely the one at this place among all that jobs touch. It is
+    /// written where it lies: a new one would be copied, and what reads its cells would wait for that.
     #[tactic(auto, using(crate::proofs::CoverLemmas::not_past))]
     #[inline(always)]
-    pub fn set(&mut self, starts: &[u64], guide: &Guide, spans: &Spans)
+    pub fn set(&mut self, starts: &Starts, first: usize, spans: &Spans)
         requires sorted { IsNonDecreasing starts.now }
-        requires guide { IsGuide starts.now guide.now }
         requires within { list_any is_past spans.now ≡ false }
         ensures { self.new ≡ cover_of starts.now spans.now }
     {
         let list = spans.list.as_slice();
         *self = Cover::none();
         if list.len() > 0 {
-            self.list.push(Cells::of(starts, guide, &list[0]));
+            self.list.push(Cells::of(starts, first, &list[0]));
             if list.len() > 1 {
-                self.list.push(Cells::of(starts, guide, &list[1]));
+                let second = first.saturating_add(1);
+                self.list.push(Cells::of(starts, second, &list[1]));
             }
         }
     }

@@ -3,15 +3,13 @@ ghost use Rattle.dml_types.specs.Conflict.{clash_of, level_over, clash_levels};
 ghost use Rattle.dml_types.specs.Conflict as word;
 ghost use Rattle.std.specs.List.Sorted.{IsNonDecreasing, IsPermutation};
 ghost use Rattle.dml_levels.specs.Cells.{all_starts};
-ghost use Rattle.dml_levels.specs.Guides.{IsGuide};
 ghost use Rattle.dml_levels.specs.Hulls.{reach_of};
 ghost use Rattle.dml_levels.specs.Touched.{touched_by};
 
-use crate::cells::find_starts;
 use crate::covers::Cover;
-use crate::guides::Guide;
 use crate::heights::Heights;
 use crate::hulls::Reach;
+use crate::starts::Starts;
 use crate::touched::Touches;
 use crate::touching::touches;
 use dml_desc::Checked;
@@ -34,9 +32,7 @@ pub(crate) fn find_levels(alloc: Global, jobs: &[Checked]) -> Result<Vec<u32>, A
         return Ok(levels);
     }
     if jobs.len() > FEW_JOBS && jobs.len() <= MANY_JOBS {
-        let starts = find_starts(alloc, jobs)?;
-        let guide = Guide::of(alloc, starts.as_slice())?;
-        return levels_by_cells(alloc, jobs, starts.as_slice(), &guide);
+        return levels_by_cells(alloc, jobs, &Starts::of(alloc, jobs)?);
     }
     let reaches = find_reaches(alloc, jobs)?;
     levels_by_pairs(alloc, jobs, reaches.as_slice())
@@ -87,26 +83,23 @@ fn levels_by_pairs(
 }
 
 /// The levels by the cells of the jobs' ranges.
-fn levels_by_cells(
-    alloc: Global,
-    jobs: &[Checked],
-    starts: &[u64],
-    guide: &Guide,
-) -> Result<Vec<u32>, AllocError>
+fn levels_by_cells(alloc: Global, jobs: &[Checked], starts: &Starts) -> Result<Vec<u32>, AllocError>
     requires few { length jobs.now < 2 ^ 32 }
     requires starts { IsPermutation (all_starts jobs.now) starts.now }
     requires sorted { IsNonDecreasing starts.now }
-    requires guide { IsGuide starts.now guide.now }
     ensures { IfOk result (λ list. list.items ≡ word.levels jobs.now) }
 {
     let mut levels = Vec::with_capacity(alloc, jobs.len())?;
-    let mut heights = Heights::new(alloc, starts.len() + 1)?;
+    let mut heights = Heights::new(alloc, starts.list.len() + 1)?;
     let mut reads = Cover::none();
     let mut writes = Cover::none();
+    let mut ranges = 0_usize;
     for job in jobs {
         let touched = touches(job);
-        reads.set(starts, guide, &touched.reads);
-        writes.set(starts, guide, &touched.writes);
+        reads.set(starts, ranges, &touched.reads);
+        ranges = ranges.saturating_add(touched.reads.len());
+        writes.set(starts, ranges, &touched.writes);
+        ranges = ranges.saturating_add(touched.writes.len());
         let level = heights.level_of(&reads, &writes);
         heights.raise(&reads, &writes, level.saturating_add(1));
         levels.push(level)?;

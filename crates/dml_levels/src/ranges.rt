@@ -60,6 +60,13 @@ impl Spans {
         }
     }
 
+    /// How many they are.
+    pub(crate) fn len(&self) -> usize
+        ensures { result ≡ length self.now }
+    {
+        self.list.len()
+    }
+
     /// Whether a range of these shares a byte with one of those.
     pub(crate) fn share_with(&self, those: &Spans) -> bool
         ensures { result ≡ any_shares self.now those.now }

@@ -1,5 +1,0 @@
-use Rattle.std.proofs.lemmas.List.Sorted.{IsNonDecreasingBy-from_sort}
-use Rattle.dml_levels.proofs.cells.find_starts.Goals as goal
-
-pub returns-clause-sorted : goal.returns-clause-sorted
-returns-clause-sorted c = IsNonDecreasingBy-from_sort (λ x. x) _ c.sort_unstable.ensures.sorted

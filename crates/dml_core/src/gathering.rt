@@ -40,7 +40,10 @@ impl World {
         ensures onward { 0 < result.taken + result.alone }
         ensures reached { Reaches self.old (take result.taken steps.now) self.new }
     {
-        if !is_fetch(&steps[0]) || !all_free(self.hands.as_slice()) || !self.finished.is_empty() {
+        if !may_begin(self.sent.len(), &steps[0])
+            || !all_free(self.hands.as_slice())
+            || !self.finished.is_empty()
+        {
             return none_taken(1, false);
         }
         let front = &steps[..row_end(steps)];
@@ -88,6 +91,16 @@ fn is_fetch(step: &Step) -> bool
 {
     match *step {
         Step::Fetch { .. } => true,
+        Step::Submit { .. } | Step::Take { .. } | Step::Finish { .. } | Step::Commit => false,
+    }
+}
+
+/// Whether a row may begin with a step: it fetches, for one of so many clients. For any other it is refused at once.
+fn may_begin(clients: usize, step: &Step) -> bool
+    ensures { result ≡ true → word.is_fetch step.now ≡ true }
+{
+    match *step {
+        Step::Fetch { client } => (client as usize) < clients,
         Step::Submit { .. } | Step::Take { .. } | Step::Finish { .. } | Step::Commit => false,
     }
 }

@@ -62,8 +62,10 @@ want_records='dml_engine:refused_later_growths dml_engine:refused_later_growths_
 dml_engine:refused_later_growths_of_a_fenced_batch dml_engine:refused_list_by_cells
 dml_engine:refused_conflict_chain'
 
-# The tests of calls that end at each refusal, and do without none: they say `ended` then.
+# The tests of calls that end at each refusal, and do without none: they say `ended at N` then, which is the step that
+# wanted memory. Of the row these are the steps whose lists grow, and then its last fetch, whose plan takes 15.
 end_each='dml_core:refused_row'
+row_ends='0 1 5 6 7 7 7 7 7 7 7 7 7 7 7 7 7 7 7'
 
 # is_in NAME LIST
 is_in() {
@@ -170,6 +172,7 @@ library() {
             before=$(growths "$binary" "$(set_up_of "$test")")
         fi
         number=$((before + 1))
+        : >"$work/ends"
         while :; do
             refused "$number" "$binary" "$test" >"$work/out" 2>&1 </dev/null
             status=$?
@@ -179,8 +182,11 @@ library() {
             [ -f "$work/log" ] || break
             ! is_in "$key" "$end_each" || grep -q '^ended ' "$work/out" ||
                 complain "$key: growth $number: the call does without it"
+            sed -n 's/^ended at //p' "$work/out" >>"$work/ends"
             number=$((number + 1))
         done
+        ! is_in "$key" "$end_each" || [ "$(echo $(cat "$work/ends"))" = "$row_ends" ] ||
+            complain "$key: ends at steps $(echo $(cat "$work/ends")), and not at $row_ends"
         counted "$key" "$((number - 1 - before))"
         ! is_in "$key" "$want_records" || wants_records "$key" "$binary" "$test" "$before"
     done

@@ -33,7 +33,7 @@ impl World {
     /// Takes the submits and fetches at the front of some steps, from a fetch to the last one, as far as they can be
     /// taken. Only the plan behind the last fetch is made, since each fetch plans all open jobs anew. Where the
     /// allocator has no memory left for it, the steps are taken back: there is none for the last fetch, and those
-    /// before it are to be taken one at a time.
+    /// before it are to be taken one at a time. So is a fetch behind which no other comes: there is no plan to spare.
     pub(crate) fn gather(&mut self, alloc: Global, steps: &[Step]) -> Turn
         requires { 0 < length steps.now }
         ensures within { result.taken + result.alone ≤ length steps.now }
@@ -46,7 +46,11 @@ impl World {
         {
             return none_taken(1, false);
         }
-        let front = &steps[..row_end(steps)];
+        let end = row_end(steps);
+        if end == 1 {
+            return none_taken(1, false);
+        }
+        let front = &steps[..end];
         let row = push_steps(&mut self.sent, &mut self.fetched, front);
         let behind = Turn {
             taken: row.count,

@@ -63,9 +63,27 @@ dml_engine:refused_later_growths_of_a_fenced_batch dml_engine:refused_list_by_ce
 dml_engine:refused_conflict_chain'
 
 # The tests of calls that end at each refusal, and do without none: they say `ended at N` then, which is the step that
-# wanted memory. Of the row these are the steps whose lists grow, and then its last fetch, whose plan takes 15.
-end_each='dml_core:refused_row'
-row_ends='0 1 5 6 7 7 7 7 7 7 7 7 7 7 7 7 7 7 7'
+# wanted memory.
+end_each='dml_core:refused_row dml_core:refused_longest_row dml_core:refused_longer_row dml_core:refused_cut_row'
+
+# repeated N WORD: the word, so many times
+repeated() {
+    printf "%$1s" '' | sed "s/ / $2/g"
+}
+
+# ends_of KEY: the steps at which such a test ends: those of a row whose lists grow, and then its last fetch, whose plan
+# takes several growths. The list of a client that submits one job after another from step 1 on holds 4 jobs at first,
+# and then twice as many each time. A row of 2,048 steps has one plan; a fetch behind it has its own.
+ends_of() {
+    doubling='0 1 5 9 17 33 65 129 257 513 1025'
+    case $1 in
+        dml_core:refused_row) echo 0 1 5 6 $(repeated 15 7) ;;
+        dml_core:refused_longest_row) echo $doubling $(repeated 10 2047) ;;
+        dml_core:refused_longer_row) echo $doubling $(repeated 10 2047) $(repeated 10 2048) ;;
+        dml_core:refused_cut_row) echo 0 2 $(repeated 10 1) ;;
+        *) echo none ;;
+    esac
+}
 
 # is_in NAME LIST
 is_in() {
@@ -185,8 +203,8 @@ library() {
             sed -n 's/^ended at //p' "$work/out" >>"$work/ends"
             number=$((number + 1))
         done
-        ! is_in "$key" "$end_each" || [ "$(echo $(cat "$work/ends"))" = "$row_ends" ] ||
-            complain "$key: ends at steps $(echo $(cat "$work/ends")), and not at $row_ends"
+        ! is_in "$key" "$end_each" || [ "$(echo $(cat "$work/ends"))" = "$(ends_of "$key")" ] ||
+            complain "$key: ends at steps $(echo $(cat "$work/ends")), and not at $(ends_of "$key")"
         counted "$key" "$((number - 1 - before))"
         ! is_in "$key" "$want_records" || wants_records "$key" "$binary" "$test" "$before"
     done

@@ -1,16 +1,18 @@
 -- Submits and fetches in a row.
-use Rattle.std.proofs.Common.{◌≡◌, ◌⊎◌, ℕ, ◌+◌, ◌-◌, ◌<◌, ◌≤◌, Bool, true, false, drop, Option, inl, inr, List, [], ◌∷◌, ◌++◌, length, get_or, set, take, refl, sym, ◌∙◌, ap, subst, arith}
-use Rattle.std.proofs.lemmas.Bool.{and_from, and_parts, ltb-true, or_left, or_right}
-use Rattle.std.proofs.lemmas.List.{get_or-set_same, length_push, set-set, set-get_or, take_more, take_rest}
+use Rattle.std.proofs.Common.{◌≡◌, ◌⊎◌, ℕ, ◌+◌, ◌-◌, ◌<◌, ◌≤◌, Bool, true, false, not, drop, Option, None, Some, inl, inr, ⊎_elim, List, [], ◌∷◌, ◌++◌, length, get_or, set, take, refl, sym, ◌∙◌, ap, subst, arith}
+use Rattle.std.proofs.lemmas.Bool.{and_from, and_parts, cases_lt, false≢true, ltb-true, or_left, or_right}
+use Rattle.std.proofs.lemmas.List.{get_or-drop, get_or-set_same, get_or-take, length-drop, length-take, length_push, set-set, set-get_or, take_more, take_rest}
 use Rattle.std.proofs.lemmas.Option.{slice_get-get_or}
 use Rattle.std.proofs.Math.Seq.{take-add, take-append_seam}
-use Rattle.std.specs.Prelude.{◌&&◌, ◌||◌, IfSome, is_some, nat_lt}
+use Rattle.std.specs.Prelude.{◌&&◌, ◌||◌, IfSome, is_some, nat_lt, slice_get}
 use Rattle.dml_types.specs.Memory.{Memory}
 use Rattle.dml_core.specs.Plan.{jobs_of, open_places, plan_of, tasks_of}
 use Rattle.dml_core.specs.Types.{Job, Settings, Fetched, Task, Step, Submit, Fetch, Take, Finish, Commit}
+use Rattle.dml_core.specs.declared.errors.StepFault.TheVariants.{NotAllowed}
+use Rattle.dml_core.specs.Replay.{StopsAt}
 use Rattle.dml_core.specs.World.{Kept, World, after, is_allowed, is_empty, no_hand, Reaches}
-use Rattle.dml_core.specs.Gather.{Lists, lists, lists_of, is_fetch, is_idle, may_join, next_of, grown, shorter, ungrown, AreGathered, FetchesAt, gathered}
-use Rattle.dml_core.proofs.ReplayLemmas.{reaches_append, replay_more}
+use Rattle.dml_core.specs.Gather.{Lists, lists, is_fetch, is_idle, may_join, next_of, grown, shorter, ungrown, AreGathered, FetchesAt, IsRefused, NoneFetches, gathered, is_of_row}
+use Rattle.dml_core.proofs.ReplayLemmas.{reaches_append, replay_more, replay_refused}
 use Rattle.dml_core.proofs.StepFacts.{world}
 
 and_turned : (free none next few : Bool) → (free && none) ≡ true → (next && few) ≡ true → (next && free && none && few) ≡ true
@@ -32,6 +34,40 @@ joins_allowed w now false (Fetch client) idle may = fetch_allowed w now client i
 joins_allowed w now fetches (Take worker) idle may = cc
 joins_allowed w now fetches (Finish worker) idle may = cc
 joins_allowed w now fetches Commit idle may = cc
+
+refused_turned : (free none next few : Bool) → (free && none) ≡ true → (next && few) ≡ false → (next && free && none && few) ≡ false
+refused_turned true true true few idle denied = denied
+refused_turned true true false few idle denied = refl
+refused_turned true false next few idle denied = cc
+refused_turned false none next few idle denied = cc
+
+fetch_refused : (w : World) (now : Lists) (client : ℕ) → is_idle w ≡ true → may_join now (Fetch client) ≡ false → (is_some (next_of now.sent now.fetched client) && no_hand w && is_empty w.finished && nat_lt (length (open_places now.fetched)) 1024) ≡ false
+fetch_refused w now client idle denied =
+    refused_turned (no_hand w) (is_empty w.finished) (is_some (next_of now.sent now.fetched client)) (nat_lt (length (open_places now.fetched)) 1024) idle denied
+
+-- a submit or a fetch that does not make them longer is not allowed
+joins_refused : (w : World) (now : Lists) (fetches : Bool) (s : Step) → is_idle w ≡ true → is_of_row s ≡ true → may_join now s ≡ false → is_allowed (gathered w now fetches) s ≡ false
+joins_refused w now true (Submit client job) idle of denied = denied
+joins_refused w now false (Submit client job) idle of denied = denied
+joins_refused w now true (Fetch client) idle of denied = fetch_refused w now client idle denied
+joins_refused w now false (Fetch client) idle of denied = fetch_refused w now client idle denied
+joins_refused w now fetches (Take worker) idle of denied = cc
+joins_refused w now fetches (Finish worker) idle of denied = cc
+joins_refused w now fetches Commit idle of denied = cc
+
+not_true : (b : Bool) → not b ≡ true → b ≡ false
+not_true false denied = refl
+not_true true denied = cc
+
+row_stops : (w : World) (now : Lists) (fetches refused : Bool) (s : Step) → is_idle w ≡ true → refused ≡ true → refused ≡ (is_of_row s && not (may_join now s)) → is_allowed (gathered w now fetches) s ≡ false
+row_stops w now fetches refused s idle is kept =
+    let both = and_parts (is_of_row s) (not (may_join now s)) (sym kept ∙ is) in
+    joins_refused w now fetches s idle both.0 (not_true (may_join now s) both.1)
+
+-- of the step behind a row, if there is one
+pub row_refused : (w : World) (now : Lists) (fetches refused : Bool) (step : Option Step) → is_idle w ≡ true → refused ≡ true → IfSome step (λ (s : Step). refused ≡ (is_of_row s && not (may_join now s))) → IfSome step (λ (s : Step). is_allowed (gathered w now fetches) s ≡ false)
+row_refused w now fetches refused None idle is kept = tt
+row_refused w now fetches refused (Some s) idle is kept = row_stops w now fetches refused s idle is kept
 
 joins_after : (w : World) (now : Lists) (fetches : Bool) (s : Step) → may_join now s ≡ true → gathered w (grown now s) (fetches || is_fetch s) ≡ after (gathered w now fetches) s
 joins_after w now true (Submit client job) may = refl
@@ -111,6 +147,33 @@ fetches_here steps i d below is =
     let here : FetchesAt steps i = subst (λ (s : Option Step). IfSome s (λ (x : Step). is_fetch x ≡ true)) (sym (slice_get-get_or steps i d below)) is in
     subst (FetchesAt steps) (let e : i ≡ i + 1 - 1 = omega arith in e) here
 
+-- and that none stands behind it
+pub none_before : (steps : List Step) (end : ℕ) (d : Step) → 0 < end → end ≤ length steps → is_fetch (get_or steps (end - 1) d) ≡ false → NoneFetches steps end → NoneFetches steps (end - 1)
+none_before steps end d some within is behind =
+    let last : IfSome (slice_get steps (end - 1)) (λ (x : Step). is_fetch x ≡ false) =
+    subst (λ (s : Option Step). IfSome s (λ (x : Step). is_fetch x ≡ false)) (sym (slice_get-get_or steps (end - 1) d (omega arith))) is in
+    record {
+      each = λ i from below.
+          ⊎_elim (λ (low : i < end).
+          let here : end - 1 ≡ i = omega (arith, from, low, some) in
+          subst (λ (k : ℕ). IfSome (slice_get steps k) (λ (x : Step). is_fetch x ≡ false)) here last)
+          (λ (high : end ≤ i). behind.each i high below)
+          (cases_lt i end);
+    }
+
+-- a fetch among the first steps is one among all, and the other way round
+same_step : (steps : List Step) (n i : ℕ) (d : Step) → i < n → n ≤ length steps → slice_get (take n steps) i ≡ slice_get steps i
+same_step steps n i d low within =
+    let size = length-take n steps in
+    slice_get-get_or (take n steps) i d (omega (arith, size, low, within))
+    ∙ (ap Some (get_or-take n steps i d low) ∙ sym (slice_get-get_or steps i d (omega (arith, low, within))))
+
+pub fetches_in : (steps : List Step) (n i : ℕ) (d : Step) → i < n → n ≤ length steps → FetchesAt (take n steps) i → FetchesAt steps i
+fetches_in steps n i d low within = subst (λ (s : Option Step). IfSome s (λ (x : Step). is_fetch x ≡ true)) (same_step steps n i d low within)
+
+pub fetches_out : (steps : List Step) (n i : ℕ) (d : Step) → i < n → n ≤ length steps → FetchesAt steps i → FetchesAt (take n steps) i
+fetches_out steps n i d low within = subst (λ (s : Option Step). IfSome s (λ (x : Step). is_fetch x ≡ true)) (sym (same_step steps n i d low within))
+
 -- the steps of a turn, behind those that were taken before
 pub turn_reaches : (w v next : World) (steps : List Step) (place taken : ℕ) → Reaches w (take place steps) v → Reaches v (take taken (take (length steps - place) (drop place steps))) next → Reaches w (take (place + taken) steps) next
 turn_reaches w v next steps place taken before turn =
@@ -118,17 +181,35 @@ turn_reaches w v next steps place taken before turn =
     (reaches_append (take place steps) (take taken (drop place steps)) w v next before
     (subst (λ (list : List Step). Reaches v (take taken list) next) (take_rest steps place) turn))
 
--- what the lists and the plan of a row of steps leave, by the fields of the code
-abbrev pub LeadsTo : List (List Job) → List Fetched → List Step → Lists → Bool → Type 0
-LeadsTo sent fetched steps now fetches =
-    (w : World) → lists_of w ≡ lists sent fetched → is_idle w ≡ true → Reaches w steps (gathered w now fetches)
+-- the step behind a turn is not allowed
+pub turn_refused : (w v stopped : World) (steps : List Step) (place taken : ℕ) (d : Step) → place ≤ length steps → Reaches w (take place steps) v → Reaches v (take taken (take (length steps - place) (drop place steps))) stopped → IsRefused stopped (take (length steps - place) (drop place steps)) taken → StopsAt w steps stopped (NotAllowed (place + taken))
+turn_refused w v stopped steps place taken d within before turn refused =
+    let rest = drop place steps in
+    let cut : take (length steps - place) rest ≡ rest = take_rest steps place in
+    let size = length-drop place steps in
+    let here : taken < length rest = subst (λ (l : List Step). taken < length l) cut refused.0 in
+    let below : place + taken < length steps = omega (arith, size, here, within) in
+    let at : slice_get (take (length steps - place) rest) taken ≡ Some (get_or steps (place + taken) d) =
+    ap (λ (l : List Step). slice_get l taken) cut
+    ∙ (slice_get-get_or rest taken d here ∙ ap Some (get_or-drop place steps taken d)) in
+    replay_refused w stopped stopped steps (place + taken) d below (turn_reaches w v stopped steps place taken before turn) refl
+    (subst (λ (s : Option Step). IfSome s (λ (x : Step). is_allowed stopped x ≡ false)) at refused.1)
 
-pub gather_view : (settings : Settings) (image : Memory) (sent new_sent : List (List Job)) (fetched new_fetched : List Fetched) (waves : List (List ℕ)) (to_do : List Task) (hands : List (Option Task)) (finished new_finished : List Kept) (plan : List (List ℕ)) (tasks : List Task) (steps : List Step) (fetches : Bool) → LeadsTo sent fetched steps (lists new_sent new_fetched) fetches → is_idle (world settings image sent fetched waves to_do hands finished) ≡ true → fetches ≡ true → new_finished ≡ finished → plan ≡ plan_of new_fetched settings.staging settings.chunk → tasks ≡ tasks_of (jobs_of new_fetched) settings.staging settings.chunk (get_or plan 0 []) → Reaches (world settings image sent fetched waves to_do hands finished) steps (world settings image new_sent new_fetched plan tasks hands new_finished)
-gather_view settings image sent new_sent fetched new_fetched waves to_do hands finished new_finished plan tasks steps fetches leads idle anew same planned set =
+-- a row that stops before its end has a step there
+pub at_step : (P : Step → Type 0) (steps : List Step) (i : ℕ) (d : Step) → i < length steps → P (get_or steps i d) → IfSome (slice_get steps i) P
+at_step P steps i d below is = subst (λ (s : Option Step). IfSome s P) (sym (slice_get-get_or steps i d below)) is
+
+pub stops_below : (count size : ℕ) (wants refused : Bool) → count ≤ size → (count ≡ size → (wants || refused) ≡ false) → refused ≡ true → count < size
+stops_below count size wants refused within stops is =
+    ⊎_elim (λ (below : count < size). below)
+    (λ (past : size ≤ count). absurd (false≢true (sym (stops (omega (arith, within, past))) ∙ or_right wants refused is)))
+    (cases_lt count size)
+
+-- the world that a row of steps leaves, by the fields of the code
+pub gather_made : (settings : Settings) (image : Memory) (sent new_sent : List (List Job)) (fetched new_fetched : List Fetched) (waves : List (List ℕ)) (to_do : List Task) (hands : List (Option Task)) (finished new_finished : List Kept) (plan : List (List ℕ)) (tasks : List Task) (fetches : Bool) → fetches ≡ true → new_finished ≡ finished → plan ≡ plan_of new_fetched settings.staging settings.chunk → tasks ≡ tasks_of (jobs_of new_fetched) settings.staging settings.chunk (get_or plan 0 []) → world settings image new_sent new_fetched plan tasks hands new_finished ≡ gathered (world settings image sent fetched waves to_do hands finished) (lists new_sent new_fetched) fetches
+gather_made settings image sent new_sent fetched new_fetched waves to_do hands finished new_finished plan tasks fetches anew same planned set =
     let old = world settings image sent fetched waves to_do hands finished in
-    let made : world settings image new_sent new_fetched plan tasks hands new_finished ≡ gathered old (lists new_sent new_fetched) fetches =
     ap (λ (kept : List Kept). world settings image new_sent new_fetched plan tasks hands kept) same
     ∙ (ap (λ (l : List Task). world settings image new_sent new_fetched plan l hands finished) set
     ∙ (ap (λ (p : List (List ℕ)). world settings image new_sent new_fetched p (tasks_of (jobs_of new_fetched) settings.staging settings.chunk (get_or p 0 [])) hands finished) planned
-    ∙ ap (gathered old (lists new_sent new_fetched)) (sym anew))) in
-    subst (λ (x : World). Reaches old steps x) (sym made) (leads old refl idle)
+    ∙ ap (gathered old (lists new_sent new_fetched)) (sym anew)))

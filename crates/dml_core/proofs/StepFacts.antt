@@ -1,9 +1,9 @@
 -- What the steps of the code rest on.
-use Rattle.std.proofs.Common.{◌≡◌, ℕ, ◌+◌, ◌<◌, ◌≤◌, Bool, true, false, not, cond, List, [], ◌∷◌, ◌++◌, length, get_or, filter, take, drop, sym, ◌∙◌, ap, arith, Option, None, Some}
-use Rattle.std.proofs.lemmas.List.{length-append, length_push, length-drop, drop-drop, drop_all, get_or-drop, take_all, get_or_append_left}
+use Rattle.std.proofs.Common.{◌≡◌, ℕ, ◌+◌, ◌<◌, ◌≤◌, Bool, true, false, not, cond, List, [], ◌∷◌, ◌++◌, length, get_or, filter, map, take, drop, sym, ◌∙◌, ap, arith, Option, None, Some}
+use Rattle.std.proofs.lemmas.List.{length-append, length-map, length_push, nil_from_length, length-drop, drop-drop, drop_all, get_or-drop, take_all, get_or_append_left}
 use Rattle.std.proofs.Math.Seq.{get_or-append_seam}
 use Rattle.std.proofs.lemmas.List.Elements.{filter_more}
-use Rattle.std.proofs.lemmas.Bool.{and_from, eq-eqb, ne_eqb}
+use Rattle.std.proofs.lemmas.Bool.{and_from, and_parts, eq-eqb, eqb-true, ne_eqb}
 use Rattle.std.specs.Prelude.{nat_eq, is_none, ◌&&◌}
 use Rattle.std.specs.List.{list_all, range_with_len}
 use Rattle.dml_order.specs.Order.{run_all}
@@ -62,6 +62,12 @@ open_more fetched entry unanswered =
     let own : is_open list (length fetched) ≡ true =
     ap (λ (e : Fetched). is_none e.answer) (get_or-append_seam fetched entry [] no_entry) ∙ ap is_none unanswered in
     more ∙ (ap (λ b. length (filter (is_open list) (range_with_len 0 (length fetched))) + cond b 1 0) own ∙ ap (λ n. n + 1) same)
+
+-- in an idle world no task is finished
+pub none_finished : (hands : List (Option Task)) (keep : Task → Kept) (finished : List Task) → (list_all is_none hands && is_empty (map keep finished)) ≡ true → finished ≡ []
+none_finished hands keep finished idle =
+    let empty = and_parts (list_all is_none hands) (is_empty (map keep finished)) idle in
+    nil_from_length finished (sym (length-map finished keep) ∙ eqb-true (length (map keep finished)) 0 empty.1)
 
 -- the tasks of the next wave are the same before a commit and behind it
 pub next_tasks : (fetched : List Fetched) (before after : Progress) (staging chunk : ℕ) (places wave : List ℕ) → after ≡ run_all (carry_out staging) before places → before.fetched ≡ fetched → tasks_of (jobs_of after.fetched) staging chunk wave ≡ tasks_of (jobs_of fetched) staging chunk wave

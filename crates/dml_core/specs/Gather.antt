@@ -1,9 +1,9 @@
 -- Submits and fetches in a row, with one plan behind the last of them: the lists that they make longer, and the
 -- world that they leave.
-use Rattle.std.specs.Prelude.{◌≡◌, ℕ, ◌-◌, ◌<◌, Bool, true, false, ◌&&◌, IfSome, List, [], ◌∷◌, ◌++◌, Option, length, is_some, if◌then◌else◌, nat_lt, slice_get, slice_index, slice_index_or, slice_set, take}
+use Rattle.std.specs.Prelude.{◌≡◌, ℕ, ◌-◌, ◌<◌, ◌≤◌, Bool, true, false, ◌&&◌, IfSome, List, [], ◌∷◌, ◌++◌, Option, None, length, is_some, if◌then◌else◌, nat_lt, slice_get, slice_index_or, slice_set, take}
 use Rattle.dml_core.specs.Types.{Job, Fetched, Step, Submit, Fetch}
 use Rattle.dml_core.specs.Plan.{open_places, plan_of}
-use Rattle.dml_core.specs.World.{World, is_empty, new_entry, no_hand, part_of, set_out}
+use Rattle.dml_core.specs.World.{World, is_allowed, is_empty, new_entry, no_hand, part_of, set_out}
 
 -- what the clients sent, and what was fetched
 pub record Lists : Type 0 where
@@ -20,9 +20,9 @@ lists_of w = lists w.sent w.fetched
 abbrev pub next_of : List (List Job) → List Fetched → ℕ → Option Job
 next_of sent fetched client = slice_get (slice_index_or sent client []) (length (part_of client fetched))
 
--- so many jobs were fetched of each client
-pub record AreParts (parts : List ℕ) (fetched : List Fetched) : Type 0 where
-  pub each : (client : ℕ) → client < length parts → slice_index parts client ≡ length (part_of client fetched)
+-- where a client's count is kept, so many of its jobs were fetched
+pub record AreParts (parts : List (Option ℕ)) (fetched : List Fetched) : Type 0 where
+  pub each : (client : ℕ) → IfSome (slice_index_or parts client None) (λ count. count ≡ length (part_of client fetched))
 
 abbrev pub is_fetch : Step → Bool
 is_fetch (Fetch client) = true
@@ -31,6 +31,19 @@ is_fetch s = false
 -- the step at a place fetches
 abbrev pub FetchesAt : List Step → ℕ → Type 0
 FetchesAt steps i = IfSome (slice_get steps i) (λ s. is_fetch s ≡ true)
+
+-- no step from a place on fetches
+pub record NoneFetches (steps : List Step) (from : ℕ) : Type 0 where
+  pub each : (i : ℕ) → from ≤ i → i < length steps → IfSome (slice_get steps i) (λ s. is_fetch s ≡ false)
+
+abbrev pub is_of_row : Step → Bool
+is_of_row (Submit client job) = true
+is_of_row (Fetch client) = true
+is_of_row s = false
+
+-- the step behind so many is not allowed
+abbrev pub IsRefused : World → List Step → ℕ → Type 0
+IsRefused w steps taken = (taken < length steps) × IfSome (slice_get steps taken) (λ s. is_allowed w s ≡ false)
 
 -- no task is in hand or finished
 abbrev pub is_idle : World → Bool

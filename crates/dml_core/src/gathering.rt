@@ -1,64 +1,93 @@
 //! Submits and fetches in a row, with one plan behind the last of them.
-ghost use Rattle.std.specs.Prelude.{◌≡◌, ◌⊎◌, ◌||◌, ◌+◌, ◌-◌, ◌≤◌, ◌<◌, false, length, nat_lt, slice_index_or, slice_set, take, true, []};
+ghost use Rattle.std.specs.Prelude.{◌≡◌, ◌⊎◌, ◌||◌, ◌&&◌, ◌+◌, ◌-◌, ◌≤◌, ◌<◌, IfSome, false, length, nat_lt, not, slice_get, slice_index_or, slice_set, take, true, []};
 ghost use Rattle.dml_core.specs.Plan.{open_places};
-ghost use Rattle.dml_core.specs.World.{Reaches, World};
-ghost use Rattle.dml_core.specs.Gather.{AreGathered, AreParts, FetchesAt, Lists, gathered, grown, is_idle, lists, lists_of, may_fetch, may_join, more_fetched, more_sent, shorter, ungrown};
+ghost use Rattle.dml_core.specs.World.{Reaches, World, part_of};
+ghost use Rattle.dml_core.specs.Gather.{AreGathered, AreParts, FetchesAt, IsRefused, Lists, NoneFetches, gathered, grown, is_idle, lists, lists_of, may_fetch, may_join, more_fetched, more_sent, shorter, ungrown};
 ghost use Rattle.dml_core.specs.Gather as word;
 
-use crate::counts::{count_one, count_parts, next_counted};
+use crate::counts::{count_one, first_count, next_counted};
 use crate::lists::SentJobs;
-use crate::stepping::{MAX_OPEN, Outset, all_free, count_open, set_out};
+use crate::stepping::{MAX_OPEN, Next, Outset, one_if, set_out};
 use crate::values::{Fetched, Step};
 use crate::worlds::World;
 use dml_types::Job;
 use std::alloc::Global;
 
+/// The most steps of a row, those of as many submits and fetches as may be open: where its plan is refused, so many are
+/// taken back, and taken again one at a time.
+const MOST_STEPS: usize = 2 * MAX_OPEN;
+
 /// How many steps were taken, and how many behind them are to be taken one at a time. The last of these may have been
-/// tried already: where it is allowed, there was no memory for it.
+/// tried already: where it is allowed, there was no memory for it. Or the step behind those taken is not allowed.
 #[derive(Clone, Copy)]
 pub(crate) struct Turn {
     pub(crate) taken: usize,
     pub(crate) alone: usize,
     pub(crate) is_tried: bool,
+    pub(crate) is_refused: bool,
 }
 
-/// How many steps made the lists longer, and whether a fetch is among them.
+/// How many steps made the lists longer, and whether a fetch is among them. Where they are not all, there was no memory
+/// for the step behind, or it is not allowed.
 #[derive(Clone, Copy)]
 struct Row {
     count: usize,
     fetches: bool,
+    wants_memory: bool,
+    is_refused: bool,
 }
 
 impl World {
-    /// Takes the submits and fetches at the front of some steps, from a fetch to the last one, as far as they can be
-    /// taken. Only the plan behind the last fetch is made, since each fetch plans all open jobs anew. Where the
-    /// allocator has no memory left for it, the steps are taken back: there is none for the last fetch, and those
-    /// before it are to be taken one at a time. So is a fetch behind which no other comes: there is no plan to spare.
+    /// Takes the submits and fetches at the front of some steps that begin with a fetch, as far as they can be taken:
+    /// none where the first is not allowed. Any other first step is to be taken alone.
     pub(crate) fn gather(&mut self, alloc: Global, steps: &[Step]) -> Turn
         requires { 0 < length steps.now }
         ensures within { result.taken + result.alone ≤ length steps.now }
-        ensures onward { 0 < result.taken + result.alone }
+        ensures onward { result.is_refused ≡ false → 0 < result.taken + result.alone }
         ensures reached { Reaches self.old (take result.taken steps.now) self.new }
+        ensures refused { result.is_refused ≡ true → IsRefused self.new steps.now result.taken }
     {
-        if !may_begin(self.sent.len(), &steps[0])
-            || !all_free(self.hands.as_slice())
-            || !self.finished.is_empty()
-        {
-            return none_taken(1, false);
-        }
-        let end = row_end(steps);
-        if end == 1 {
-            return none_taken(1, false);
-        }
-        let front = &steps[..end];
-        let row = push_steps(&mut self.sent, &mut self.fetched, front);
-        let behind = Turn {
-            taken: row.count,
-            alone: (front.len() - row.count).min(1),
-            is_tried: true,
+        let Step::Fetch { client } = steps[0] else {
+            return Turn::alone(1, false);
         };
+        let Some(next) = self.next_fetch(client) else {
+            return Turn::refused();
+        };
+        let most = steps.len().min(MOST_STEPS);
+        self.gather_row(alloc, client, &next, &steps[..most])
+    }
+
+    /// Takes submits and fetches, as far as they can be taken. Of the client of the first it is known what is next. Only
+    /// the plan behind the last fetch is made, since each fetch plans all open jobs anew. Where the allocator has no
+    /// memory left for it, the steps are taken back: there is none for the last fetch, and those before it are to be
+    /// taken one at a time.
+    fn gather_row(&mut self, alloc: Global, client: u32, next: &Next, steps: &[Step]) -> Turn
+        requires some { 0 < length steps.now }
+        requires fetch { FetchesAt steps.now 0 }
+        requires idle { is_idle self.old ≡ true }
+        requires part { next.now.part ≡ length (part_of client self.old.fetched) }
+        requires open_jobs { next.now.open_jobs ≡ length (open_places self.old.fetched) }
+        ensures within { result.taken + result.alone ≤ length steps.now }
+        ensures onward { result.is_refused ≡ false → 0 < result.taken + result.alone }
+        ensures reached { Reaches self.old (take result.taken steps.now) self.new }
+        ensures refused { result.is_refused ≡ true → IsRefused self.new steps.now result.taken }
+        ensures tried { result.taken ≡ 0 → result.is_tried ≡ true → FetchesAt steps.now (result.alone - 1) }
+    {
+        let mut parts = first_count(client, next.part);
+        let row = push_steps(
+            &mut self.sent,
+            &mut self.fetched,
+            next.open_jobs,
+            &mut parts,
+            steps,
+        );
         if !row.fetches {
-            return behind;
+            return Turn {
+                taken: row.count,
+                alone: one_if(row.count == 0),
+                is_tried: row.wants_memory,
+                is_refused: false,
+            };
         }
         match set_out(alloc, self.fetched.as_slice(), &self.settings) {
             Ok(Outset { waves, tasks }) => {
@@ -66,26 +95,50 @@ impl World {
                 self.committed = 0;
                 self.tasks = tasks;
                 self.taken = 0;
-                behind
+                Turn {
+                    taken: row.count,
+                    alone: one_if(row.wants_memory),
+                    is_tried: row.wants_memory,
+                    is_refused: row.is_refused,
+                }
             }
             Err(_) => {
-                take_back(&mut self.sent, &mut self.fetched, &front[..row.count]);
-                none_taken(row_end(&front[..row.count.max(1)]), true)
+                take_back(&mut self.sent, &mut self.fetched, &steps[..row.count]);
+                Turn::alone(fetch_end(&steps[..row.count]), true)
             }
         }
     }
 }
 
-/// No step was taken, and so many are to be taken one at a time, of which the last may have been tried.
-fn none_taken(alone: usize, is_tried: bool) -> Turn
-    ensures taken { result.taken ≡ 0 }
-    ensures alone { result.alone ≡ alone }
-    ensures is_tried { result.is_tried ≡ is_tried }
-{
-    Turn {
-        taken: 0,
-        alone,
-        is_tried,
+impl Turn {
+    /// No step was taken, and the first is not allowed.
+    fn refused() -> Turn
+        ensures taken { result.taken ≡ 0 }
+        ensures alone { result.alone ≡ 0 }
+        ensures is_tried { result.is_tried ≡ false }
+        ensures is_refused { result.is_refused ≡ true }
+    {
+        Turn {
+            taken: 0,
+            alone: 0,
+            is_tried: false,
+            is_refused: true,
+        }
+    }
+
+    /// No step was taken, and so many are to be taken one at a time, of which the last may have been tried.
+    fn alone(count: usize, is_tried: bool) -> Turn
+        ensures taken { result.taken ≡ 0 }
+        ensures alone { result.alone ≡ count }
+        ensures is_tried { result.is_tried ≡ is_tried }
+        ensures is_refused { result.is_refused ≡ false }
+    {
+        Turn {
+            taken: 0,
+            alone: count,
+            is_tried,
+            is_refused: false,
+        }
     }
 }
 
@@ -99,35 +152,28 @@ fn is_fetch(step: &Step) -> bool
     }
 }
 
-/// Whether a row may begin with a step: it fetches, for one of so many clients. For any other it is refused at once.
-fn may_begin(clients: usize, step: &Step) -> bool
-    ensures { result ≡ true → word.is_fetch step.now ≡ true }
+/// Whether a step is a submit or a fetch.
+fn is_of_row(step: &Step) -> bool
+    ensures { result ≡ word.is_of_row step.now }
 {
     match *step {
-        Step::Fetch { client } => (client as usize) < clients,
-        Step::Submit { .. } | Step::Take { .. } | Step::Finish { .. } | Step::Commit => false,
+        Step::Submit { .. } | Step::Fetch { .. } => true,
+        Step::Take { .. } | Step::Finish { .. } | Step::Commit => false,
     }
 }
 
-/// The most steps of a row: those of as many submits and fetches as may be open.
-const MOST_STEPS: usize = 2 * MAX_OPEN;
-
-/// How many steps stand in a row at the front of some that begin with a fetch: the submits and fetches, to the last
-/// fetch among them. A row is looked through before its first step is judged, so it has not too many.
-#[tactic(auto, using(crate::proofs::GatherLemmas::fetches_here))]
-fn row_end(steps: &[Step]) -> usize
+/// How many steps stand at the front of some that begin with a fetch, up to the last fetch among them.
+#[tactic(auto, using(crate::proofs::GatherLemmas::none_before, crate::proofs::GatherLemmas::fetches_here))]
+fn fetch_end(steps: &[Step]) -> usize
     requires { 0 < length steps.now }
     ensures within { result ≤ length steps.now }
     ensures onward { 0 < result }
     ensures last { FetchesAt steps.now 0 → FetchesAt steps.now (result - 1) }
+    ensures behind { NoneFetches steps.now result }
 {
-    let mut end = 1;
-    for i in 1..steps.len().min(MOST_STEPS) {
-        if is_fetch(&steps[i]) {
-            end = i + 1;
-        } else if !matches!(steps[i], Step::Submit { .. }) {
-            return end;
-        }
+    let mut end = steps.len();
+    while end > 1 && !is_fetch(&steps[end - 1]) {
+        end -= 1;
     }
     end
 }
@@ -139,10 +185,24 @@ fn is_or_fetches(fetches: bool, step: &Step) -> bool
     fetches || is_fetch(step)
 }
 
-/// Makes the lists of an idle world longer by the steps, up to the first that cannot be taken. What was fetched is
-/// counted once, since each fetch counts one job more.
-fn push_steps(sent: &mut Vec<SentJobs>, fetched: &mut Vec<Fetched>, steps: &[Step]) -> Row
+/// Makes the lists of an idle world longer by the steps, up to the first that cannot be taken. So many of the fetched
+/// jobs are open, and so many each client's; each fetch counts one more, so they are counted once at most.
+fn push_steps(
+    sent: &mut Vec<SentJobs>,
+    fetched: &mut Vec<Fetched>,
+    open_jobs: usize,
+    parts: &mut [Option<usize>],
+    steps: &[Step],
+) -> Row
+    requires open_jobs { open_jobs ≡ length (open_places fetched.old.items) }
+    requires parts { AreParts parts.old fetched.old.items }
     ensures within { result.count ≤ length steps.now }
+    ensures some { result.fetches ≡ true → 0 < result.count }
+    ensures stops { result.count ≡ length steps.now → (result.wants_memory || result.is_refused) ≡ false }
+    ensures wants_memory { IfSome (slice_get steps.now result.count) (λ step. result.wants_memory
+        ≡ may_join (lists sent.new.items fetched.new.items) step) }
+    ensures refused { IfSome (slice_get steps.now result.count) (λ step. result.is_refused
+        ≡ (word.is_of_row step && not (may_join (lists sent.new.items fetched.new.items) step))) }
     ensures gathered { AreGathered (lists sent.old.items fetched.old.items) (take result.count steps.now)
         (lists sent.new.items fetched.new.items) }
     ensures reached { (w : World) → lists_of w ≡ lists sent.old.items fetched.old.items → is_idle w ≡ true
@@ -152,17 +212,52 @@ fn push_steps(sent: &mut Vec<SentJobs>, fetched: &mut Vec<Fetched>, steps: &[Ste
     ensures fixed { (result.fetches ≡ true) ⊎ (fetched.new.items ≡ fetched.old.items) }
 {
     let mut fetches = false;
-    let mut open_jobs = count_open(fetched.as_slice());
-    let mut parts = count_parts(fetched.as_slice());
+    let mut open_jobs = open_jobs;
     for i in 0..steps.len() {
-        if !push_step(sent, fetched, &mut open_jobs, &mut parts, &steps[i]) {
-            return Row { count: i, fetches };
+        if !push_step(sent, fetched, &mut open_jobs, parts, &steps[i]) {
+            let wants_memory = may_push(sent, fetched, open_jobs, parts, &steps[i]);
+            return Row {
+                count: i,
+                fetches,
+                wants_memory,
+                is_refused: is_denied(&steps[i], wants_memory),
+            };
         }
         fetches = is_or_fetches(fetches, &steps[i]);
     }
     Row {
         count: steps.len(),
         fetches,
+        wants_memory: false,
+        is_refused: false,
+    }
+}
+
+/// Whether a step is a submit or a fetch, and not one that may be taken.
+fn is_denied(step: &Step, may: bool) -> bool
+    ensures { result ≡ (word.is_of_row step.now && not may) }
+{
+    is_of_row(step) && !may
+}
+
+/// Whether a step makes the lists of an idle world longer where there is memory for it.
+fn may_push(
+    sent: &[SentJobs],
+    fetched: &[Fetched],
+    open_jobs: usize,
+    parts: &mut [Option<usize>],
+    step: &Step,
+) -> bool
+    requires open_jobs { open_jobs ≡ length (open_places fetched.now) }
+    requires parts { AreParts parts.old fetched.now }
+    ensures { result ≡ may_join (lists sent.now fetched.now) step.now }
+{
+    match *step {
+        Step::Submit { client, .. } => (client as usize) < sent.len(),
+        Step::Fetch { client } => {
+            next_counted(sent, fetched, parts, client).is_some() && open_jobs < MAX_OPEN
+        }
+        Step::Take { .. } | Step::Finish { .. } | Step::Commit => false,
     }
 }
 
@@ -172,13 +267,13 @@ fn push_step(
     sent: &mut Vec<SentJobs>,
     fetched: &mut Vec<Fetched>,
     open_jobs: &mut usize,
-    parts: &mut [usize],
+    parts: &mut [Option<usize>],
     step: &Step,
 ) -> bool
     requires open_jobs { open_jobs.old ≡ length (open_places fetched.old.items) }
     requires parts { AreParts parts.old fetched.old.items }
-    ensures open_jobs { result ≡ true → open_jobs.new ≡ length (open_places fetched.new.items) }
-    ensures parts { result ≡ true → AreParts parts.new fetched.new.items }
+    ensures open_jobs { open_jobs.new ≡ length (open_places fetched.new.items) }
+    ensures parts { AreParts parts.new fetched.new.items }
     ensures taken { result ≡ true → may_join (lists sent.old.items fetched.old.items) step.now ≡ true }
     ensures more { result ≡ true → lists sent.new.items fetched.new.items
         ≡ grown (lists sent.old.items fetched.old.items) step.now }
@@ -217,7 +312,7 @@ fn push_fetched(
     sent: &[SentJobs],
     fetched: &mut Vec<Fetched>,
     open_jobs: &mut usize,
-    parts: &mut [usize],
+    parts: &mut [Option<usize>],
     client: u32,
 ) -> bool
     requires open_jobs { open_jobs.old ≡ length (open_places fetched.old.items) }
@@ -226,8 +321,8 @@ fn push_fetched(
     ensures more { result ≡ true → fetched.new.items ≡ more_fetched sent.now fetched.old.items client }
     ensures same { result ≡ false → fetched.new.items ≡ fetched.old.items }
     ensures few { result ≡ true → length (open_places fetched.new.items) ≤ 1024 }
-    ensures open_jobs { result ≡ true → open_jobs.new ≡ length (open_places fetched.new.items) }
-    ensures parts { result ≡ true → AreParts parts.new fetched.new.items }
+    ensures open_jobs { open_jobs.new ≡ length (open_places fetched.new.items) }
+    ensures parts { AreParts parts.new fetched.new.items }
 {
     let next = next_counted(sent, fetched.as_slice(), parts, client);
     let Some(job) = next else {

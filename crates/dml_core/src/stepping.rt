@@ -1,11 +1,14 @@
 //! The steps of a world.
-ghost use Rattle.std.specs.Prelude.{◌≡◌, ◌≤◌, ◌<◌, All, IfOk, OnErr, OnOk, false, if◌then◌else◌, is_none, length, slice_get, slice_index_or, true, []};
+ghost use Rattle.std.specs.Prelude.{◌≡◌, ◌≤◌, ◌<◌, All, IfOk, IfSome, OnErr, OnOk, OnSome, Some, false, if◌then◌else◌, is_none, is_some, length, slice_get, slice_index_or, true, []};
 ghost use Rattle.std.specs.List.{list_all};
+ghost use Rattle.std.specs.Option.{option_map};
 ghost use Rattle.dml_types.specs.Limits.{IsValid};
 ghost use Rattle.dml_core.specs.Plan as word;
 ghost use Rattle.dml_core.specs.Plan.{jobs_of, open_places, plan_of};
 ghost use Rattle.dml_core.specs.Replay.{may_grow};
 ghost use Rattle.dml_core.specs.Types.{Commit, Fetch, Finish, Submit, Take};
+ghost use Rattle.dml_core.specs.Gather.{is_idle};
+ghost use Rattle.dml_core.specs.World as state;
 ghost use Rattle.dml_core.specs.World.{after, is_allowed, part_of};
 
 use crate::carrying::carry_out_wave;
@@ -25,6 +28,14 @@ pub(crate) const MAX_OPEN: usize = 1024;
 pub(crate) enum Refusal {
     NotAllowed,
     NoMemory,
+}
+
+/// A client's next job, how many of its jobs were fetched, and how many fetched jobs are open.
+#[derive(Clone, Copy)]
+pub(crate) struct Next {
+    pub(crate) job: Job,
+    pub(crate) part: usize,
+    pub(crate) open_jobs: usize,
 }
 
 impl World {
@@ -83,10 +94,34 @@ impl World {
     fn may_fetch(&self, client: u32) -> bool
         ensures { result ≡ is_allowed self.now (Fetch client) }
     {
-        next_job(self.sent.as_slice(), self.fetched.as_slice(), client).is_some()
-            && all_free(self.hands.as_slice())
-            && self.finished.is_empty()
-            && count_open(self.fetched.as_slice()) < MAX_OPEN
+        self.next_fetch(client).is_some()
+    }
+
+    /// A client's next job, where it may be fetched, and what was counted to judge that.
+    pub(crate) fn next_fetch(&self, client: u32) -> Option<Next>
+        ensures allowed { is_some result ≡ is_allowed self.now (Fetch client) }
+        ensures job { IfSome result (λ next. state.next_job self.now client ≡ Some next.job) }
+        ensures part { IfSome result (λ next. next.part ≡ length (part_of client self.now.fetched)) }
+        ensures open_jobs { IfSome result (λ next. next.open_jobs ≡ length (open_places self.now.fetched)) }
+        ensures idle { OnSome result (is_idle self.now ≡ true) }
+        ensures few { OnSome result (length (open_places self.now.fetched) < 1024) }
+    {
+        let next = next_job(self.sent.as_slice(), self.fetched.as_slice(), client);
+        let Some((job, part)) = next else {
+            return None;
+        };
+        if !all_free(self.hands.as_slice()) || !self.finished.is_empty() {
+            return None;
+        }
+        let open_jobs = count_open(self.fetched.as_slice());
+        if open_jobs >= MAX_OPEN {
+            return None;
+        }
+        Some(Next {
+            job,
+            part,
+            open_jobs,
+        })
     }
 
     /// A client sends a job.
@@ -108,7 +143,6 @@ impl World {
     }
 
     /// A client's next job is fetched, and the jobs that are not committed are planned anew.
-    #[tactic(auto, using(crate::proofs::StepFacts::few_open, std::proofs::lemmas::List::take_at))]
     fn fetch(&mut self, alloc: Global, client: u32) -> Result<(), Refusal>
         ensures allowed { OnOk result (is_allowed self.old (Fetch client) ≡ true) }
         ensures ok { OnOk result (self.new ≡ after self.old (Fetch client)) }
@@ -116,15 +150,24 @@ impl World {
         ensures not_allowed { result ≡ Err Refusal.NotAllowed → is_allowed self.old (Fetch client) ≡ false }
         ensures no_memory { result ≡ Err Refusal.NoMemory → is_allowed self.old (Fetch client) ≡ true }
     {
-        let next = next_job(self.sent.as_slice(), self.fetched.as_slice(), client);
-        let Some(job) = next else {
+        let Some(next) = self.next_fetch(client) else {
             return Err(Refusal::NotAllowed);
         };
-        let open = count_open(self.fetched.as_slice());
-        let free = all_free(self.hands.as_slice());
-        if !free || !self.finished.is_empty() || open >= MAX_OPEN {
-            return Err(Refusal::NotAllowed);
+        match self.fetch_job(alloc, client, next.job) {
+            Ok(()) => Ok(()),
+            Err(_) => Err(Refusal::NoMemory),
         }
+    }
+
+    /// A client's next job, which may be fetched, is fetched, and the jobs that are not committed are planned anew.
+    #[tactic(auto, using(crate::proofs::StepFacts::few_open, std::proofs::lemmas::List::take_at))]
+    fn fetch_job(&mut self, alloc: Global, client: u32, job: Job) -> Result<(), NoMemory>
+        requires next { state.next_job self.old client ≡ Some job }
+        requires idle { is_idle self.old ≡ true }
+        requires few { length (open_places self.old.fetched) < 1024 }
+        ensures ok { OnOk result (self.new ≡ after self.old (Fetch client)) }
+        ensures err { OnErr result (self.new ≡ self.old) }
+    {
         let count = self.fetched.len();
         let entry = Fetched {
             client,
@@ -132,7 +175,7 @@ impl World {
             answer: None,
         };
         if self.fetched.push(entry).is_err() {
-            return Err(Refusal::NoMemory);
+            return Err(NoMemory);
         }
         match set_out(alloc, self.fetched.as_slice(), &self.settings) {
             Ok(Outset { waves, tasks }) => {
@@ -142,9 +185,9 @@ impl World {
                 self.taken = 0;
                 Ok(())
             }
-            Err(_) => {
+            Err(error) => {
                 self.fetched.truncate(count);
-                Err(Refusal::NoMemory)
+                Err(error)
             }
         }
     }
@@ -277,19 +320,25 @@ fn wave_tasks(
     }
 }
 
-/// A client's next job to be fetched.
-pub(crate) fn next_job(sent: &[SentJobs], fetched: &[Fetched], client: u32) -> Option<Job>
-    ensures { result ≡ slice_get (slice_index_or sent.now client []) (length (part_of client fetched.now)) }
+/// A client's next job to be fetched, and how many of its jobs were.
+fn next_job(sent: &[SentJobs], fetched: &[Fetched], client: u32) -> Option<(Job, usize)>
+    ensures job { option_map (λ next. next.0) result
+        ≡ slice_get (slice_index_or sent.now client []) (length (part_of client fetched.now)) }
+    ensures part { IfSome result (λ next. next.1 ≡ length (part_of client fetched.now)) }
 {
-    match sent.get(client as usize) {
-        Some(list) => list.as_slice().get(count_part(fetched, client)).copied(),
+    let Some(list) = sent.get(client as usize) else {
+        return None;
+    };
+    let part = count_part(fetched, client);
+    match list.as_slice().get(part).copied() {
+        Some(job) => Some((job, part)),
         None => None,
     }
 }
 
 /// How many jobs of a client were fetched.
 #[tactic(auto, using(crate::proofs::StepFacts::part_counted, crate::proofs::StepFacts::part_all))]
-fn count_part(fetched: &[Fetched], client: u32) -> usize
+pub(crate) fn count_part(fetched: &[Fetched], client: u32) -> usize
     ensures { result ≡ length (part_of client fetched.now) }
 {
     let mut count = 0;
@@ -301,7 +350,7 @@ fn count_part(fetched: &[Fetched], client: u32) -> usize
 
 /// How many jobs are not committed.
 #[tactic(auto, using(crate::proofs::StepFacts::open_counted))]
-pub(crate) fn count_open(fetched: &[Fetched]) -> usize
+fn count_open(fetched: &[Fetched]) -> usize
     ensures { result ≡ length (open_places fetched.now) }
 {
     let mut count = 0;
@@ -319,7 +368,7 @@ pub(crate) fn one_if(holds: bool) -> usize
 }
 
 /// Whether each hand is empty.
-pub(crate) fn all_free(hands: &[Option<Task>]) -> bool
+fn all_free(hands: &[Option<Task>]) -> bool
     ensures { result ≡ list_all is_none hands.now }
 {
     hands.iter().all(|hand| hand.is_none())

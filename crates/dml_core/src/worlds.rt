@@ -199,6 +199,9 @@ impl World {
         while place < steps.len() {
             let turn = world.gather(alloc, &steps[place..]);
             let from = place + turn.taken;
+            if turn.is_refused {
+                return Err((world, StepFault::NotAllowed(from)));
+            }
             place = from + turn.alone;
             for i in from..place {
                 let is_tried = turn.is_tried && i + 1 == place;

@@ -527,6 +527,16 @@ fn set_up_of_row(rt: HostRuntime) -> Result<(), Fail> {
     Ok(())
 }
 
+/// Replays the steps of a row, and answers at which it ends for want of memory: the world is the one before that step
+/// then, and the call that is made again from there on goes to the end.
+fn end_of_row(rt: &impl Abort, alloc: Global, world: World, steps: &[Step]) -> Option<usize> {
+    let (world, done) = replayed(alloc, world, steps)?;
+    expect_row(rt, &world, steps.get(..done)?);
+    let world = world.replay(alloc, steps.get(done..)?).ok()?;
+    expect_row(rt, &world, steps);
+    Some(done)
+}
+
 /// A row of submits and fetches has one plan, behind its last fetch, which is step 7. Where that is refused, the world
 /// is the one before this fetch; a list that cannot grow at an earlier step, which are 0, 1, 5 and 6, leaves the one
 /// before that step. The call that is made again from there on goes to the end. Each refusal ends the call, and that is
@@ -534,18 +544,109 @@ fn set_up_of_row(rt: HostRuntime) -> Result<(), Fail> {
 #[test]
 fn refused_row(rt: HostRuntime) -> Result<(), Fail> {
     let (world, steps) = row(rt.alloc()).ok_or("no memory")?;
-    let (world, done) = replayed(rt.alloc(), world, steps.as_slice()).ok_or("not allowed")?;
-    let Some(rest) = steps.as_slice().get(done..) else {
-        return Err("a step behind the last".into());
-    };
-    if !rest.is_empty() {
-        println!(rt; "ended at {done}").expect(&rt, "output");
-        assert!(rt; matches!(done, 0 | 1 | 5 | 6 | 7));
+    let end = end_of_row(&rt, rt.alloc(), world, steps.as_slice()).ok_or("refused")?;
+    if end < steps.len() {
+        println!(rt; "ended at {end}").expect(&rt, "output");
+        assert!(rt; matches!(end, 0 | 1 | 5 | 6 | 7));
     }
-    expect_row(&rt, &world, &steps.as_slice()[..done]);
-    let Ok(world) = world.replay(rt.alloc(), rest) else {
-        return Err("refused again".into());
+    Ok(())
+}
+
+/// A world in which the first of three clients sent four no-ops, and steps of which the first and the last two before a
+/// commit fetch them, with so many submits of another client between.
+fn long_row(alloc: Global, submits: u32) -> Option<(World, Vec<Step>)> {
+    let fetch = Step::Fetch { client: 0 };
+    let mut steps = Vec::new(alloc);
+    steps.push(fetch).ok()?;
+    for _ in 0..submits {
+        steps.push(idle(1)).ok()?;
+    }
+    steps.extend_from_slice(&[fetch, fetch, Step::Commit]).ok()?;
+    let world = world(alloc, 3)?.replay(alloc, &[idle(0); 4]).ok()?;
+    Some((world, steps))
+}
+
+/// What `refused_longest_row` does before its call.
+#[test]
+fn set_up_of_longest_row(rt: HostRuntime) -> Result<(), Fail> {
+    let (world, steps) = long_row(rt.alloc(), 2045).ok_or("no memory")?;
+    expect_row(&rt, &world, &steps.as_slice()[..0]);
+    Ok(())
+}
+
+/// A row has at most 2,048 steps. This one has as many, so there is one plan, behind its last fetch, which is step
+/// 2,047, and none behind the fetch before that.
+#[test]
+fn refused_longest_row(rt: HostRuntime) -> Result<(), Fail> {
+    let (world, steps) = long_row(rt.alloc(), 2045).ok_or("no memory")?;
+    let end = end_of_row(&rt, rt.alloc(), world, steps.as_slice()).ok_or("refused")?;
+    if end < steps.len() {
+        println!(rt; "ended at {end}").expect(&rt, "output");
+        assert!(rt; end <= 1025 || end == 2047);
+    }
+    Ok(())
+}
+
+/// What `refused_longer_row` does before its call.
+#[test]
+fn set_up_of_longer_row(rt: HostRuntime) -> Result<(), Fail> {
+    let (world, steps) = long_row(rt.alloc(), 2046).ok_or("no memory")?;
+    expect_row(&rt, &world, &steps.as_slice()[..0]);
+    Ok(())
+}
+
+/// One step more than a row may have: the last fetch, step 2,048, has a plan of its own behind that of the row, whose
+/// last fetch is step 2,047.
+#[test]
+fn refused_longer_row(rt: HostRuntime) -> Result<(), Fail> {
+    let (world, steps) = long_row(rt.alloc(), 2046).ok_or("no memory")?;
+    let end = end_of_row(&rt, rt.alloc(), world, steps.as_slice()).ok_or("refused")?;
+    if end < steps.len() {
+        println!(rt; "ended at {end}").expect(&rt, "output");
+        assert!(rt; end <= 1025 || end == 2047 || end == 2048);
+    }
+    Ok(())
+}
+
+/// A world in which the first of three clients sent four no-ops, and a row of which two are fetched, and a job of the
+/// second client is sent, before a fetch from the third, which sent nothing.
+fn cut_row(alloc: Global) -> Option<(World, [Step; 4])> {
+    let fetch = Step::Fetch { client: 0 };
+    let world = world(alloc, 3)?.replay(alloc, &[idle(0); 4]).ok()?;
+    Some((world, [fetch, fetch, idle(1), Step::Fetch { client: 2 }]))
+}
+
+/// What `refused_cut_row` does before its call.
+#[test]
+fn set_up_of_cut_row(rt: HostRuntime) -> Result<(), Fail> {
+    let (world, steps) = cut_row(rt.alloc()).ok_or("no memory")?;
+    expect_row(&rt, &world, &steps[..0]);
+    Ok(())
+}
+
+/// A row is taken up to a step that is not allowed. Its last fetch is step 1 then, which is named where the plan is
+/// refused, and not the submit behind it.
+#[test]
+fn refused_cut_row(rt: HostRuntime) -> Result<(), Fail> {
+    let (world, steps) = cut_row(rt.alloc()).ok_or("no memory")?;
+    let Err((world, fault)) = world.replay(rt.alloc(), &steps) else {
+        return Err("the step was taken".into());
     };
-    expect_row(&rt, &world, steps.as_slice());
+    let end = match fault {
+        StepFault::NotAllowed(at) => {
+            assert_eq!(rt; at, 3);
+            at
+        }
+        StepFault::NoMemory(at) => {
+            println!(rt; "ended at {at}").expect(&rt, "output");
+            assert!(rt; at <= 2);
+            at
+        }
+    };
+    expect_row(
+        &rt,
+        &world,
+        steps.get(..end).ok_or("a step behind the last")?,
+    );
     Ok(())
 }

@@ -1,9 +1,10 @@
-use Rattle.std.proofs.Common.{◌≡◌, ◌⊎◌, ◌∙◌, ◌+◌, ◌<◌, Bool, true, false, length, take, rules, sym, subst, arith}
+use Rattle.std.proofs.Common.{◌≡◌, ◌⊎◌, ◌∙◌, ◌+◌, ◌<◌, Bool, true, false, not, List, length, get_or, take, rules, sym, ap, subst, arith}
 use Rattle.dml_types.specs.Job.{no_op_job}
-use Rattle.dml_core.specs.Types.{Submit}
+use Rattle.std.specs.Prelude.{◌&&◌}
+use Rattle.dml_core.specs.Types.{Job, Fetched, Step, Submit}
 use Rattle.dml_core.specs.World.{Reaches}
-use Rattle.dml_core.specs.Gather.{Lists, gathered, lists}
-use Rattle.dml_core.proofs.GatherLemmas.{few_more, fixed_more, gather_more, gather_reaches}
+use Rattle.dml_core.specs.Gather.{Lists, gathered, is_of_row, lists, may_join}
+use Rattle.dml_core.proofs.GatherLemmas.{at_step, few_more, fixed_more, gather_more, gather_reaches}
 use Rattle.dml_core.proofs.gathering.push_steps.Goals as goal
 
 pub returns-then-not-push_step-clause-reached : goal.returns-then-not-push_step-clause-reached
@@ -13,6 +14,29 @@ returns-then-not-push_step-clause-reached c =
     λ w is idle.
     subst (λ (l : Lists). Reaches w (take c.loop-i.i c.args.steps.now) (gathered w l c.loop-i.fetches)) (sym same)
     (c.loop-i.invariant.reach w is idle)
+
+pub returns-then-not-push_step-clause-wants_memory : goal.returns-then-not-push_step-clause-wants_memory
+returns-then-not-push_step-clause-wants_memory c =
+    let steps = c.args.steps.now in
+    let new = c.push_step.new in
+    let may = c.may_push-wants_memory.result in
+    let below : c.loop-i.i < length steps = omega arith in
+    at_step (λ (s : Step). may ≡ may_join (lists new.sent.items new.fetched.items) s) steps c.loop-i.i (Submit 0 no_op_job) below
+    (subst (λ (l : List (List Job)). may ≡ may_join (lists l new.fetched.items) (get_or steps c.loop-i.i (Submit 0 no_op_job))) c.deref.ensures.value
+    (subst (λ (l : List Fetched). may ≡ may_join (lists c.deref.result.now l) (get_or steps c.loop-i.i (Submit 0 no_op_job))) c.deref-then-not-push_step.ensures.value c.may_push-wants_memory.ensures))
+
+pub returns-then-not-push_step-clause-refused : goal.returns-then-not-push_step-clause-refused
+returns-then-not-push_step-clause-refused c =
+    let steps = c.args.steps.now in
+    let new = c.push_step.new in
+    let may = c.may_push-wants_memory.result in
+    let below : c.loop-i.i < length steps = omega arith in
+    let step = get_or steps c.loop-i.i (Submit 0 no_op_job) in
+    let joins : may ≡ may_join (lists new.sent.items new.fetched.items) step =
+    subst (λ (l : List (List Job)). may ≡ may_join (lists l new.fetched.items) step) c.deref.ensures.value
+    (subst (λ (l : List Fetched). may ≡ may_join (lists c.deref.result.now l) step) c.deref-then-not-push_step.ensures.value c.may_push-wants_memory.ensures) in
+    at_step (λ (s : Step). c.is_denied.result ≡ (is_of_row s && not (may_join (lists new.sent.items new.fetched.items) s))) steps c.loop-i.i (Submit 0 no_op_job) below
+    (c.is_denied.ensures ∙ ap (λ (b : Bool). is_of_row step && not b) joins)
 
 pub loop-i-preserved : goal.loop-i-preserved
 loop-i-preserved c =
@@ -31,9 +55,10 @@ loop-i-preserved c =
       reach = λ w is idle.
           subst (λ (b : Bool). Reaches w (take (i + 1) steps) (gathered w new b)) (sym now)
           (gather_reaches w old new steps i (Submit 0 no_op_job) c.loop-i.fetches below idle (c.loop-i.invariant.reach w is idle) may more);
-      counted = c.push_step.ensures.open_jobs joined;
-      parts = c.push_step.ensures.parts joined;
+      counted = c.push_step.ensures.open_jobs;
+      parts = c.push_step.ensures.parts;
       few = λ set. few_more c.loop-i.fetches _ old.fetched new.fetched c.loop-i.invariant.few (c.push_step.ensures.few joined) c.push_step.ensures.fixed (sym now ∙ set);
+      begun = λ set. omega arith;
       fixed =
           let P : Bool → Type 0 = λ b. (b ≡ true) ⊎ (new.fetched ≡ first.fetched) in
           subst P (sym now) (fixed_more c.loop-i.fetches _ first.fetched old.fetched new.fetched c.loop-i.invariant.fixed c.push_step.ensures.fixed);

@@ -1,4 +1,4 @@
-use Rattle.std.proofs.Common.{◌≡◌, ◌≤◌, ◌⊎◌, true, length, take}
+use Rattle.std.proofs.Common.{◌≡◌, ◌<◌, ◌≤◌, ◌⊎◌, true, length, take}
 use Rattle.dml_core.specs.Plan.{open_places}
 use Rattle.dml_core.specs.World.{World, Reaches}
 use Rattle.dml_core.specs.Gather.{AreGathered, AreParts, gathered, is_idle, lists, lists_of}
@@ -13,5 +13,6 @@ invariant-loop-i l = record {
   counted : l.open_jobs ≡ length (open_places l.fetched.items);
   parts : AreParts l.parts l.fetched.items;
   few : l.fetches ≡ true → length (open_places l.fetched.items) ≤ 1024;
+  begun : l.fetches ≡ true → 0 < l.i;
   fixed : (l.fetches ≡ true) ⊎ (l.fetched.items ≡ l.initial.fetched.items);
 }

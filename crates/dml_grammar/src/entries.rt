@@ -207,7 +207,7 @@ fn read_any_part<'a>(part: &Part, line: &'a [u8]) -> Option<(Option<u64>, bool, 
     Some((number, is_fault, rest))
 }
 
-/// The same, where most words are read and cut off in one pass: a decimal number, or no suffix at the end of a line.
+/// The same, where most words are read and cut off in one pass: a short number, or no suffix at the end of a line.
 #[inline(always)]
 fn read_part<'a>(part: &Part, line: &'a [u8]) -> Option<(Option<u64>, bool, &'a [u8])>
     requires { is_number (grammar.slot_of part.now) ≡ true }

@@ -1,7 +1,7 @@
 -- Submits and fetches in a row.
 use Rattle.std.proofs.Common.{◌≡◌, ◌⊎◌, ℕ, ◌+◌, ◌-◌, ◌<◌, ◌≤◌, Bool, true, false, not, drop, Option, None, Some, inl, inr, ⊎_elim, List, [], ◌∷◌, ◌++◌, length, get_or, set, take, refl, sym, ◌∙◌, ap, subst, arith}
 use Rattle.std.proofs.lemmas.Bool.{and_from, and_parts, cases_lt, false≢true, ltb-true, or_left, or_right}
-use Rattle.std.proofs.lemmas.List.{get_or-drop, get_or-set_same, get_or-take, length-drop, length-take, length_push, set-set, set-get_or, take_more, take_rest}
+use Rattle.std.proofs.lemmas.List.{get_or-drop, get_or-set_same, get_or-take, length-drop, length-take, length-take-le, length_push, set-set, set-get_or, take_more, take_rest}
 use Rattle.std.proofs.lemmas.Option.{slice_get-get_or}
 use Rattle.std.proofs.Math.Seq.{take-add, take-append_seam}
 use Rattle.std.specs.Prelude.{◌&&◌, ◌||◌, IfSome, is_some, nat_lt, slice_get}
@@ -161,18 +161,19 @@ none_before steps end d some within is behind =
           (cases_lt i end);
     }
 
--- a fetch among the first steps is one among all, and the other way round
+-- a step among the first steps is the same one among all
 same_step : (steps : List Step) (n i : ℕ) (d : Step) → i < n → n ≤ length steps → slice_get (take n steps) i ≡ slice_get steps i
 same_step steps n i d low within =
     let size = length-take n steps in
     slice_get-get_or (take n steps) i d (omega (arith, size, low, within))
     ∙ (ap Some (get_or-take n steps i d low) ∙ sym (slice_get-get_or steps i d (omega (arith, low, within))))
 
-pub fetches_in : (steps : List Step) (n i : ℕ) (d : Step) → i < n → n ≤ length steps → FetchesAt (take n steps) i → FetchesAt steps i
-fetches_in steps n i d low within = subst (λ (s : Option Step). IfSome s (λ (x : Step). is_fetch x ≡ true)) (same_step steps n i d low within)
-
-pub fetches_out : (steps : List Step) (n i : ℕ) (d : Step) → i < n → n ≤ length steps → FetchesAt steps i → FetchesAt (take n steps) i
-fetches_out steps n i d low within = subst (λ (s : Option Step). IfSome s (λ (x : Step). is_fetch x ≡ true)) (sym (same_step steps n i d low within))
+-- a step behind some of the first steps is one behind some of all
+pub refused_in : (w : World) (steps : List Step) (n taken : ℕ) (d : Step) → n ≤ length steps → IsRefused w (take n steps) taken → IsRefused w steps taken
+refused_in w steps n taken d within stopped =
+    let size = length-take-le n steps within in
+    let low : taken < n = omega (arith, size, stopped.0) in
+    (omega (arith, low, within), subst (λ (s : Option Step). IfSome s (λ (x : Step). is_allowed w x ≡ false)) (same_step steps n taken d low within) stopped.1)
 
 -- the steps of a turn, behind those that were taken before
 pub turn_reaches : (w v next : World) (steps : List Step) (place taken : ℕ) → Reaches w (take place steps) v → Reaches v (take taken (take (length steps - place) (drop place steps))) next → Reaches w (take (place + taken) steps) next

@@ -36,6 +36,13 @@ FetchesAt steps i = IfSome (slice_get steps i) (λ s. is_fetch s ≡ true)
 pub record NoneFetches (steps : List Step) (from : ℕ) : Type 0 where
   pub each : (i : ℕ) → from ≤ i → i < length steps → IfSome (slice_get steps i) (λ s. is_fetch s ≡ false)
 
+-- so many of some steps are those up to their last fetch
+pub record EndsWithLastFetch (steps : List Step) (count : ℕ) : Type 0 where
+  pub onward : 0 < count
+  pub within : count ≤ length steps
+  pub last : FetchesAt steps (count - 1)
+  pub behind : NoneFetches steps count
+
 abbrev pub is_of_row : Step → Bool
 is_of_row (Submit client job) = true
 is_of_row (Fetch client) = true

@@ -1,13 +1,16 @@
 //! Submits and fetches in a row, with one plan behind the last of them.
-ghost use Rattle.std.specs.Prelude.{◌≡◌, ◌⊎◌, ◌||◌, ◌&&◌, ◌+◌, ◌-◌, ◌≤◌, ◌<◌, IfSome, false, length, nat_lt, not, slice_get, slice_index_or, slice_set, take, true, []};
+ghost use Rattle.std.specs.Prelude.{◌≡◌, ◌⊎◌, ◌||◌, ◌&&◌, ◌+◌, ◌-◌, ◌≤◌, ◌<◌, IfErr, IfOk, IfSome, Some, false, length, nat_lt, not, slice_get, slice_index_or, slice_set, take, true, []};
 ghost use Rattle.dml_core.specs.Plan.{open_places};
 ghost use Rattle.dml_core.specs.World.{Reaches, World, part_of};
-ghost use Rattle.dml_core.specs.Gather.{AreGathered, AreParts, FetchesAt, IsRefused, Lists, NoneFetches, gathered, grown, is_idle, lists, lists_of, may_fetch, may_join, more_fetched, more_sent, shorter, ungrown};
+ghost use Rattle.dml_core.specs.Replay.{StopsAt};
+ghost use Rattle.dml_core.specs.Types.{Fetch};
+ghost use Rattle.dml_core.specs.Gather.{AreGathered, AreParts, EndsWithLastFetch, FetchesAt, IsRefused, Lists, NoneFetches, gathered, grown, is_idle, lists, lists_of, may_fetch, may_join, more_fetched, more_sent, shorter, ungrown};
 ghost use Rattle.dml_core.specs.Gather as word;
 
 use crate::counts::{count_one, first_count, next_counted};
+use crate::errors::StepFault;
 use crate::lists::SentJobs;
-use crate::stepping::{MAX_OPEN, Next, Outset, one_if, set_out};
+use crate::stepping::{MAX_OPEN, Next, Outset, Refusal, one_if, set_out};
 use crate::values::{Fetched, Step};
 use crate::worlds::World;
 use dml_types::Job;
@@ -17,14 +20,15 @@ use std::alloc::Global;
 /// taken back, and taken again one at a time.
 const MOST_STEPS: usize = 2 * MAX_OPEN;
 
-/// How many steps were taken, and how many behind them are to be taken one at a time. The last of these may have been
-/// tried already: where it is allowed, there was no memory for it. Or the step behind those taken is not allowed.
+/// How many steps were taken, and how many behind them are to be taken one at a time. Where more were tried than were
+/// taken, the last of those to be taken one at a time was tried in vain: if it is allowed, there was no memory for it.
+/// Or the step behind those taken is not allowed.
 #[derive(Clone, Copy)]
-pub(crate) struct Turn {
-    pub(crate) taken: usize,
-    pub(crate) alone: usize,
-    pub(crate) is_tried: bool,
-    pub(crate) is_refused: bool,
+struct Turn {
+    taken: usize,
+    alone: usize,
+    tried: usize,
+    is_refused: bool,
 }
 
 /// How many steps made the lists longer, and whether a fetch is among them. Where they are not all, there was no memory
@@ -38,18 +42,54 @@ struct Row {
 }
 
 impl World {
+    /// Takes a fetch and what is to be taken with it: the submits and fetches behind it, as far as they can be, with one
+    /// plan, or one at a time. Answers the place behind them.
+    ///
+    /// # Errors
+    /// The place of the first step that is not allowed, or for which the allocator has no memory left. The world is
+    /// left as it was before that step.
+    pub(crate) fn take_row(
+        &mut self,
+        alloc: Global,
+        client: u32,
+        steps: &[Step],
+        place: usize,
+    ) -> Result<usize, StepFault>
+        requires within { place < length steps.now }
+        requires fetch { slice_get steps.now place ≡ Some (Fetch client) }
+        ensures within { IfOk result (λ end. end ≤ length steps.now) }
+        ensures onward { IfOk result (λ end. place < end) }
+        ensures ok { (first : World) → Reaches first (take place steps.now) self.old
+            → IfOk result (λ end. Reaches first (take end steps.now) self.new) }
+        ensures err { (first : World) → Reaches first (take place steps.now) self.old
+            → IfErr result (λ fault. StopsAt first steps.now self.new fault) }
+    {
+        let turn = self.gather(alloc, client, &steps[place..]);
+        let from = place + turn.taken;
+        if turn.is_refused {
+            return Err(StepFault::NotAllowed(from));
+        }
+        let end = from + turn.alone;
+        for i in from..end {
+            let is_tried = turn.taken < turn.tried && i + 1 == end;
+            match self.take_alone(alloc, &steps[i], is_tried) {
+                Ok(()) => {}
+                Err(Refusal::NotAllowed) => return Err(StepFault::NotAllowed(i)),
+                Err(Refusal::NoMemory) => return Err(StepFault::NoMemory(i)),
+            }
+        }
+        Ok(end)
+    }
+
     /// Takes the submits and fetches at the front of some steps that begin with a fetch, as far as they can be taken:
-    /// none where the first is not allowed. Any other first step is to be taken alone.
-    pub(crate) fn gather(&mut self, alloc: Global, steps: &[Step]) -> Turn
-        requires { 0 < length steps.now }
+    /// none where the first is not allowed.
+    fn gather(&mut self, alloc: Global, client: u32, steps: &[Step]) -> Turn
+        requires { slice_get steps.now 0 ≡ Some (Fetch client) }
         ensures within { result.taken + result.alone ≤ length steps.now }
         ensures onward { result.is_refused ≡ false → 0 < result.taken + result.alone }
         ensures reached { Reaches self.old (take result.taken steps.now) self.new }
         ensures refused { result.is_refused ≡ true → IsRefused self.new steps.now result.taken }
     {
-        let Step::Fetch { client } = steps[0] else {
-            return Turn::alone(1, false);
-        };
         let Some(next) = self.next_fetch(client) else {
             return Turn::refused();
         };
@@ -59,8 +99,7 @@ impl World {
 
     /// Takes submits and fetches, as far as they can be taken. Of the client of the first it is known what is next. Only
     /// the plan behind the last fetch is made, since each fetch plans all open jobs anew. Where the allocator has no
-    /// memory left for it, the steps are taken back: there is none for the last fetch, and those before it are to be
-    /// taken one at a time.
+    /// memory left for it, the steps are taken back.
     fn gather_row(&mut self, alloc: Global, client: u32, next: &Next, steps: &[Step]) -> Turn
         requires some { 0 < length steps.now }
         requires fetch { FetchesAt steps.now 0 }
@@ -71,7 +110,8 @@ impl World {
         ensures onward { result.is_refused ≡ false → 0 < result.taken + result.alone }
         ensures reached { Reaches self.old (take result.taken steps.now) self.new }
         ensures refused { result.is_refused ≡ true → IsRefused self.new steps.now result.taken }
-        ensures tried { result.taken ≡ 0 → result.is_tried ≡ true → FetchesAt steps.now (result.alone - 1) }
+        ensures tried { result.taken ≡ 0 → 0 < result.tried
+            → EndsWithLastFetch (take result.tried steps.now) result.alone }
     {
         let mut parts = first_count(client, next.part);
         let row = push_steps(
@@ -85,7 +125,7 @@ impl World {
             return Turn {
                 taken: row.count,
                 alone: one_if(row.count == 0),
-                is_tried: row.wants_memory,
+                tried: row.count + one_if(row.wants_memory),
                 is_refused: false,
             };
         }
@@ -98,13 +138,13 @@ impl World {
                 Turn {
                     taken: row.count,
                     alone: one_if(row.wants_memory),
-                    is_tried: row.wants_memory,
+                    tried: row.count + one_if(row.wants_memory),
                     is_refused: row.is_refused,
                 }
             }
             Err(_) => {
                 take_back(&mut self.sent, &mut self.fetched, &steps[..row.count]);
-                Turn::alone(fetch_end(&steps[..row.count]), true)
+                Turn::without_plan(&steps[..row.count])
             }
         }
     }
@@ -115,28 +155,30 @@ impl Turn {
     fn refused() -> Turn
         ensures taken { result.taken ≡ 0 }
         ensures alone { result.alone ≡ 0 }
-        ensures is_tried { result.is_tried ≡ false }
         ensures is_refused { result.is_refused ≡ true }
     {
         Turn {
             taken: 0,
             alone: 0,
-            is_tried: false,
+            tried: 0,
             is_refused: true,
         }
     }
 
-    /// No step was taken, and so many are to be taken one at a time, of which the last may have been tried.
-    fn alone(count: usize, is_tried: bool) -> Turn
+    /// There was no memory for the plan of a row, whose steps are taken back: there is none for its last fetch, and
+    /// those before it are to be taken one at a time.
+    fn without_plan(row: &[Step]) -> Turn
+        requires some { 0 < length row.now }
+        requires fetch { FetchesAt row.now 0 }
         ensures taken { result.taken ≡ 0 }
-        ensures alone { result.alone ≡ count }
-        ensures is_tried { result.is_tried ≡ is_tried }
+        ensures alone { EndsWithLastFetch row.now result.alone }
+        ensures tried { result.tried ≡ length row.now }
         ensures is_refused { result.is_refused ≡ false }
     {
         Turn {
             taken: 0,
-            alone: count,
-            is_tried,
+            alone: fetch_end(row),
+            tried: row.len(),
             is_refused: false,
         }
     }

@@ -40,6 +40,8 @@ pub(crate) struct Next {
 
 impl World {
     /// Takes a step. Where it is refused, nothing is changed.
+    // A call would take half as long as the shortest step.
+    #[inline(always)]
     pub(crate) fn take_step(&mut self, alloc: Global, step: &Step) -> Result<(), Refusal>
         ensures allowed { OnOk result (is_allowed self.old step.now ≡ true) }
         ensures ok { OnOk result (self.new ≡ after self.old step.now) }

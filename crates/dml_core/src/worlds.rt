@@ -197,18 +197,16 @@ impl World {
         let mut world = self;
         let mut place = 0;
         while place < steps.len() {
-            let turn = world.gather(alloc, &steps[place..]);
-            let from = place + turn.taken;
-            if turn.is_refused {
-                return Err((world, StepFault::NotAllowed(from)));
-            }
-            place = from + turn.alone;
-            for i in from..place {
-                let is_tried = turn.is_tried && i + 1 == place;
-                match world.take_alone(alloc, &steps[i], is_tried) {
-                    Ok(()) => {}
-                    Err(Refusal::NotAllowed) => return Err((world, StepFault::NotAllowed(i))),
-                    Err(Refusal::NoMemory) => return Err((world, StepFault::NoMemory(i))),
+            if let Step::Fetch { client } = steps[place] {
+                match world.take_row(alloc, client, steps, place) {
+                    Ok(end) => place = end,
+                    Err(fault) => return Err((world, fault)),
+                }
+            } else {
+                match world.take_step(alloc, &steps[place]) {
+                    Ok(()) => place += 1,
+                    Err(Refusal::NotAllowed) => return Err((world, StepFault::NotAllowed(place))),
+                    Err(Refusal::NoMemory) => return Err((world, StepFault::NoMemory(place))),
                 }
             }
         }

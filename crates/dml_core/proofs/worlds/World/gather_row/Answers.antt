@@ -1,12 +1,11 @@
-use Rattle.std.proofs.Common.{◌≡◌, ◌-◌, ◌<◌, ℕ, true, false, List, [], length, get_or, map, drop, take, refl, rules, sym, ap, subst, ◌∙◌, arith}
-use Rattle.std.proofs.lemmas.List.{length-take}
+use Rattle.std.proofs.Common.{◌≡◌, ℕ, true, false, List, [], length, get_or, map, drop, take, refl, rules, sym, ap, subst, ◌∙◌}
+use Rattle.std.proofs.lemmas.List.{length-take-le}
 use Rattle.std.specs.Prelude.{IfSome, slice_get}
-use Rattle.dml_types.specs.Job.{no_op_job}
-use Rattle.dml_core.specs.Types.{Step, Fetched, Submit}
+use Rattle.dml_core.specs.Types.{Step, Fetched}
 use Rattle.dml_core.specs.Plan.{jobs_of, plan_of, tasks_of}
 use Rattle.dml_core.specs.World.{World, Reaches, is_allowed, kept_task}
-use Rattle.dml_core.specs.Gather.{FetchesAt, gathered, is_idle, lists}
-use Rattle.dml_core.proofs.GatherLemmas.{fetches_in, fetches_out, gather_made, row_refused, stops_below}
+use Rattle.dml_core.specs.Gather.{EndsWithLastFetch, gathered, is_idle, lists}
+use Rattle.dml_core.proofs.GatherLemmas.{gather_made, row_refused, stops_below}
 use Rattle.dml_core.proofs.StepFacts.{none_finished, world}
 use Rattle.dml_core.proofs.worlds.World.gather_row.Goals as goal
 
@@ -67,12 +66,7 @@ pub returns-in-Err-clause-tried : goal.returns-in-Err-clause-tried
 returns-in-Err-clause-tried c =
     let steps = c.args.steps.now in
     let n = c.push_steps-row.result.count in
-    let fetches : c.push_steps-row.result.fetches ≡ true = search rules in
-    let some = c.push_steps-row.ensures.some fetches in
-    let within = c.push_steps-row.ensures.within in
-    let first = fetches_out steps n 0 (Submit 0 no_op_job) some within c.requires.fetch in
-    let size = length-take n steps in
-    let low : c.fetch_end.result - 1 < n = omega (arith, c.fetch_end.ensures.within, c.fetch_end.ensures.onward, size) in
-    let last : FetchesAt steps (c.fetch_end.result - 1) =
-    fetches_in steps n (c.fetch_end.result - 1) (Submit 0 no_op_job) low within (c.fetch_end.ensures.last first) in
-    λ taken tried. subst (λ (k : ℕ). FetchesAt steps (k - 1)) (sym c.alone.ensures.alone) last
+    let size : length (take n steps) ≡ n = length-take-le n steps c.push_steps-row.ensures.within in
+    let same : take n steps ≡ take c.without_plan.result.tried steps =
+    ap (λ (k : ℕ). take k steps) (sym (c.without_plan.ensures.tried ∙ size)) in
+    λ taken tried. subst (λ (list : List Step). EndsWithLastFetch list c.without_plan.result.alone) same c.without_plan.ensures.alone

@@ -7,6 +7,3 @@ invariant-loop-place l = (l.place ≤ length l.steps) × Reaches l.fn.self (take
 
 abbrev pub decreases-loop-place : goal.decreases-loop-place
 decreases-loop-place l = length l.steps - l.place
-
-abbrev pub invariant-loop-i : goal.invariant-loop-i
-invariant-loop-i l = Reaches l.fn.self (take l.i l.steps) l.world

@@ -66,6 +66,9 @@ dml_engine:refused_conflict_chain'
 # wanted memory.
 end_each='dml_core:refused_row dml_core:refused_longest_row dml_core:refused_longer_row dml_core:refused_cut_row'
 
+# The tests of such calls that make their inputs, and whose set-up says which steps want memory.
+say_ends='dml_core:refused_made_rows'
+
 # repeated N WORD: the word, so many times
 repeated() {
     printf "%$1s" '' | sed "s/ / $2/g"
@@ -173,6 +176,18 @@ wants_records() {
     printf 'refusals: %s: of the list of records alone the refusal is answered\n' "$1"
 }
 
+# says_ends KEY BINARY TEST: it ended at the steps that its set-up says and at no other, in that order: once where it
+# says `grows at N`, once or more where it says `plans at N`
+says_ends() {
+    "$2" "$(set_up_of "$3")" </dev/null >"$work/wanted"
+    awk '
+        NR == FNR { end[++ends] = $1; next }
+        /^(grows|plans) at / { steps++; if (end[++at] != $3) wrong = 1 }
+        /^plans at / { while (at < ends && end[at + 1] == $3) at++ }
+        END { exit wrong || !steps || at != ends }
+    ' "$work/ends" "$work/wanted" || complain "$1: ends at other steps than its set-up says"
+}
+
 # library NAME: each of its tests named refused_*; those of a crate NAME_tests are keyed as NAME's
 library() {
     grep -rq '#\[test\]' "crates/$1/src" || return 0
@@ -198,13 +213,14 @@ library() {
                 complain "$key: growth $number: status $status: $(cat "$work/out")"
             fi
             [ -f "$work/log" ] || break
-            ! is_in "$key" "$end_each" || grep -q '^ended ' "$work/out" ||
+            ! is_in "$key" "$end_each $say_ends" || grep -q '^ended ' "$work/out" ||
                 complain "$key: growth $number: the call does without it"
             sed -n 's/^ended at //p' "$work/out" >>"$work/ends"
             number=$((number + 1))
         done
         ! is_in "$key" "$end_each" || [ "$(echo $(cat "$work/ends"))" = "$(ends_of "$key")" ] ||
             complain "$key: ends at steps $(echo $(cat "$work/ends")), and not at $(ends_of "$key")"
+        ! is_in "$key" "$say_ends" || says_ends "$key" "$binary" "$test"
         counted "$key" "$((number - 1 - before))"
         ! is_in "$key" "$want_records" || wants_records "$key" "$binary" "$test" "$before"
     done
@@ -251,7 +267,7 @@ done
 for twice in $(cut -d ' ' -f 1 "$work/counts" | sort | uniq -d); do
     complain "two tests of one crate are named $twice"
 done
-for wanted in $take_none $make_nothing $want_records $end_each; do
+for wanted in $take_none $make_nothing $want_records $end_each $say_ends; do
     grep -q "^$wanted " "$work/counts" || complain "there is no test $wanted"
 done
 

@@ -1,5 +1,7 @@
 //! Worlds and what their steps leave. The expected records and bytes are those of the jobs' definitions.
 
+mod rows;
+
 use dml_core::{Fetched, Step, StepFault, World, WorldError};
 use dml_image::Image;
 use dml_types::{Job, Record, Settings, Status};

@@ -20,9 +20,10 @@ use std::alloc::Global;
 /// taken back, and taken again one at a time.
 const MOST_STEPS: usize = 2 * MAX_OPEN;
 
-/// How many steps were taken, and how many behind them are to be taken one at a time. Where more were tried than were
-/// taken, the last of those to be taken one at a time was tried in vain: if it is allowed, there was no memory for it.
-/// Or the step behind those taken is not allowed.
+/// How many steps were taken, and how many behind them are to be taken one at a time. Tried are the steps that were put
+/// into the lists, and one for which there was no memory. Where these are more than were taken, the last of those to be
+/// taken one at a time was tried in vain: if it is allowed, there was no memory for it. Or the step behind those taken
+/// is not allowed.
 #[derive(Clone, Copy)]
 struct Turn {
     taken: usize,
@@ -31,8 +32,8 @@ struct Turn {
     is_refused: bool,
 }
 
-/// How many steps made the lists longer, and whether a fetch is among them. Where they are not all, there was no memory
-/// for the step behind, or it is not allowed.
+/// How many steps made the lists longer, and whether a fetch is among them. Where they are not all, the step behind is
+/// neither a submit nor a fetch, there was no memory for it, or it is not allowed.
 #[derive(Clone, Copy)]
 struct Row {
     count: usize,
@@ -122,6 +123,7 @@ impl World {
             steps,
         );
         if !row.fetches {
+            // The first step fetches, so none was taken.
             return Turn {
                 taken: row.count,
                 alone: one_if(row.count == 0),

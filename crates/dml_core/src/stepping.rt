@@ -40,7 +40,7 @@ pub(crate) struct Next {
 
 impl World {
     /// Takes a step. Where it is refused, nothing is changed.
-    // A call would take half as long as the shortest step.
+    // It has two callers, and a call would take half as long as the shortest step.
     #[inline(always)]
     pub(crate) fn take_step(&mut self, alloc: Global, step: &Step) -> Result<(), Refusal>
         ensures allowed { OnOk result (is_allowed self.old step.now ≡ true) }

@@ -266,7 +266,8 @@ fn replayed(alloc: Global, world: World, steps: &[Step]) -> (World, usize, bool)
 }
 
 /// Each row ends at the first step that is not allowed, or at one that wants memory, where that is refused. Then the
-/// world is the one before this step, and the call that is made again from there on ends where the row does.
+/// lists are as long as they were before this step, and the call that is made again from there on ends where the row
+/// does.
 #[test]
 fn refused_made_rows(rt: HostRuntime) -> Result<(), Fail> {
     let rows = made_rows(rt.alloc()).ok_or("no memory")?;

@@ -12,8 +12,8 @@
  * Threads: all of the bytes of a call, its records and its handle count as written for its whole length, whatever the
  * job touches, and no other thread, process or device may touch any of them meanwhile. Descriptors, and whatever else
  * is const, may be shared as long as nobody writes them. A descriptor in memory that others can write is to be copied
- * first: a list reads its descriptors twice. A handle may not be used by two threads at a time; it may be handed to
- * another thread whole.
+ * first: a list reads its descriptors twice. A handle stays on its thread: all calls with it are made by the thread
+ * that called kazovuni_create.
  *
  * Descriptors, records and the bytes that jobs work on need no alignment; those bytes have to be writable, for a
  * compare too. The completion address of a descriptor is read past: its record goes where the call is told.
@@ -128,8 +128,9 @@ bool kazovuni_rest(const uint8_t descriptor[64], const uint8_t record[32], uint8
  * Carries out a job over the caller's bytes and writes its completion record. The descriptor's addresses are offsets:
  * the bytes begin at address 0, all of their pages are present, and no other page is. A refused job changes no byte.
  * `staging` is the most that a job may need (kazovuni_need): above it the job is refused with
- * KAZOVUNI_STATUS_STAGING_REFUSED. At most 16 MiB are passed, a window of what is larger. Neither the
- * descriptor nor the record may lie in the bytes. KAZOVUNI_NOT_PAGES, or KAZOVUNI_NO_MEMORY.
+ * KAZOVUNI_STATUS_STAGING_REFUSED. At most 16 MiB are passed, a window of what is larger, and all ranges of the job
+ * have to lie in it: docs/C.md says what is left to do where they do not. Neither the descriptor nor the record may lie
+ * in the bytes. KAZOVUNI_NOT_PAGES, or KAZOVUNI_NO_MEMORY.
  */
 uint8_t kazovuni_submit_over(
     uint8_t *bytes, size_t length, const uint8_t descriptor[64], uint32_t staging, uint8_t record[32]);

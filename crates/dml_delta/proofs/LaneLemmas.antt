@@ -1,10 +1,8 @@
 -- Blocks in lists of bytes, and the marks of those that differ.
-use Rattle.std.proofs.Common.{◌≡◌, ℕ, ◌+◌, ◌-◌, ◌*◌, ◌/◌, ◌%◌, ◌^◌, ◌<◌, ◌≤◌, Bool, true, false, not, ◌&&◌, List, [], ◌∷◌, ◌++◌, length, get_or, take, drop, cond, eqb, Fits, w8, w64, refl, sym, ◌∙◌, ap, ap₂, subst, map, replicate, arith, rules, ⊎_elim}
+use Rattle.std.proofs.Common.{◌≡◌, ℕ, ◌+◌, ◌-◌, ◌*◌, ◌%◌, ◌^◌, ◌<◌, ◌≤◌, Bool, true, false, not, ◌&&◌, List, [], ◌∷◌, ◌++◌, length, get_or, take, drop, cond, eqb, Fits, w8, w64, refl, sym, ◌∙◌, ap, ap₂, subst, map, replicate, arith, rules, ⊎_elim}
 use Rattle.std.specs.Prelude.{bytes_eq}
 use Rattle.std.specs.Int.{bit_at, bit_not, to_le_bytes, w16}
 use Rattle.std.specs.Prelude.{bit_and}
-use Rattle.std.proofs.Math.Nat.{div-div-eq-div-mul}
-use Rattle.std.proofs.lemmas.Nat.{pow-add}
 use Rattle.std.proofs.lemmas.Nat.Bits.{bit_at-trailing_zeros, bit_at-zero, bit_at-lt, bit_at_and, bit_at_clear_other, bit_at_clear_same}
 use Rattle.std.proofs.lemmas.Bool.{cases_eq, cases_lt, eq-eqb, eqb-true, ne_eqb, and_left}
 use Rattle.std.proofs.lemmas.List.{places, same_lists, drop_all, drop_at, take_all, get_or_past, length-replicate, replicate-append-replicate}
@@ -112,18 +110,10 @@ marks_are one other i long too fit fits =
     one_is true = refl
     one_is false = refl
 
--- the lowest mark, and the marks behind it
-shifted : (n z i : ℕ) → is_marked (n / 2 ^ z / 2) i ≡ is_marked n (z + 1 + i)
-shifted n z i =
-    let lower : n / 2 ^ z / 2 ≡ n / 2 ^ (z + 1) = div-div-eq-div-mul n (2 ^ z) 2 ∙ ap (λ (m : ℕ). n / m) (sym (pow-add 2 z 1)) in
-    let same : n / 2 ^ z / 2 / 2 ^ i ≡ n / 2 ^ (z + 1 + i) =
-    ap (λ (m : ℕ). m / 2 ^ i) lower ∙ (div-div-eq-div-mul n (2 ^ (z + 1)) (2 ^ i) ∙ ap (λ (m : ℕ). n / m) (sym (pow-add 2 (z + 1) i))) in
-    ap (λ (m : ℕ). eqb (m % 2) 1) same
-
+-- the lowest mark
 pub record Lowest (marks all at : ℕ) : Type 0 where
   pub here : is_marked all (at + count_trailing_zeros 64 marks) ≡ true
   pub before : (i : ℕ) → i < count_trailing_zeros 64 marks → is_marked all (at + i) ≡ false
-  pub behind : (i : ℕ) → is_marked (marks / 2 ^ count_trailing_zeros 64 marks / 2) i ≡ is_marked all (at + count_trailing_zeros 64 marks + 1 + i)
 
 pub lowest : (marks all at : ℕ) → 0 < marks → marks < 2 ^ 64 → ((i : ℕ) → is_marked marks i ≡ is_marked all (at + i)) → Lowest marks all at
 lowest marks all at some fit same =
@@ -132,7 +122,6 @@ lowest marks all at some fit same =
     record {
       here = sym (same z) ∙ ap (λ (b : ℕ). eqb b 1) first.1;
       before = λ i below. sym (same i) ∙ ap (λ (b : ℕ). eqb b 1) (first.2 i below);
-      behind = λ i. shifted marks z i ∙ (same (z + 1 + i) ∙ ap (is_marked all) (omega arith));
     }
 
 pub no_marks : (i : ℕ) → is_marked 0 i ≡ false

@@ -1,14 +1,8 @@
 -- Empty puts left out.
-use Rattle.std.proofs.Common.{◌≡◌, ℕ, suc, ◌+◌, ◌-◌, ◌*◌, ◌/◌, ◌<◌, ◌≤◌, Bool, true, false, not, List, [], ◌∷◌, length, map, refl, sym, ◌∙◌, ap, arith, cond, eqb, rules, slice_range}
-use Rattle.std.specs.List.{range_with_len}
-use Rattle.std.proofs.lemmas.Bool.{and_parts}
-use Rattle.std.proofs.lemmas.List.{places}
-use Rattle.dml_types.specs.Delta.{block_number}
-use Rattle.dml_types.specs.Memory.{Memory, IsMemory, Put, has_all, put, put_of, puts_made}
+use Rattle.std.proofs.Common.{◌≡◌, ℕ, ◌<◌, Bool, false, not, List, [], ◌∷◌, length, refl, sym, ◌∙◌, ap, arith, cond, eqb}
+use Rattle.dml_types.specs.Memory.{Memory, Put, put, put_of, puts_made}
 use Rattle.dml_types.proofs.MemoryLemmas.{put_nil}
-use Rattle.dml_image.proofs.RangeLemmas.{range_fits}
-use Rattle.dml_effect.specs.Applies.{block_put}
-use Rattle.dml_effect.specs.Effects.{are_present, some_puts}
+use Rattle.dml_effect.specs.Effects.{some_puts}
 
 -- a put with bytes stays, and one without goes
 pub some_put : (address : ℕ) (bytes : List ℕ) (puts : List Put) → 0 < length bytes → some_puts (put_of address bytes ∷ puts) ≡ put_of address bytes ∷ some_puts puts

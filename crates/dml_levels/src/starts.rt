@@ -183,11 +183,7 @@ impl Starts {
         let mut left = among;
         while left > 0 {
             let half = left - left / 2;
-            let start = self.list[first + half - 1].address;
-            // 1 where the start is at the address or before it, by a carry: no processor foresees which way a branch
-            // goes.
-            let reached = (u128::from(address) + (1 << 64) - u128::from(start)) >> 64;
-            first += half * reached as usize;
+            first += half * usize::from(self.list[first + half - 1].address <= address);
             left -= half;
         }
         first

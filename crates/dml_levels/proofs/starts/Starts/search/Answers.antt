@@ -11,15 +11,15 @@ loop-left-preserved c =
     let first = c.loop-left.first in
     let left = c.loop-left.left in
     let half : ℕ = left - left / 2 in
-    let added : ℕ = (c.from.result + 18446744073709551616 - c.from-in-loop-left.result) / 18446744073709551616 in
+    let added : ℕ = c.from.result in
     let here : get_or starts (first + half - 1) 0 ≡ c.index.result.now.address =
     read_at starts c.self.inside.list.items (first + half - 1) c.index.result.now (sym c.self.view_is) (omega (arith, c.loop-left.invariant.within)) c.index.ensures in
     ⊎_elim (λ high.
-    let none : added ≡ 0 = omega (arith, high, here, c.from.ensures, c.from-in-loop-left.ensures) in
+    let none : added ≡ 0 = grind (arith, high, here, c.from.ensures) in
     let next : first + half * added ≡ first + half * 0 = ap (λ n. first + half * n) none in
     sought_high starts address first left half (first + half * added) (left - half) c.requires.sorted c.loop-left.invariant (omega arith) (omega arith) (omega arith) high (omega (arith, next)) (omega arith))
     (λ low.
-    let one : added ≡ 1 = omega (arith, low, here, c.from.ensures, c.from-in-loop-left.ensures) in
+    let one : added ≡ 1 = grind (arith, low, here, c.from.ensures) in
     let next : first + half * added ≡ first + half * 1 = ap (λ n. first + half * n) one in
     sought_low starts address first left half (first + half * added) (left - half) c.requires.sorted c.loop-left.invariant (omega arith) (omega arith) low (omega (arith, next)) (omega arith))
     (cases_lt address (get_or starts (first + half - 1) 0))

@@ -1,4 +1,4 @@
-use Rattle.std.proofs.Common.{◌≡◌, ℕ, ◌+◌, ◌-◌, length, get_or, set, sym, subst, arith}
+use Rattle.std.proofs.Common.{◌≡◌, ℕ, ◌+◌, ◌-◌, ◌<◌, List, length, get_or, set, sym, subst, arith}
 use Rattle.std.proofs.lemmas.List.{get_or_read}
 use Rattle.std.specs.Prelude.{slice_index}
 use Rattle.dml_order.proofs.WaveLemmas.{level_below_depth}
@@ -20,6 +20,11 @@ index_mut-requires-in-loop-place c =
     let low = level_below_depth levels place (omega arith) in
     omega (arith, low, c.loop-place.invariant.1.long, c.loop-place.links.ok.0)
 
+-- by a link that is that of the level's first place so far
+linked_with : (levels links : List ℕ) (place first link : ℕ) → place < length levels → first ≡ length levels + slice_index levels place → AreLinked levels links (place + 1) → link ≡ get_or links first 0 → AreLinked levels (set (set links place link) first place) place
+linked_with levels links place first link below at known same =
+    subst (λ n. AreLinked levels (set (set links place n) first place) place) (sym same) (linked_more levels links place first below at known)
+
 pub loop-place-preserved : goal.loop-place-preserved
 loop-place-preserved c =
     let levels = c.args.levels.now in
@@ -32,6 +37,5 @@ loop-place-preserved c =
     let known : AreLinked levels links (place + 1) =
     subst (AreLinked levels links) (let e : c.loop-place.place ≡ place + 1 = omega arith in e) c.loop-place.invariant.1 in (
       omega arith,
-      subst (λ n. AreLinked levels (set (set links place n) first place) place) (sym read)
-          (linked_more levels links place first (omega arith) (let e : first ≡ length levels + slice_index levels place = omega arith in e) known),
+      linked_with levels links place first _ (omega arith) (let e : first ≡ length levels + slice_index levels place = omega arith in e) known (grind (arith, read)),
     )

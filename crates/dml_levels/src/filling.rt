@@ -36,7 +36,7 @@ pub struct Filling {
 }
 
 impl Filling {
-    /// No job yet, behind these links.
+    /// No job yet; its room keeps these links, and has the places of the wave behind them.
     pub fn new(links: Vec<u32>) -> Filling
         ensures empty { IsUnfilled result }
         ensures links { result.room.links ≡ links.items }

@@ -1,8 +1,8 @@
-use Rattle.std.proofs.Common.{◌≡◌, ◌+◌, ◌-◌, ◌<◌, [], ◌++◌, length, Result, Ok, Err, OnOk, ap, subst, sym, ◌∙◌, arith, All, ⊎_elim}
+use Rattle.std.proofs.Common.{◌≡◌, ◌+◌, ◌-◌, ◌<◌, ◌++◌, length, ap, subst, sym, ◌∙◌, arith, All}
 use Rattle.dml_order.specs.Waves.{cut_behind, later_places}
-use Rattle.dml_order.proofs.WaveSteps.{places_here, places_past, places_end}
+use Rattle.dml_order.proofs.WaveSteps.{places_here, places_past}
 use Rattle.dml_levels.specs.Waves.{fits_wave, IsFilling, IsSmall}
-use Rattle.dml_levels.proofs.FillingLemmas.{small_push}
+use Rattle.dml_levels.proofs.FillingLemmas.{none_left, small_pushed, where_ok}
 use Rattle.dml_levels.proofs.waving.cut_level.Goals as goal
 use Rattle.dml_levels.proofs.waving.cut_level.Goals.{then-from-level+in_ok-take, else-from-level}
 
@@ -35,31 +35,21 @@ loop-place-preserved c =
           )
     ]
 
-where_ok : {T E : Type 0} (r : Result T E) (P Q : Type 0) → (P → Q) → OnOk r P → OnOk r Q
-where_ok (Ok x) P Q f p = f p
-where_ok (Err e) P Q f p = p
-
 pub returns-clause-cut : goal.returns-clause-cut
 returns-clause-cut c =
     let fits = fits_wave c.args.jobs.now c.args.staging c.args.chunk in
     let levels = c.args.levels.now in
     let old = c.loop-place in
     let ended : old.place ≡ length levels = omega arith in
-    let none : later_places levels c.args.level old.place (length levels - old.place) ≡ [] =
-    ap (λ place. later_places levels c.args.level place (length levels - place)) ended ∙ places_end levels c.args.level in
     where_ok c.finish.result _ _
     (λ last.
     last fits
-    ∙ (ap (λ places. old.waves.items ++ cut_behind fits old.filling.room.wave places) (sym none) ∙ old.invariant.0))
+    ∙ (ap (λ places. old.waves.items ++ cut_behind fits old.filling.room.wave places) (sym (none_left levels c.args.level old.place ended)) ∙ old.invariant.0))
     c.finish.ensures.cut
 
 pub returns-clause-fit : goal.returns-clause-fit
 returns-clause-fit c =
-    let jobs = c.args.jobs.now in
     let old = c.loop-place in
     where_ok c.finish.result _ _
-    (λ pushed.
-    ⊎_elim (λ same. subst (All (IsSmall jobs c.args.staging c.args.chunk)) (sym same) old.invariant.2)
-    (λ more. subst (All (IsSmall jobs c.args.staging c.args.chunk)) (sym more) (small_push jobs c.args.staging c.args.chunk old.waves.items old.filling old.invariant.1 old.invariant.2))
-    pushed)
+    (small_pushed c.args.jobs.now c.args.staging c.args.chunk old.waves.items c.finish.new.waves.items old.filling old.invariant.1 old.invariant.2)
     c.finish.ensures.pushed

@@ -1,10 +1,10 @@
-use Rattle.std.proofs.Common.{◌≡◌, ℕ, ◌+◌, ◌-◌, ◌<◌, [], ◌++◌, length, Result, Ok, Err, OnOk, ap, subst, sym, ◌∙◌, arith, rules, All, ⊎_elim}
+use Rattle.std.proofs.Common.{◌≡◌, ℕ, ◌+◌, ◌-◌, ◌<◌, ◌++◌, length, ap, subst, sym, ◌∙◌, arith, rules}
 use Rattle.std.specs.Prelude.{slice_index}
 use Rattle.dml_order.specs.Waves.{cut_behind, later_places, level_places}
-use Rattle.dml_order.proofs.WaveSteps.{places_here, places_end}
+use Rattle.dml_order.proofs.WaveSteps.{places_here}
 use Rattle.dml_levels.specs.Links.{first_from}
-use Rattle.dml_levels.specs.Waves.{fits_wave, IsSmall}
-use Rattle.dml_levels.proofs.FillingLemmas.{small_push}
+use Rattle.dml_levels.specs.Waves.{fits_wave}
+use Rattle.dml_levels.proofs.FillingLemmas.{none_left, small_pushed, where_ok}
 use Rattle.dml_levels.proofs.LinkLemmas.{IsNext, is_next}
 use Rattle.dml_levels.proofs.waving.cut_linked_level.Goals as goal
 
@@ -66,32 +66,21 @@ loop-place-preserved c =
       next.same,
     )
 
-where_ok : {T E : Type 0} (r : Result T E) (P Q : Type 0) → (P → Q) → OnOk r P → OnOk r Q
-where_ok (Ok x) P Q f p = f p
-where_ok (Err e) P Q f p = p
-
 pub returns-clause-cut : goal.returns-clause-cut
 returns-clause-cut c =
     let fits = fits_wave c.args.jobs.now c.args.staging c.args.chunk in
     let levels = c.args.levels.now in
     let old = c.loop-place in
-    let most = old.invariant.4 in
-    let ended : old.place ≡ length levels = omega arith in
-    let none : later_places levels c.args.level old.place (length levels - old.place) ≡ [] =
-    ap (λ place. later_places levels c.args.level place (length levels - place)) ended ∙ places_end levels c.args.level in
+    let ended : old.place ≡ length levels = omega (arith, old.invariant.4) in
     where_ok c.finish.result _ _
     (λ last.
     last fits
-    ∙ (ap (λ places. old.waves.items ++ cut_behind fits old.filling.room.wave places) (sym none) ∙ old.invariant.0))
+    ∙ (ap (λ places. old.waves.items ++ cut_behind fits old.filling.room.wave places) (sym (none_left levels c.args.level old.place ended)) ∙ old.invariant.0))
     c.finish.ensures.cut
 
 pub returns-clause-fit : goal.returns-clause-fit
 returns-clause-fit c =
-    let jobs = c.args.jobs.now in
     let old = c.loop-place in
     where_ok c.finish.result _ _
-    (λ pushed.
-    ⊎_elim (λ same. subst (All (IsSmall jobs c.args.staging c.args.chunk)) (sym same) old.invariant.2)
-    (λ more. subst (All (IsSmall jobs c.args.staging c.args.chunk)) (sym more) (small_push jobs c.args.staging c.args.chunk old.waves.items old.filling old.invariant.1 old.invariant.2))
-    pushed)
+    (small_pushed c.args.jobs.now c.args.staging c.args.chunk old.waves.items c.finish.new.waves.items old.filling old.invariant.1 old.invariant.2)
     c.finish.ensures.pushed

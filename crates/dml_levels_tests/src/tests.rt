@@ -2,6 +2,7 @@ ghost use Rattle.std.specs.Prelude.{◌≤◌, All, IfSome};
 ghost use Rattle.dml_types.specs.Refusal.{need};
 
 mod growths;
+mod linked;
 
 use dml_desc::{Checked, check, check_in_batch};
 use dml_levels::{LevelError, Wave, conflict, depth, levels, task_count, touches, waves};

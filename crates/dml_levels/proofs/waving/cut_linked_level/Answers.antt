@@ -1,4 +1,4 @@
-use Rattle.std.proofs.Common.{◌≡◌, ℕ, ◌+◌, ◌-◌, ◌<◌, ◌++◌, length, ap, subst, sym, ◌∙◌, arith, rules}
+use Rattle.std.proofs.Common.{◌≡◌, ℕ, ◌+◌, ◌-◌, ◌<◌, ◌++◌, length, ap, sym, ◌∙◌, arith, rules}
 use Rattle.std.specs.Prelude.{slice_index}
 use Rattle.dml_order.specs.Waves.{cut_behind, later_places, level_places}
 use Rattle.dml_order.proofs.WaveSteps.{places_here}

@@ -1,6 +1,6 @@
 -- Submits and fetches in a row.
 use Rattle.std.proofs.Common.{◌≡◌, ◌⊎◌, ℕ, ◌+◌, ◌-◌, ◌<◌, ◌≤◌, Bool, true, false, not, drop, Option, None, Some, inl, inr, ⊎_elim, List, [], ◌∷◌, ◌++◌, length, get_or, set, take, refl, sym, ◌∙◌, ap, subst, arith}
-use Rattle.std.proofs.lemmas.Bool.{and_from, and_parts, cases_lt, false≢true, ltb-true, or_left, or_right}
+use Rattle.std.proofs.lemmas.Bool.{and_from, and_parts, cases_lt, false≢true, lt-ltb, ltb-true, or_left, or_right}
 use Rattle.std.proofs.lemmas.List.{get_or-drop, get_or-set_same, get_or-take, length-drop, length-take, length-take-le, length_push, set-set, set-get_or, take_more, take_rest}
 use Rattle.std.proofs.lemmas.Option.{slice_get-get_or}
 use Rattle.std.proofs.Math.Seq.{take-add, take-append_seam}
@@ -127,19 +127,33 @@ gather_less first now next steps i d below all is =
     (gathered_less (take i steps) first now (get_or steps i d)
     (subst (λ (list : List Step). AreGathered first list now) (take_more steps i d below) all))
 
--- of whether a fetch is among the steps
+-- a row begins with a fetch
 abbrev FewOpen : List Fetched → Type 0
 FewOpen fetched = length (open_places fetched) ≤ 1024
 
-pub few_more : (fetches now : Bool) (old new : List Fetched) → (fetches ≡ true → FewOpen old) → (now ≡ true → FewOpen new) → (now ≡ true) ⊎ (new ≡ old) → (fetches || now) ≡ true → FewOpen new
-few_more fetches now old new before here (inl is) whole = here is
-few_more true now old new before here (inr same) whole = subst FewOpen (sym same) (before refl)
-few_more false now old new before here (inr same) whole = here whole
+fetch_or_behind : (steps : List Step) (i : ℕ) (d : Step) → i < length steps → FetchesAt steps 0 → (is_fetch (get_or steps i d) ≡ true) ⊎ (0 < i)
+fetch_or_behind steps i d below fetches =
+    ⊎_elim (λ (behind : 0 < i). inr behind)
+    (λ (first : i ≤ 0).
+    let here : 0 ≡ i = omega (arith, first) in
+    let begins : is_fetch (get_or steps 0 d) ≡ true =
+    subst (λ (s : Option Step). IfSome s (λ (x : Step). is_fetch x ≡ true)) (slice_get-get_or steps 0 d (omega (arith, below))) fetches in
+    inl (subst (λ (k : ℕ). is_fetch (get_or steps k d) ≡ true) here begins))
+    (cases_lt 0 i)
 
-pub fixed_more : (fetches now : Bool) (first old new : List Fetched) → (fetches ≡ true) ⊎ (old ≡ first) → (now ≡ true) ⊎ (new ≡ old) → ((fetches || now) ≡ true) ⊎ (new ≡ first)
-fixed_more fetches now first old new (inl is) here = inl (or_left fetches now is)
-fixed_more fetches now first old new (inr same) (inl is) = inl (or_right fetches now is)
-fixed_more fetches now first old new (inr same) (inr own) = inr (own ∙ same)
+pub begun_or_fetches : (steps : List Step) (i : ℕ) (d : Step) → i < length steps → FetchesAt steps 0 → nat_lt 0 (i + 1) ≡ (nat_lt 0 i || is_fetch (get_or steps i d))
+begun_or_fetches steps i d below fetches =
+    lt-ltb 0 (i + 1) (omega arith)
+    ∙ sym (⊎_elim (λ (is : is_fetch (get_or steps i d) ≡ true). or_right (nat_lt 0 i) (is_fetch (get_or steps i d)) is)
+    (λ (behind : 0 < i). or_left (nat_lt 0 i) (is_fetch (get_or steps i d)) (lt-ltb 0 i behind))
+    (fetch_or_behind steps i d below fetches))
+
+pub few_more : (steps : List Step) (i : ℕ) (d : Step) (old new : List Fetched) → i < length steps → FetchesAt steps 0 → (0 < i → FewOpen old) → (is_fetch (get_or steps i d) ≡ true → FewOpen new) → (is_fetch (get_or steps i d) ≡ true) ⊎ (new ≡ old) → FewOpen new
+few_more steps i d old new below fetches before here (inl is) = here is
+few_more steps i d old new below fetches before here (inr same) =
+    ⊎_elim (λ (is : is_fetch (get_or steps i d) ≡ true). here is)
+    (λ (behind : 0 < i). subst FewOpen (sym same) (before behind))
+    (fetch_or_behind steps i d below fetches)
 
 -- the last fetch that was found
 pub fetches_here : (steps : List Step) (i : ℕ) (d : Step) → i < length steps → is_fetch (get_or steps i d) ≡ true → FetchesAt steps (i + 1 - 1)

@@ -8,10 +8,11 @@ ghost use Rattle.dml_core.specs.World.{part_of};
 use crate::lists::SentJobs;
 use crate::stepping::count_part;
 use crate::values::Fetched;
+use crate::worlds::MAX_CLIENTS;
 use dml_types::Job;
 
-/// How many clients' counts are kept.
-pub(crate) const COUNTED: usize = 8;
+/// How many clients' counts are kept: those of all that a world may have.
+pub(crate) const COUNTED: usize = MAX_CLIENTS as usize;
 
 /// Of one client it is known how many jobs were fetched, and of no other.
 #[tactic(auto, using(crate::proofs::CountLemmas::none_kept, crate::proofs::CountLemmas::part_kept))]

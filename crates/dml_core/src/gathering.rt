@@ -1,15 +1,16 @@
 //! Submits and fetches in a row, with one plan behind the last of them.
-ghost use Rattle.std.specs.Prelude.{◌≡◌, ◌⊎◌, ◌||◌, ◌&&◌, ◌+◌, ◌-◌, ◌≤◌, ◌<◌, IfErr, IfOk, IfSome, Some, false, length, nat_lt, not, slice_get, slice_index_or, slice_set, take, true, []};
+ghost use Rattle.std.specs.Prelude.{◌≡◌, ◌⊎◌, ◌||◌, ◌&&◌, ◌+◌, ◌-◌, ◌≤◌, ◌<◌, IfErr, IfOk, IfSome, OnSome, Some, false, is_some, length, nat_lt, not, slice_get, slice_index_or, slice_set, take, true, []};
 ghost use Rattle.dml_core.specs.Plan.{open_places};
 ghost use Rattle.dml_core.specs.World.{Reaches, World, part_of};
 ghost use Rattle.dml_core.specs.Replay.{StopsAt};
 ghost use Rattle.dml_core.specs.Types.{Fetch};
-ghost use Rattle.dml_core.specs.Gather.{AreGathered, AreParts, EndsWithLastFetch, FetchesAt, IsRefused, Lists, NoneFetches, gathered, grown, is_idle, lists, lists_of, may_fetch, may_join, more_fetched, more_sent, shorter, ungrown};
+ghost use Rattle.dml_core.specs.Gather.{AreGathered, AreParts, EndsWithLastFetch, FetchesAt, IsRefused, Lists, NoneFetches, gathered, grown, is_idle, lists, lists_of, may_fetch, may_join, more_fetched, more_sent, next_of, shorter, ungrown};
 ghost use Rattle.dml_core.specs.Gather as word;
 
 use crate::counts::{count_one, first_count, next_counted};
 use crate::errors::StepFault;
 use crate::lists::SentJobs;
+use crate::rooms::Rooms;
 use crate::stepping::{MAX_OPEN, Next, Outset, Refusal, one_if, set_out};
 use crate::values::{Fetched, Step};
 use crate::worlds::World;
@@ -22,8 +23,8 @@ const MOST_STEPS: usize = 2 * MAX_OPEN;
 
 /// How many steps were taken, and how many behind them are to be taken one at a time. Tried are the steps that were put
 /// into the lists, and one for which there was no memory. Where these are more than were taken, the last of those to be
-/// taken one at a time was tried in vain: if it is allowed, there was no memory for it. Or the step behind those taken
-/// is not allowed.
+/// taken one at a time was tried in vain: if it is allowed, there was no memory for it. In a refused turn the step behind
+/// those taken is not allowed, and none is to be taken one at a time.
 #[derive(Clone, Copy)]
 struct Turn {
     taken: usize,
@@ -32,12 +33,11 @@ struct Turn {
     is_refused: bool,
 }
 
-/// How many steps made the lists longer, and whether a fetch is among them. Where they are not all, the step behind is
-/// neither a submit nor a fetch, there was no memory for it, or it is not allowed.
+/// How many steps made the lists longer; the first of them fetches. Where they are not all, the step behind is neither a
+/// submit nor a fetch, there was no memory for it, or it is not allowed.
 #[derive(Clone, Copy)]
 struct Row {
     count: usize,
-    fetches: bool,
     wants_memory: bool,
     is_refused: bool,
 }
@@ -100,7 +100,7 @@ impl World {
 
     /// Takes submits and fetches, as far as they can be taken. Of the client of the first it is known what is next. Only
     /// the plan behind the last fetch is made, since each fetch plans all open jobs anew. Where the allocator has no
-    /// memory left for it, the steps are taken back.
+    /// memory left for it, the steps are taken back, and the room that the lists grew by.
     fn gather_row(&mut self, alloc: Global, client: u32, next: &Next, steps: &[Step]) -> Turn
         requires some { 0 < length steps.now }
         requires fetch { FetchesAt steps.now 0 }
@@ -115,6 +115,7 @@ impl World {
             → EndsWithLastFetch (take result.tried steps.now) result.alone }
     {
         let mut parts = first_count(client, next.part);
+        let rooms = Rooms::of(&self.sent, &self.fetched);
         let row = push_steps(
             &mut self.sent,
             &mut self.fetched,
@@ -122,12 +123,11 @@ impl World {
             &mut parts,
             steps,
         );
-        if !row.fetches {
-            // The first step fetches, so none was taken.
+        if row.count == 0 {
             return Turn {
-                taken: row.count,
-                alone: one_if(row.count == 0),
-                tried: row.count + one_if(row.wants_memory),
+                taken: 0,
+                alone: 1,
+                tried: one_if(row.wants_memory),
                 is_refused: false,
             };
         }
@@ -146,6 +146,7 @@ impl World {
             }
             Err(_) => {
                 take_back(&mut self.sent, &mut self.fetched, &steps[..row.count]);
+                rooms.give_back(&mut self.sent, &mut self.fetched);
                 Turn::without_plan(&steps[..row.count])
             }
         }
@@ -222,15 +223,9 @@ fn fetch_end(steps: &[Step]) -> usize
     end
 }
 
-/// Whether a fetch was among some steps, or this one fetches.
-fn is_or_fetches(fetches: bool, step: &Step) -> bool
-    ensures { result ≡ (fetches || word.is_fetch step.now) }
-{
-    fetches || is_fetch(step)
-}
-
-/// Makes the lists of an idle world longer by the steps, up to the first that cannot be taken. So many of the fetched
-/// jobs are open, and so many each client's; each fetch counts one more, so they are counted once at most.
+/// Makes the lists of an idle world longer by the steps, which begin with a fetch, up to the first that cannot be taken.
+/// So many of the fetched jobs are open, and so many each client's; each fetch counts one more, so they are counted once
+/// at most.
 fn push_steps(
     sent: &mut Vec<SentJobs>,
     fetched: &mut Vec<Fetched>,
@@ -240,8 +235,8 @@ fn push_steps(
 ) -> Row
     requires open_jobs { open_jobs ≡ length (open_places fetched.old.items) }
     requires parts { AreParts parts.old fetched.old.items }
+    requires fetch { FetchesAt steps.now 0 }
     ensures within { result.count ≤ length steps.now }
-    ensures some { result.fetches ≡ true → 0 < result.count }
     ensures stops { result.count ≡ length steps.now → (result.wants_memory || result.is_refused) ≡ false }
     ensures wants_memory { IfSome (slice_get steps.now result.count) (λ step. result.wants_memory
         ≡ may_join (lists sent.new.items fetched.new.items) step) }
@@ -251,30 +246,54 @@ fn push_steps(
         (lists sent.new.items fetched.new.items) }
     ensures reached { (w : World) → lists_of w ≡ lists sent.old.items fetched.old.items → is_idle w ≡ true
         → Reaches w (take result.count steps.now)
-        (gathered w (lists sent.new.items fetched.new.items) result.fetches) }
-    ensures few { result.fetches ≡ true → length (open_places fetched.new.items) ≤ 1024 }
-    ensures fixed { (result.fetches ≡ true) ⊎ (fetched.new.items ≡ fetched.old.items) }
+        (gathered w (lists sent.new.items fetched.new.items) (nat_lt 0 result.count)) }
+    ensures few { 0 < result.count → length (open_places fetched.new.items) ≤ 1024 }
+    ensures fixed { result.count ≡ 0 → fetched.new.items ≡ fetched.old.items }
 {
-    let mut fetches = false;
     let mut open_jobs = open_jobs;
     for i in 0..steps.len() {
         if !push_step(sent, fetched, &mut open_jobs, parts, &steps[i]) {
             let wants_memory = may_push(sent, fetched, open_jobs, parts, &steps[i]);
             return Row {
                 count: i,
-                fetches,
                 wants_memory,
                 is_refused: is_denied(&steps[i], wants_memory),
             };
         }
-        fetches = is_or_fetches(fetches, &steps[i]);
     }
     Row {
         count: steps.len(),
-        fetches,
         wants_memory: false,
         is_refused: false,
     }
+}
+
+/// Whether there is such a client, which may send a job.
+fn is_known(sent: &[SentJobs], client: u32) -> bool
+    ensures { result ≡ nat_lt client (length sent.now) }
+{
+    (client as usize) < sent.len()
+}
+
+/// A client's next job, where it may be fetched. So many of the fetched jobs are open, and so many each client's.
+fn next_to_join(
+    sent: &[SentJobs],
+    fetched: &[Fetched],
+    open_jobs: usize,
+    parts: &mut [Option<usize>],
+    client: u32,
+) -> Option<Job>
+    requires open_jobs { open_jobs ≡ length (open_places fetched.now) }
+    requires parts { AreParts parts.old fetched.now }
+    ensures may { is_some result ≡ may_fetch sent.now fetched.now client }
+    ensures next { IfSome result (λ job. next_of sent.now fetched.now client ≡ Some job) }
+    ensures few { OnSome result (length (open_places fetched.now) < 1024) }
+    ensures parts { AreParts parts.new fetched.now }
+{
+    if open_jobs >= MAX_OPEN {
+        return None;
+    }
+    next_counted(sent, fetched, parts, client)
 }
 
 /// Whether a step is a submit or a fetch, and not one that may be taken.
@@ -297,10 +316,8 @@ fn may_push(
     ensures { result ≡ may_join (lists sent.now fetched.now) step.now }
 {
     match *step {
-        Step::Submit { client, .. } => (client as usize) < sent.len(),
-        Step::Fetch { client } => {
-            next_counted(sent, fetched, parts, client).is_some() && open_jobs < MAX_OPEN
-        }
+        Step::Submit { client, .. } => is_known(sent, client),
+        Step::Fetch { client } => next_to_join(sent, fetched, open_jobs, parts, client).is_some(),
         Step::Take { .. } | Step::Finish { .. } | Step::Commit => false,
     }
 }
@@ -339,10 +356,10 @@ fn push_sent(sent: &mut Vec<SentJobs>, client: u32, job: Job) -> bool
     ensures more { result ≡ true → sent.new.items ≡ more_sent sent.old.items client job }
     ensures same { result ≡ false → sent.new.items ≡ sent.old.items }
 {
-    let client = client as usize;
-    if client >= sent.len() {
+    if !is_known(sent.as_slice(), client) {
         return false;
     }
+    let client = client as usize;
     match sent[client].push(job) {
         Ok(()) => true,
         Err(_) => false,
@@ -368,13 +385,10 @@ fn push_fetched(
     ensures open_jobs { open_jobs.new ≡ length (open_places fetched.new.items) }
     ensures parts { AreParts parts.new fetched.new.items }
 {
-    let next = next_counted(sent, fetched.as_slice(), parts, client);
+    let next = next_to_join(sent, fetched.as_slice(), *open_jobs, parts, client);
     let Some(job) = next else {
         return false;
     };
-    if *open_jobs >= MAX_OPEN {
-        return false;
-    }
     let entry = Fetched {
         client,
         job,

@@ -8,6 +8,7 @@ mod gathering;
 mod laws;
 mod lists;
 mod planning;
+mod rooms;
 mod stepping;
 mod tasks;
 mod values;

@@ -46,6 +46,18 @@ impl SentJobs {
         self.list.truncate(self.list.len().saturating_sub(1));
     }
 
+    /// How many jobs there is room for.
+    pub(crate) fn room(&self) -> usize {
+        self.list.capacity()
+    }
+
+    /// Gives back the room for more jobs than so many, as far as they leave it.
+    pub(crate) fn give_back(&mut self, room: usize)
+        ensures { self.new ≡ self.old }
+    {
+        self.list.shrink_to(room);
+    }
+
     /// The jobs.
     pub(crate) fn as_slice(&self) -> &[Job]
         ensures { result.now ≡ self.now }

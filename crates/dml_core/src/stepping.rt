@@ -170,7 +170,7 @@ impl World {
         ensures ok { OnOk result (self.new ≡ after self.old (Fetch client)) }
         ensures err { OnErr result (self.new ≡ self.old) }
     {
-        let count = self.fetched.len();
+        let (count, room) = (self.fetched.len(), self.fetched.capacity());
         let entry = Fetched {
             client,
             job,
@@ -189,6 +189,7 @@ impl World {
             }
             Err(error) => {
                 self.fetched.truncate(count);
+                self.fetched.shrink_to(room);
                 Err(error)
             }
         }

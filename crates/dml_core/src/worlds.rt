@@ -15,7 +15,7 @@ use std::alloc::{AllocError, Global};
 use std::marker::Model;
 
 /// The most clients.
-const MAX_CLIENTS: u32 = 8;
+pub(crate) const MAX_CLIENTS: u32 = 8;
 
 /// A memory image, what each client sent, and how far the jobs are that were fetched.
 #[derive(Drop)]

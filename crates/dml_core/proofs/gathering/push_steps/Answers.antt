@@ -1,10 +1,10 @@
-use Rattle.std.proofs.Common.{◌≡◌, ◌⊎◌, ◌∙◌, ◌+◌, ◌<◌, Bool, true, false, not, List, length, get_or, take, rules, sym, ap, subst, arith}
+use Rattle.std.proofs.Common.{◌≡◌, ◌∙◌, ◌+◌, ◌<◌, Bool, true, false, not, List, length, get_or, take, rules, sym, ap, subst, arith}
 use Rattle.dml_types.specs.Job.{no_op_job}
-use Rattle.std.specs.Prelude.{◌&&◌}
+use Rattle.std.specs.Prelude.{◌&&◌, ◌||◌, nat_lt}
 use Rattle.dml_core.specs.Types.{Job, Fetched, Step, Submit}
 use Rattle.dml_core.specs.World.{Reaches}
-use Rattle.dml_core.specs.Gather.{Lists, gathered, is_of_row, lists, may_join}
-use Rattle.dml_core.proofs.GatherLemmas.{at_step, few_more, fixed_more, gather_more, gather_reaches}
+use Rattle.dml_core.specs.Gather.{Lists, gathered, is_fetch, is_of_row, lists, may_join}
+use Rattle.dml_core.proofs.GatherLemmas.{at_step, begun_or_fetches, few_more, gather_more, gather_reaches}
 use Rattle.dml_core.proofs.gathering.push_steps.Goals as goal
 
 pub returns-then-not-push_step-clause-reached : goal.returns-then-not-push_step-clause-reached
@@ -12,7 +12,7 @@ returns-then-not-push_step-clause-reached c =
     let stopped : c.push_step.result ≡ false = search rules in
     let same = c.push_step.ensures.same stopped in
     λ w is idle.
-    subst (λ (l : Lists). Reaches w (take c.loop-i.i c.args.steps.now) (gathered w l c.loop-i.fetches)) (sym same)
+    subst (λ (l : Lists). Reaches w (take c.loop-i.i c.args.steps.now) (gathered w l (nat_lt 0 c.loop-i.i))) (sym same)
     (c.loop-i.invariant.reach w is idle)
 
 pub returns-then-not-push_step-clause-wants_memory : goal.returns-then-not-push_step-clause-wants_memory
@@ -49,17 +49,15 @@ loop-i-preserved c =
     let joined : c.push_step.result ≡ true = search rules in
     let may = c.push_step.ensures.taken joined in
     let more = c.push_step.ensures.more joined in
-    let now = c.is_or_fetches-fetches.ensures in
+    let step = get_or steps i (Submit 0 no_op_job) in
+    let now : nat_lt 0 (i + 1) ≡ (nat_lt 0 i || is_fetch step) = begun_or_fetches steps i (Submit 0 no_op_job) below c.requires.fetch in
     record {
       all = gather_more first old new steps i (Submit 0 no_op_job) below c.loop-i.invariant.all may more;
       reach = λ w is idle.
           subst (λ (b : Bool). Reaches w (take (i + 1) steps) (gathered w new b)) (sym now)
-          (gather_reaches w old new steps i (Submit 0 no_op_job) c.loop-i.fetches below idle (c.loop-i.invariant.reach w is idle) may more);
+          (gather_reaches w old new steps i (Submit 0 no_op_job) (nat_lt 0 i) below idle (c.loop-i.invariant.reach w is idle) may more);
       counted = c.push_step.ensures.open_jobs;
       parts = c.push_step.ensures.parts;
-      few = λ set. few_more c.loop-i.fetches _ old.fetched new.fetched c.loop-i.invariant.few (c.push_step.ensures.few joined) c.push_step.ensures.fixed (sym now ∙ set);
-      begun = λ set. omega arith;
-      fixed =
-          let P : Bool → Type 0 = λ b. (b ≡ true) ⊎ (new.fetched ≡ first.fetched) in
-          subst P (sym now) (fixed_more c.loop-i.fetches _ first.fetched old.fetched new.fetched c.loop-i.invariant.fixed c.push_step.ensures.fixed);
+      few = λ begun. few_more steps i (Submit 0 no_op_job) old.fetched new.fetched below c.requires.fetch c.loop-i.invariant.few (c.push_step.ensures.few joined) c.push_step.ensures.fixed;
+      fixed = λ none. absurd (let e : ⊥ = omega (arith, none) in e);
     }

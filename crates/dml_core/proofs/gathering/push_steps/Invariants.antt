@@ -1,4 +1,5 @@
-use Rattle.std.proofs.Common.{◌≡◌, ◌<◌, ◌≤◌, ◌⊎◌, true, length, take}
+use Rattle.std.proofs.Common.{◌≡◌, ◌<◌, ◌≤◌, true, length, take}
+use Rattle.std.specs.Prelude.{nat_lt}
 use Rattle.dml_core.specs.Plan.{open_places}
 use Rattle.dml_core.specs.World.{World, Reaches}
 use Rattle.dml_core.specs.Gather.{AreGathered, AreParts, gathered, is_idle, lists, lists_of}
@@ -9,10 +10,9 @@ invariant-loop-i l = record {
   all : AreGathered (lists l.initial.sent.items l.initial.fetched.items) (take l.i l.steps) (lists l.sent.items l.fetched.items);
   reach :
       (w : World) → lists_of w ≡ lists l.initial.sent.items l.initial.fetched.items → is_idle w ≡ true
-      → Reaches w (take l.i l.steps) (gathered w (lists l.sent.items l.fetched.items) l.fetches);
+      → Reaches w (take l.i l.steps) (gathered w (lists l.sent.items l.fetched.items) (nat_lt 0 l.i));
   counted : l.open_jobs ≡ length (open_places l.fetched.items);
   parts : AreParts l.parts l.fetched.items;
-  few : l.fetches ≡ true → length (open_places l.fetched.items) ≤ 1024;
-  begun : l.fetches ≡ true → 0 < l.i;
-  fixed : (l.fetches ≡ true) ⊎ (l.fetched.items ≡ l.initial.fetched.items);
+  few : 0 < l.i → length (open_places l.fetched.items) ≤ 1024;
+  fixed : l.i ≡ 0 → l.fetched.items ≡ l.initial.fetched.items;
 }

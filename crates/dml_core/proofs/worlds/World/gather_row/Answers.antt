@@ -1,6 +1,7 @@
-use Rattle.std.proofs.Common.{◌≡◌, ℕ, true, false, List, [], length, get_or, map, drop, take, refl, rules, sym, ap, subst, ◌∙◌}
+use Rattle.std.proofs.Common.{◌≡◌, ◌<◌, ℕ, arith, true, false, List, [], length, get_or, map, drop, take, refl, rules, sym, ap, subst, ◌∙◌}
 use Rattle.std.proofs.lemmas.List.{length-take-le}
-use Rattle.std.specs.Prelude.{IfSome, slice_get}
+use Rattle.std.proofs.lemmas.Bool.{lt-ltb}
+use Rattle.std.specs.Prelude.{IfSome, nat_lt, slice_get}
 use Rattle.dml_core.specs.Types.{Step, Fetched}
 use Rattle.dml_core.specs.Plan.{jobs_of, plan_of, tasks_of}
 use Rattle.dml_core.specs.World.{World, Reaches, is_allowed, kept_task}
@@ -22,7 +23,9 @@ returns-in-Ok-clause-reached c =
     let old = world s.settings s.image s.sent.items s.fetched.items (drop s.committed s.waves.items) (drop s.taken s.tasks.items) s.hands.items kept in
     let idle : is_idle old ≡ true = ap is_idle c.self.view_is ∙ c.requires.idle in
     let none : s.finished.items ≡ [] = none_finished s.hands.items (kept_task s.fetched.items s.image) s.finished.items idle in
-    let anew : row.result.fetches ≡ true = search rules in
+    let begun : 0 < row.result.count = omega arith in
+    let fetches = nat_lt 0 row.result.count in
+    let anew : fetches ≡ true = lt-ltb 0 row.result.count begun in
     let same : map (kept_task fetched s.image) s.finished.items ≡ kept =
     ap (map (kept_task fetched s.image)) none ∙ sym (ap (map (kept_task s.fetched.items s.image)) none) in
     let planned : plan ≡ plan_of fetched s.settings.staging s.settings.chunk =
@@ -30,8 +33,8 @@ returns-in-Ok-clause-reached c =
     let ready : tasks ≡ tasks_of (jobs_of fetched) s.settings.staging s.settings.chunk (get_or plan 0 []) =
     c.in-Ok.ensures.tasks ∙ ap (λ (list : List Fetched). tasks_of (jobs_of list) s.settings.staging s.settings.chunk (get_or plan 0 [])) c.as_slice.ensures.value in
     let new = world s.settings s.image sent fetched plan tasks s.hands.items (map (kept_task fetched s.image) s.finished.items) in
-    let made : new ≡ gathered old (lists sent fetched) row.result.fetches =
-    gather_made s.settings s.image s.sent.items sent s.fetched.items fetched (drop s.committed s.waves.items) (drop s.taken s.tasks.items) s.hands.items kept (map (kept_task fetched s.image) s.finished.items) plan tasks row.result.fetches anew same planned ready in
+    let made : new ≡ gathered old (lists sent fetched) fetches =
+    gather_made s.settings s.image s.sent.items sent s.fetched.items fetched (drop s.committed s.waves.items) (drop s.taken s.tasks.items) s.hands.items kept (map (kept_task fetched s.image) s.finished.items) plan tasks fetches anew same planned ready in
     subst (λ (w : World). Reaches w steps new) c.self.view_is
     (subst (λ (w : World). Reaches old steps w) (sym made) (row.ensures.reached old refl idle))
 
@@ -47,7 +50,9 @@ returns-in-Ok-clause-refused c = λ is.
     let old = world s.settings s.image s.sent.items s.fetched.items (drop s.committed s.waves.items) (drop s.taken s.tasks.items) s.hands.items kept in
     let idle : is_idle old ≡ true = ap is_idle c.self.view_is ∙ c.requires.idle in
     let none : s.finished.items ≡ [] = none_finished s.hands.items (kept_task s.fetched.items s.image) s.finished.items idle in
-    let anew : row.result.fetches ≡ true = search rules in
+    let begun : 0 < row.result.count = omega arith in
+    let fetches = nat_lt 0 row.result.count in
+    let anew : fetches ≡ true = lt-ltb 0 row.result.count begun in
     let same : map (kept_task fetched s.image) s.finished.items ≡ kept =
     ap (map (kept_task fetched s.image)) none ∙ sym (ap (map (kept_task s.fetched.items s.image)) none) in
     let planned : plan ≡ plan_of fetched s.settings.staging s.settings.chunk =
@@ -55,11 +60,11 @@ returns-in-Ok-clause-refused c = λ is.
     let ready : tasks ≡ tasks_of (jobs_of fetched) s.settings.staging s.settings.chunk (get_or plan 0 []) =
     c.in-Ok.ensures.tasks ∙ ap (λ (list : List Fetched). tasks_of (jobs_of list) s.settings.staging s.settings.chunk (get_or plan 0 [])) c.as_slice.ensures.value in
     let new = world s.settings s.image sent fetched plan tasks s.hands.items (map (kept_task fetched s.image) s.finished.items) in
-    let made : new ≡ gathered old (lists sent fetched) row.result.fetches =
-    gather_made s.settings s.image s.sent.items sent s.fetched.items fetched (drop s.committed s.waves.items) (drop s.taken s.tasks.items) s.hands.items kept (map (kept_task fetched s.image) s.finished.items) plan tasks row.result.fetches anew same planned ready in (
+    let made : new ≡ gathered old (lists sent fetched) fetches =
+    gather_made s.settings s.image s.sent.items sent s.fetched.items fetched (drop s.committed s.waves.items) (drop s.taken s.tasks.items) s.hands.items kept (map (kept_task fetched s.image) s.finished.items) plan tasks fetches anew same planned ready in (
       stops_below row.result.count (length c.args.steps.now) row.result.wants_memory row.result.is_refused row.ensures.within row.ensures.stops is,
       subst (λ (w : World). IfSome (slice_get c.args.steps.now row.result.count) (λ (x : Step). is_allowed w x ≡ false)) (sym made)
-          (row_refused old (lists sent fetched) row.result.fetches row.result.is_refused (slice_get c.args.steps.now row.result.count) idle is row.ensures.refused),
+          (row_refused old (lists sent fetched) fetches row.result.is_refused (slice_get c.args.steps.now row.result.count) idle is row.ensures.refused),
     )
 
 pub returns-in-Err-clause-tried : goal.returns-in-Err-clause-tried

@@ -1,0 +1,42 @@
+//! How much room the lists of a world have.
+ghost use Rattle.std.specs.Prelude.{◌≡◌, ◌≤◌, [], min, vec_capacity};
+
+use crate::counts::COUNTED;
+use crate::lists::SentJobs;
+use crate::values::Fetched;
+
+/// How many jobs there is room for: in each client's list, and in that of the fetched ones.
+#[derive(Clone, Copy)]
+pub(crate) struct Rooms {
+    sent: [usize; COUNTED],
+    fetched: usize,
+}
+
+impl Rooms {
+    /// The room that the lists have.
+    pub(crate) fn of(sent: &[SentJobs], fetched: &Vec<Fetched>) -> Rooms
+        ensures { result.fetched ≡ vec_capacity fetched.now }
+    {
+        let mut rooms = [0; COUNTED];
+        for i in 0..sent.len().min(COUNTED) {
+            rooms[i] = sent[i].room();
+        }
+        Rooms {
+            sent: rooms,
+            fetched: fetched.capacity(),
+        }
+    }
+
+    /// Gives back what the lists have more than this room, as far as their jobs leave it.
+    pub(crate) fn give_back(&self, sent: &mut Vec<SentJobs>, fetched: &mut Vec<Fetched>)
+        ensures sent { sent.new.items ≡ sent.old.items }
+        ensures fetched { fetched.new.items ≡ fetched.old.items }
+        ensures kept { min self.now.fetched (vec_capacity fetched.old) ≤ vec_capacity fetched.new }
+        ensures frees { fetched.old.items ≡ [] → self.now.fetched ≡ 0 → vec_capacity fetched.new ≡ 0 }
+    {
+        for i in 0..sent.len().min(COUNTED) {
+            sent[i].give_back(self.sent[i]);
+        }
+        fetched.shrink_to(self.fetched);
+    }
+}

@@ -69,6 +69,9 @@ end_each='dml_core:refused_row dml_core:refused_longest_row dml_core:refused_lon
 # The tests of such calls that make their inputs, and whose set-up says which steps want memory.
 say_ends='dml_core:refused_made_rows'
 
+# The tests that make the calls of another one in parts: each step at which that one ends is one at which they end.
+in_parts='dml_core:refused_made_rows_by_steps'
+
 # repeated N WORD: the word, so many times
 repeated() {
     printf "%$1s" '' | sed "s/ / $2/g"
@@ -213,7 +216,7 @@ library() {
                 complain "$key: growth $number: status $status: $(cat "$work/out")"
             fi
             [ -f "$work/log" ] || break
-            ! is_in "$key" "$end_each $say_ends" || grep -q '^ended ' "$work/out" ||
+            ! is_in "$key" "$end_each $say_ends $in_parts" || grep -q '^ended ' "$work/out" ||
                 complain "$key: growth $number: the call does without it"
             sed -n 's/^ended at //p' "$work/out" >>"$work/ends"
             number=$((number + 1))
@@ -221,10 +224,73 @@ library() {
         ! is_in "$key" "$end_each" || [ "$(echo $(cat "$work/ends"))" = "$(ends_of "$key")" ] ||
             complain "$key: ends at steps $(echo $(cat "$work/ends")), and not at $(ends_of "$key")"
         ! is_in "$key" "$say_ends" || says_ends "$key" "$binary" "$test"
+        ! is_in "$key" "$say_ends $in_parts" || sort -u "$work/ends" >"$work/ends_${test##*:}"
         counted "$key" "$((number - 1 - before))"
         ! is_in "$key" "$want_records" || wants_records "$key" "$binary" "$test" "$before"
     done
 }
+
+# ---- rows of the core under a limit on all memory
+
+# under BYTES TEST: runs a test of the core's with so many bytes left behind those of its set-up, whose growths are
+# $before: what it says stands in the file `out`, and a line for each refusal in the file `log`
+under() {
+    : >"$work/log"
+    REFUSE_ABOVE=$1 REFUSE_FROM=$((before + 1)) REFUSE_LOG=$work/log LD_PRELOAD=$work/refuse.so \
+        "$core_tests" "tests::limits::$2" >"$work/out" 2>&1 </dev/null ||
+        complain "$2: with $1 bytes: fails: $(cat "$work/out")"
+}
+
+# said WORD: the number behind that word
+said() {
+    sed -n "s/.*$1 \([0-9]*\).*/\1/p" "$work/out"
+}
+
+# limited NAME BYTES..: takes steps by one call, and by calls of one step each, with so many bytes left.
+#
+# Where the one call ends, it names the step that the others end at, or the last fetch of the row in which that one lies.
+# Only where nothing but a list of more than a million bytes was refused may it come further than they do: the row's plan
+# has its room then. The step that is named, tried again alone, is taken exactly where the others took it. It is said how
+# often the one call met a second refusal, and behind which: that of the large list, or another, which is a plan's.
+limited() {
+    name=$1
+    shift
+    before=$(growths "$core_tests" "tests::limits::set_up_of_limited_$name")
+    whole_rows=0
+    behind_list=0
+    behind_plan=0
+    for bytes in "$@"; do
+        under "$bytes" "limited_${name}_alone"
+        alone=$(said 'ended at')
+        last=$(said 'up to')
+        under "$bytes" "limited_${name}_by_one_call"
+        whole=$(said 'ended at')
+        more=$(said 'then took')
+        first=$(sed -n '1s/.* //p' "$work/log")
+        refusals=$(($(wc -l <"$work/log") - 1 + ${more:-1}))
+        what="limited_$name, with $bytes bytes: one call ends at $whole, the others at $alone, behind $last"
+        if [ -z "$more" ]; then
+            whole_rows=$((whole_rows + 1))
+            [ "$refusals" = 0 ] || complain "$what: a refusal is not answered"
+            continue
+        fi
+        [ "$whole" = "$alone" ] || [ "$whole" = "$last" ] ||
+            { [ "$whole" -gt "$alone" ] && [ "$refusals" = 1 ] && [ "$first" -gt 1000000 ]; } || complain "$what"
+        [ "$more" = "$((whole < alone))" ] || complain "$what: then $more steps"
+        if [ "$refusals" -lt 2 ]; then
+            continue
+        elif [ "$first" -gt 1000000 ]; then
+            behind_list=$((behind_list + 1))
+        else
+            behind_plan=$((behind_plan + 1))
+        fi
+    done
+    printf 'refusals: dml_core, limited %s: %s limits: %s whole, %s with a refusal behind that of a large list, ' \
+        "$name" "$#" "$whole_rows" "$behind_list"
+    printf '%s with one behind that of a plan\n' "$behind_plan"
+}
+
+core_tests=crates/dml_core_tests/out/dml_core_tests_tests
 
 # ---- the program
 
@@ -264,10 +330,15 @@ libraries=$(sed -n 's/^\([a-z0-9_]*\)[^:#]*:.*/\1/p' crates.txt)
 for name in $libraries; do
     library "$name"
 done
+for key in $in_parts; do
+    whole=$work/ends_$(echo "${key#*:}" | sed 's/_by_steps$//')
+    others=$(comm -23 "$whole" "$work/ends_${key#*:}" | tr '\n' ' ')
+    [ -s "$whole" ] && [ -z "$others" ] || complain "$key: does not end at $others, where the whole calls end"
+done
 for twice in $(cut -d ' ' -f 1 "$work/counts" | sort | uniq -d); do
     complain "two tests of one crate are named $twice"
 done
-for wanted in $take_none $make_nothing $want_records $end_each $say_ends; do
+for wanted in $take_none $make_nothing $want_records $end_each $say_ends $in_parts; do
     grep -q "^$wanted " "$work/counts" || complain "there is no test $wanted"
 done
 

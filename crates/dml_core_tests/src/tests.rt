@@ -1,5 +1,6 @@
 //! Worlds and what their steps leave. The expected records and bytes are those of the jobs' definitions.
 
+mod limits;
 mod rows;
 
 use dml_core::{Fetched, Step, StepFault, World, WorldError};

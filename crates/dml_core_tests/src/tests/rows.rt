@@ -11,7 +11,7 @@ use std::test::Fail;
 const CLIENTS: u32 = 3;
 
 /// The most steps that have one plan.
-const MOST_STEPS: usize = 2048;
+pub(super) const MOST_STEPS: usize = 2048;
 
 /// Numbers that look thrown, the same at each run.
 #[derive(Drop)]
@@ -35,9 +35,9 @@ impl Dice {
 
 /// How many jobs each client sent, and how many of them were fetched.
 #[derive(Clone, Copy)]
-struct Counts {
-    sent: [usize; 3],
-    fetched: [usize; 3],
+pub(super) struct Counts {
+    pub(super) sent: [usize; 3],
+    pub(super) fetched: [usize; 3],
 }
 
 impl Counts {
@@ -78,7 +78,7 @@ impl Counts {
     }
 
     /// Counts some steps.
-    fn count_all(&mut self, steps: &[Step]) {
+    pub(super) fn count_all(&mut self, steps: &[Step]) {
         for step in steps {
             self.count(step);
         }
@@ -231,7 +231,7 @@ fn made_rows(alloc: Global) -> Option<Vec<Row>> {
 }
 
 /// The world behind so many of the steps of a row.
-fn expect_counts(rt: &impl Abort, world: &World, before: Counts, steps: &[Step]) {
+pub(super) fn expect_counts(rt: &impl Abort, world: &World, before: Counts, steps: &[Step]) {
     let mut counts = before;
     counts.count_all(steps);
     for client in 0..CLIENTS {
@@ -255,7 +255,7 @@ fn set_up_of_made_rows(rt: HostRuntime) -> Result<(), Fail> {
 }
 
 /// The world that a replay leaves, how many steps were taken, and whether memory was wanting for the next.
-fn replayed(alloc: Global, world: World, steps: &[Step]) -> (World, usize, bool) {
+pub(super) fn replayed(alloc: Global, world: World, steps: &[Step]) -> (World, usize, bool) {
     match world.replay(alloc, steps) {
         Ok(world) => (world, steps.len(), false),
         Err((world, fault)) => match fault {
@@ -293,5 +293,46 @@ fn refused_made_rows(rt: HostRuntime) -> Result<(), Fail> {
         }
         assert_eq!(rt; end, allowed);
     }
+    Ok(())
+}
+
+/// The rows by calls of one step each, so that each fetch has a plan of its own: they end at the first step that is not
+/// allowed, or at one for which memory is wanting. Then the lists are as long as they were before this step, and the
+/// call that is made again takes it.
+#[test]
+fn refused_made_rows_by_steps(rt: HostRuntime) -> Result<(), Fail> {
+    let rows = made_rows(rt.alloc()).ok_or("no memory")?;
+    for (index, row) in rows.into_iter().enumerate() {
+        let Row {
+            world,
+            before,
+            steps,
+            allowed,
+            ..
+        } = row;
+        let mut world = world;
+        for i in 0..allowed {
+            let step = steps.get(i..i.saturating_add(1)).ok_or("no step")?;
+            let (next, taken, is_short) = replayed(rt.alloc(), world, step);
+            world = next;
+            if is_short {
+                println!(rt; "ended at {index}:{i}").expect(&rt, "output");
+                expect_counts(&rt, &world, before, steps.get(..i).ok_or("no step")?);
+                let (_, taken, _) = replayed(rt.alloc(), world, step);
+                assert_eq!(rt; taken, 1);
+                return Ok(());
+            }
+            assert_eq!(rt; taken, 1);
+        }
+        expect_counts(&rt, &world, before, steps.get(..allowed).ok_or("no step")?);
+    }
+    Ok(())
+}
+
+/// What `refused_made_rows_by_steps` does before its calls.
+#[test]
+fn set_up_of_made_rows_by_steps(rt: HostRuntime) -> Result<(), Fail> {
+    let rows = made_rows(rt.alloc()).ok_or("no memory")?;
+    assert_eq!(rt; rows.len(), 40);
     Ok(())
 }

@@ -1,0 +1,223 @@
+//! Rows of submits and fetches under a limit on all memory, which tests/refusals.sh sets from the first request on that
+//! comes behind those of a set-up: taken by one call, and by calls of one step each. What both print is compared
+//! there.
+
+use super::rows::{Counts, MOST_STEPS, expect_counts, replayed};
+use super::{idle, world};
+use dml_core::{Step, World};
+use std::alloc::Global;
+use std::process::Abort;
+use std::test::Fail;
+
+/// A world, and the steps that it is to take. All of them are allowed; there is memory for no more than so many.
+#[derive(Drop)]
+struct Schedule {
+    world: World,
+    before: Counts,
+    steps: Vec<Step>,
+    most: usize,
+}
+
+/// Puts a client's submits behind some steps.
+fn push_submits(steps: &mut Vec<Step>, client: u32, count: u32) -> Option<()> {
+    for _ in 0..count {
+        steps.push(idle(client)).ok()?;
+    }
+    Some(())
+}
+
+/// Puts a client's fetches behind some steps.
+fn push_fetches(steps: &mut Vec<Step>, client: u32, count: u32) -> Option<()> {
+    for _ in 0..count {
+        steps.push(Step::Fetch { client }).ok()?;
+    }
+    Some(())
+}
+
+/// A world in which the first and the second client sent so many no-ops, and these steps to take.
+fn schedule_of(alloc: Global, first: u32, second: u32, steps: Vec<Step>) -> Option<Schedule> {
+    let mut sends = Vec::new(alloc);
+    push_submits(&mut sends, 0, first)?;
+    push_submits(&mut sends, 1, second)?;
+    let mut before = Counts {
+        sent: [0; 3],
+        fetched: [0; 3],
+    };
+    before.count_all(&sends);
+    let world = world(alloc, 3)?.replay(alloc, &sends).ok()?;
+    let most = steps.len();
+    Some(Schedule {
+        world,
+        before,
+        steps,
+        most,
+    })
+}
+
+/// One row of a thousand fetches.
+fn fetches(alloc: Global) -> Option<Schedule> {
+    let mut steps = Vec::new(alloc);
+    push_fetches(&mut steps, 0, 1000)?;
+    schedule_of(alloc, 16_000, 0, steps)
+}
+
+/// A row that ends before a submit, since the list that it makes longer is full and large. The list of another client
+/// grows before it, and more fetches stand behind it.
+fn full_list(alloc: Global) -> Option<Schedule> {
+    let mut steps = Vec::new(alloc);
+    push_fetches(&mut steps, 0, 100)?;
+    push_submits(&mut steps, 2, 100)?;
+    push_fetches(&mut steps, 0, 200)?;
+    push_submits(&mut steps, 2, 10)?;
+    let most = steps.len();
+    push_submits(&mut steps, 1, 1)?;
+    push_fetches(&mut steps, 0, 100)?;
+    let schedule = schedule_of(alloc, 1000, 16_384, steps)?;
+    Some(Schedule { most, ..schedule })
+}
+
+/// Two rows, the first of them as long as a row may be. Submits of two clients stand between the fetches.
+fn two_rows(alloc: Global) -> Option<Schedule> {
+    let mut steps = Vec::new(alloc);
+    for client in 0..3 {
+        push_fetches(&mut steps, 0, 200)?;
+        push_submits(&mut steps, client, 500)?;
+    }
+    push_fetches(&mut steps, 0, 200)?;
+    schedule_of(alloc, 1000, 0, steps)
+}
+
+/// The last fetch of the row in which a step lies, or that ends before it; the step itself, where there is none.
+fn last_fetch(steps: &[Step], step: usize) -> usize {
+    let mut row = 0..0;
+    let mut last = step;
+    for (i, other) in steps.iter().enumerate() {
+        let fetches = matches!(*other, Step::Fetch { .. });
+        if fetches && !row.contains(&i) {
+            row = i..i.saturating_add(MOST_STEPS);
+        }
+        if fetches && row.contains(&step) {
+            last = i;
+        }
+    }
+    last
+}
+
+/// The steps by one call, and then, where memory was wanting, the one that it names alone. The lists are as long as
+/// they were before it.
+fn expect_whole(
+    rt: &(impl Abort + std::io::Print),
+    alloc: Global,
+    schedule: Schedule,
+) -> Option<()> {
+    let Schedule {
+        world,
+        before,
+        steps,
+        ..
+    } = schedule;
+    let (world, end, is_short) = replayed(alloc, world, &steps);
+    println!(rt; "ended at {end}").ok()?;
+    expect_counts(rt, &world, before, steps.get(..end)?);
+    if is_short {
+        let next = end.saturating_add(1);
+        let (world, more, _) = replayed(alloc, world, steps.get(end..next)?);
+        println!(rt; "then took {more}").ok()?;
+        expect_counts(rt, &world, before, steps.get(..end.saturating_add(more))?);
+    }
+    Some(())
+}
+
+/// The steps by calls of one step each, up to the first for which memory is wanting.
+fn expect_alone(
+    rt: &(impl Abort + std::io::Print),
+    alloc: Global,
+    schedule: Schedule,
+) -> Option<()> {
+    let Schedule {
+        world,
+        before,
+        steps,
+        most,
+    } = schedule;
+    let mut world = world;
+    let mut end = 0;
+    for i in 0..steps.len() {
+        let (next, more, _) = replayed(alloc, world, steps.get(i..i.saturating_add(1))?);
+        world = next;
+        if more == 0 {
+            break;
+        }
+        end = i.saturating_add(1);
+    }
+    let last = last_fetch(steps.get(..most)?, end);
+    println!(rt; "ended at {end}, in the row up to {last}").ok()?;
+    expect_counts(rt, &world, before, steps.get(..end)?);
+    Some(())
+}
+
+/// What both tests of the fetches do before their calls.
+#[test]
+fn set_up_of_limited_fetches(rt: HostRuntime) -> Result<(), Fail> {
+    let schedule = fetches(rt.alloc()).ok_or("no memory")?;
+    expect_counts(&rt, &schedule.world, schedule.before, &[]);
+    Ok(())
+}
+
+#[test]
+fn limited_fetches_by_one_call(rt: HostRuntime) -> Result<(), Fail> {
+    let schedule = fetches(rt.alloc()).ok_or("no memory")?;
+    expect_whole(&rt, rt.alloc(), schedule).ok_or("no output")?;
+    Ok(())
+}
+
+#[test]
+fn limited_fetches_alone(rt: HostRuntime) -> Result<(), Fail> {
+    let schedule = fetches(rt.alloc()).ok_or("no memory")?;
+    expect_alone(&rt, rt.alloc(), schedule).ok_or("no output")?;
+    Ok(())
+}
+
+/// What both tests of the full list do before their calls.
+#[test]
+fn set_up_of_limited_full_list(rt: HostRuntime) -> Result<(), Fail> {
+    let schedule = full_list(rt.alloc()).ok_or("no memory")?;
+    expect_counts(&rt, &schedule.world, schedule.before, &[]);
+    Ok(())
+}
+
+#[test]
+fn limited_full_list_by_one_call(rt: HostRuntime) -> Result<(), Fail> {
+    let schedule = full_list(rt.alloc()).ok_or("no memory")?;
+    expect_whole(&rt, rt.alloc(), schedule).ok_or("no output")?;
+    Ok(())
+}
+
+#[test]
+fn limited_full_list_alone(rt: HostRuntime) -> Result<(), Fail> {
+    let schedule = full_list(rt.alloc()).ok_or("no memory")?;
+    expect_alone(&rt, rt.alloc(), schedule).ok_or("no output")?;
+    Ok(())
+}
+
+/// What both tests of the two rows do before their calls.
+#[test]
+fn set_up_of_limited_two_rows(rt: HostRuntime) -> Result<(), Fail> {
+    let schedule = two_rows(rt.alloc()).ok_or("no memory")?;
+    expect_counts(&rt, &schedule.world, schedule.before, &[]);
+    Ok(())
+}
+
+#[test]
+fn limited_two_rows_by_one_call(rt: HostRuntime) -> Result<(), Fail> {
+    let schedule = two_rows(rt.alloc()).ok_or("no memory")?;
+    expect_whole(&rt, rt.alloc(), schedule).ok_or("no output")?;
+    Ok(())
+}
+
+#[test]
+fn limited_two_rows_alone(rt: HostRuntime) -> Result<(), Fail> {
+    let schedule = two_rows(rt.alloc()).ok_or("no memory")?;
+    expect_alone(&rt, rt.alloc(), schedule).ok_or("no output")?;
+    Ok(())
+}

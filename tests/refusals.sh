@@ -246,51 +246,55 @@ said() {
     sed -n "s/.*$1 \([0-9]*\).*/\1/p" "$work/out"
 }
 
-# limited NAME BYTES..: takes steps by one call, and by calls of one step each, with so many bytes left.
+# limited NAME LASTS BYTES..: takes steps by one call, and by calls of one step each, with so many bytes left. LASTS are
+# the last fetches of the rows.
 #
-# Where the one call ends, it names the step that the others end at, or the last fetch of the row in which that one lies.
-# Only where nothing but a list of more than a million bytes was refused may it come further than they do: the row's plan
-# has its room then. The step that is named, tried again alone, is taken exactly where the others took it. It is said how
-# often the one call met a second refusal, and behind which: that of the large list, or another, which is a plan's.
+# Where the others come further than the one call, that one names the last fetch of a row, whose submits behind it are
+# in the lists when the plan is refused. Where it comes further than they do, no plan of its rows was refused: they hold
+# the plan of each fetch, and it that of a row. Else both end at the same step. The step that is named, tried again
+# alone, is taken exactly where the others took it. Counted are the calls that met a second refusal before they ended,
+# behind that of a list of more than a million bytes, or behind another.
 limited() {
     name=$1
-    shift
+    lasts=$2
+    shift 2
     before=$(growths "$core_tests" "tests::limits::set_up_of_limited_$name")
-    whole_rows=0
     behind_list=0
-    behind_plan=0
+    behind_other=0
     for bytes in "$@"; do
         under "$bytes" "limited_${name}_alone"
         alone=$(said 'ended at')
-        last=$(said 'up to')
         under "$bytes" "limited_${name}_by_one_call"
         whole=$(said 'ended at')
         more=$(said 'then took')
         first=$(sed -n '1s/.* //p' "$work/log")
         refusals=$(($(wc -l <"$work/log") - 1 + ${more:-1}))
-        what="limited_$name, with $bytes bytes: one call ends at $whole, the others at $alone, behind $last"
-        if [ -z "$more" ]; then
-            whole_rows=$((whole_rows + 1))
-            [ "$refusals" = 0 ] || complain "$what: a refusal is not answered"
-            continue
+        what="limited $name, with $bytes bytes: one call ends at $whole, the others at $alone"
+        if [ "$whole" -lt "$alone" ]; then
+            is_in "$whole" "$lasts" || complain "$what"
+        elif [ "$whole" -gt "$alone" ]; then
+            [ "$refusals" -lt 2 ] || complain "$what, with $refusals refusals"
         fi
-        [ "$whole" = "$alone" ] || [ "$whole" = "$last" ] ||
-            { [ "$whole" -gt "$alone" ] && [ "$refusals" = 1 ] && [ "$first" -gt 1000000 ]; } || complain "$what"
-        [ "$more" = "$((whole < alone))" ] || complain "$what: then $more steps"
-        if [ "$refusals" -lt 2 ]; then
-            continue
-        elif [ "$first" -gt 1000000 ]; then
+        [ "${more:-0}" = "$((whole < alone))" ] || complain "$what: then $more steps"
+        [ -n "$more" ] || [ "$refusals" = 0 ] || complain "$what: a refusal is not answered"
+        if [ "$refusals" -gt 1 ] && [ "$first" -gt 1000000 ]; then
             behind_list=$((behind_list + 1))
-        else
-            behind_plan=$((behind_plan + 1))
+        elif [ "$refusals" -gt 1 ]; then
+            behind_other=$((behind_other + 1))
         fi
     done
-    printf 'refusals: dml_core, limited %s: %s limits: %s whole, %s with a refusal behind that of a large list, ' \
-        "$name" "$#" "$whole_rows" "$behind_list"
-    printf '%s with one behind that of a plan\n' "$behind_plan"
+    printf 'refusals: dml_core, limited %s: %s limits, %s with two refusals and more, %s of these behind a large list\n' \
+        "$name" "$#" "$((behind_list + behind_other))" "$behind_list"
 }
 
 core_tests=crates/dml_core_tests/out/dml_core_tests_tests
+limited fetches 999 2000 8000 32000 65536 212500 216000 220000 262144
+# The list of all that are fetched, 90,112 bytes, has its room here, so what is refused first is a plan.
+limited fetches 999 131072 160000 200000
+[ "$behind_other" = 3 ] || complain 'limited fetches: no step was refused behind a plan'
+limited full_list 399 2000 16000 32000 65536 100000 107500 131072 262144
+[ "$behind_list" -gt 0 ] || complain 'limited full_list: no plan was refused behind a list'
+limited two_rows '1599 2299' 2000 16000 52000 131072 200000 262144 284500 290500 296500 300000 400000
 
 # ---- the program
 

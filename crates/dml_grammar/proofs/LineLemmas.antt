@@ -1,6 +1,6 @@
 -- Laws of lines: the sizes of their values, the order of their faults, and what may come next.
-use Rattle.std.proofs.Common.{◌≡◌, ℕ, zero, suc, ◌+◌, ◌*◌, ◌/◌, ◌^◌, ◌<◌, ◌≤◌, List, [], ◌∷◌, ◌++◌, length, map, get_or, refl, sym, ◌∙◌, ap, subst, arith, Bool, true, false, ◌&&◌, Option, Some, None, unwrap_or, is_none, Ok, Err, inl, inr, nat_le}
-use Rattle.std.specs.List.{list_all}
+use Rattle.std.proofs.Common.{◌≡◌, ℕ, zero, suc, ◌+◌, ◌*◌, ◌/◌, ◌^◌, ◌<◌, ◌≤◌, List, [], ◌∷◌, ◌++◌, length, map, get_or, take, drop, refl, sym, ◌∙◌, ap, subst, arith, Bool, true, false, ◌&&◌, Option, Some, None, unwrap_or, is_none, Ok, Err, inl, inr, nat_eq, nat_le}
+use Rattle.std.specs.List.{list_all, position_or_len}
 use Rattle.std.specs.Option.{option_and_then}
 use Rattle.std.specs.Result.{result_ok}
 use Rattle.std.proofs.lemmas.Bool.{cases_Bool, le-ltb, leb-true, ltb-true, and_parts, not-false}
@@ -22,7 +22,8 @@ use Rattle.dml_grammar.specs.Grammar as grammar
 use Rattle.dml_grammar.specs.Number.{word_number, at_most, word_bytes}
 use Rattle.dml_grammar.specs.Reads.{Fails, FitsAt, FitsJob, HasSizes, IsNext}
 use Rattle.dml_grammar.specs.Table.{parts_of, descriptor_digits, word_named}
-use Rattle.dml_grammar.specs.Text.{is_text}
+use Rattle.dml_grammar.specs.Text.{is_blank, is_text, words}
+use Rattle.dml_grammar.proofs.WordLemmas.{first_of_word, words_at_word}
 
 abbrev pub Entries : Type 0
 Entries = List grammar.Entry
@@ -56,6 +57,28 @@ pub placed_rest : (text first : List ℕ) (after : List (List ℕ)) (before : Li
     → grammar.first_of (grammar.faults_of text first after before) ≡ grammar.first_of (grammar.rest_faults named after before)
 placed_rest text first after before named short ascii is none =
     rw (le-ltb grammar.longest_line (length text) short, ascii, is) (first_of_more (grammar.place_faults named before) (grammar.rest_faults named after before) none)
+
+-- a line whose first word begins with `#`, and one whose first word does not
+
+comment_some : (text : List ℕ) → grammar.is_comment text ≡ true → 0 < length text
+comment_some [] is = cc
+comment_some (c ∷ cs) is = omega arith
+
+pub comment_skipped : (line text : List ℕ) (before : List Line) → words text ≡ words line
+    → (0 < length text → is_blank (get_or text 0 0) ≡ false) → grammar.is_comment text ≡ true → grammar.Skipped ≡ grammar.verdict line before
+comment_skipped line text before same begins is =
+    let some : 0 < length text = comment_some text is in
+    let n : ℕ = position_or_len is_blank text in
+    let split : words text ≡ take n text ∷ words (drop n text) = words_at_word text n refl some (begins some) in
+    let first : grammar.is_comment (take n text) ≡ true = ap (λ c. nat_eq c 35) (first_of_word text n refl some (begins some)) ∙ is in
+    rw (sym same ∙ split, first) refl
+
+pub judged_words : (line text first : List ℕ) (after : List (List ℕ)) (before : List Line) → words text ≡ words line → words text ≡ first ∷ after
+    → get_or first 0 0 ≡ get_or text 0 0 → grammar.is_comment text ≡ false
+    → grammar.verdict line before ≡ grammar.judged (grammar.first_of (grammar.faults_of line first after before)) (word_named first) after
+judged_words line text first after before same split begins read =
+    let other : grammar.is_comment first ≡ false = ap (λ c. nat_eq c 35) begins ∙ read in
+    rw (sym same ∙ split, other) refl
 
 -- Sizes. The entries of a line have the slots of its parts.
 

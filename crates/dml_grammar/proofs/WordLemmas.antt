@@ -5,7 +5,7 @@ use Rattle.std.specs.Str.Lines.{lines, lines_of_parts, strip_carriage_return}
 use Rattle.std.specs.Bool.{nat_eq}
 use Rattle.std.proofs.lemmas.List.Splits.{slice_split_first, slice_split_none, length-slice_split, slice_split-cons_yes}
 use Rattle.std.proofs.lemmas.List.Sums.{position_or_len_is, prefix_len_is, fails_before_first, passes_at_first, prefix_len_stops, prefix_len-le-length}
-use Rattle.std.proofs.lemmas.List.{take_all, drop_all, drop-drop, drop_more, length-take, length-drop, get_or-drop, nil_from_length}
+use Rattle.std.proofs.lemmas.List.{take_all, drop_all, drop-drop, drop_more, length-take, length-drop, get_or-drop, get_or-take, nil_from_length}
 use Rattle.std.proofs.lemmas.Bool.{cases_lt, cond-true, cond-false, ne_eqb, not_from_false, false_from_ne_true, both_ways}
 use Rattle.memchr.specs.Find.{IsFirstByte, is_byte, is_byte2}
 use Rattle.dml_grammar.specs.Text.{is_blank, words}
@@ -79,7 +79,7 @@ words_after_blank : (c : ℕ) (line : List ℕ) → is_blank c ≡ true → word
 words_after_blank c line blank =
     ap (filter (λ word. not (nat_eq (length word) 0))) (slice_split-cons_yes is_blank c line blank)
 
-blanks_skipped : (line : List ℕ) (n : ℕ) → n ≡ prefix_len is_blank line → words line ≡ words (drop n line)
+pub blanks_skipped : (line : List ℕ) (n : ℕ) → n ≡ prefix_len is_blank line → words line ≡ words (drop n line)
 blanks_skipped [] n at = rw at refl
 blanks_skipped (c ∷ line) n at =
     elim (is_blank c) as (λ b. is_blank c ≡ b → n ≡ cond b (1 + prefix_len is_blank line) 0 → words (c ∷ line) ≡ words (drop n (c ∷ line))) [
@@ -90,8 +90,8 @@ blanks_skipped (c ∷ line) n at =
       | false ↦ λ _ at. rw at refl
     ] refl at
 
-pub words_none : (line : List ℕ) (n : ℕ) → n ≡ prefix_len is_blank line → length (drop n line) ≡ 0 → words line ≡ []
-words_none line n at none = blanks_skipped line n at ∙ ap words (nil_from_length _ none)
+pub no_words : (line text : List ℕ) → words text ≡ words line → length text ≡ 0 → [] ≡ words line
+no_words line text same none = ap words (sym (nil_from_length text none)) ∙ same
 
 abbrev some_word : List ℕ → Bool
 some_word word = not (nat_eq (length word) 0)
@@ -102,8 +102,8 @@ filter_keeps (c ∷ cs) others some =
     cond-true (some_word (c ∷ cs)) ((c ∷ cs) ∷ filter some_word others) (filter some_word others) (not_from_false _ (ne_eqb _ _ (λ e. omega arith)))
 
 -- the words of a line from its first word on
-words_at_word : (line : List ℕ) (n : ℕ) → n ≡ position_or_len is_blank line → 0 < n → words line ≡ take n line ∷ words (drop n line)
-words_at_word line n at some =
+words_from_word : (line : List ℕ) (n : ℕ) → n ≡ position_or_len is_blank line → 0 < n → words line ≡ take n line ∷ words (drop n line)
+words_from_word line n at some =
     elim (cases_lt n (length line)) as (λ _. words line ≡ take n line ∷ words (drop n line)) [
       | inl low ↦
           let inside : position_or_len is_blank line < length line = omega arith in
@@ -122,25 +122,37 @@ words_at_word line n at some =
           rw (all, none) (ap (filter some_word) cut ∙ filter_keeps line [] long)
     ]
 
--- a word of at least one byte begins where the blanks end
-word_is_long : (line : List ℕ) (skip n : ℕ) → skip ≡ prefix_len is_blank line → 0 < length (drop skip line) → n ≡ position_or_len is_blank (drop skip line)
-    → 0 < n
-word_is_long line skip n at some word =
+-- no blank stands where the blanks that a line begins with end
+pub no_blank_behind : (line : List ℕ) (skip : ℕ) → skip ≡ prefix_len is_blank line → 0 < length (drop skip line)
+    → is_blank (get_or (drop skip line) 0 0) ≡ false
+no_blank_behind line skip at some =
+    let low : prefix_len is_blank line < length line = omega (arith, length-drop skip line) in
+    let no : is_blank (get_or line (prefix_len is_blank line) 0) ≡ false = prefix_len_stops is_blank line 0 low in
+    let place : get_or (drop skip line) 0 0 ≡ get_or line (prefix_len is_blank line) 0 =
+    get_or-drop skip line 0 0 ∙ ap (λ k. get_or line k 0) (let k : skip + 0 ≡ prefix_len is_blank line = omega arith in k) in
+    rw place no
+
+-- a word has at least one byte
+word_is_long : (text : List ℕ) (n : ℕ) → n ≡ position_or_len is_blank text → 0 < length text → is_blank (get_or text 0 0) ≡ false → 0 < n
+word_is_long text n word some begins =
     elim (cases_lt 0 n) as (λ _. 0 < n) [
       | inl low ↦ low
       | inr zero_n ↦
-          let inside : position_or_len is_blank (drop skip line) < length (drop skip line) = omega arith in
-          let e : position_or_len is_blank (drop skip line) ≡ 0 = omega arith in
-          let yes : is_blank (get_or (drop skip line) (position_or_len is_blank (drop skip line)) 0) ≡ true = passes_at_first is_blank (drop skip line) 0 inside in
-          let low : prefix_len is_blank line < length line = omega (arith, length-drop skip line) in
-          let no : is_blank (get_or line (prefix_len is_blank line) 0) ≡ false = prefix_len_stops is_blank line 0 low in
-          let here : is_blank (get_or (drop skip line) 0 0) ≡ true = rw e at yes in
-          let place : get_or (drop skip line) 0 0 ≡ get_or line (prefix_len is_blank line) 0 =
-          get_or-drop skip line 0 0 ∙ ap (λ k. get_or line k 0) (let k : skip + 0 ≡ prefix_len is_blank line = omega arith in k) in
-          absurd (both_ways _ no (rw place at here))
+          let inside : position_or_len is_blank text < length text = omega arith in
+          let e : position_or_len is_blank text ≡ 0 = omega arith in
+          let yes : is_blank (get_or text (position_or_len is_blank text) 0) ≡ true = passes_at_first is_blank text 0 inside in
+          absurd (both_ways _ begins (rw e at yes))
     ]
+
+pub words_at_word : (text : List ℕ) (n : ℕ) → n ≡ position_or_len is_blank text → 0 < length text → is_blank (get_or text 0 0) ≡ false
+    → words text ≡ take n text ∷ words (drop n text)
+words_at_word text n word some begins = words_from_word text n word (word_is_long text n word some begins)
+
+pub first_of_word : (text : List ℕ) (n : ℕ) → n ≡ position_or_len is_blank text → 0 < length text → is_blank (get_or text 0 0) ≡ false
+    → get_or (take n text) 0 0 ≡ get_or text 0 0
+first_of_word text n word some begins = get_or-take n text 0 0 (word_is_long text n word some begins)
 
 pub words_split : (line : List ℕ) (skip n : ℕ) → skip ≡ prefix_len is_blank line → 0 < length (drop skip line) → n ≡ position_or_len is_blank (drop skip line)
     → words line ≡ take n (drop skip line) ∷ words (drop n (drop skip line))
 words_split line skip n at some word =
-    blanks_skipped line skip at ∙ words_at_word (drop skip line) n word (word_is_long line skip n at some word)
+    blanks_skipped line skip at ∙ words_at_word (drop skip line) n word some (no_blank_behind line skip at some)

@@ -1,6 +1,5 @@
 pub mod Digits
 pub mod Faults
-pub mod FirstByte
 pub mod FirstFault
 pub mod Grammar
 pub mod Lanes

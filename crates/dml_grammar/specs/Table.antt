@@ -1,6 +1,5 @@
 -- The table of lines: which words may come after a first word, and what each of them is.
-use Rattle.std.specs.Prelude.{ℕ, List, [], ◌∷◌, Option, codes, bytes_eq, find, map}
-use Rattle.std.specs.Borrow.{Bor}
+use Rattle.std.specs.Prelude.{ℕ, List, [], ◌∷◌, Option, codes, bytes_eq, find}
 use Rattle.std.specs.Option.{option_map}
 use Rattle.dml_types.specs.declared.operations.Op.{Op}
 use Rattle.dml_types.specs.declared.operations.Op.TheVariants.{NoOp, Move, Fill, Compare, ComparePattern, CreateDelta, ApplyDelta, Dualcast}
@@ -25,10 +24,6 @@ first_words =
 
 abbrev pub find_word : List (List ℕ × Word) → List ℕ → Option Word
 find_word rows text = option_map (λ row. row.1) (find (λ row. bytes_eq text row.0) rows)
-
--- the rows of a table, behind their references
-abbrev pub rows_seen : List (Bor (List ℕ) × Word) → List (List ℕ × Word)
-rows_seen rows = map (λ row. (row.0.now, row.1)) rows
 
 abbrev pub word_named : List ℕ → Option Word
 word_named text = find_word first_words text

@@ -1,6 +1,6 @@
 //! The words of a line, fitted to the parts that its first word has, and what they write.
 
-ghost use Rattle.std.specs.Prelude.{◌≡◌, ◌≤◌, ◌∷◌, ◌++◌, [], length, IfOk, IfErr, IfSome, OnOk, Some, None, true, false};
+ghost use Rattle.std.specs.Prelude.{◌≡◌, ◌<◌, ◌≤◌, ◌∷◌, ◌++◌, [], length, IfOk, IfErr, IfSome, OnOk, Some, None, true, false};
 ghost use Rattle.std.specs.Option.{option_map};
 ghost use Rattle.dml_grammar.specs.Grammar as grammar;
 ghost use Rattle.dml_grammar.specs.NumberLines.{is_number, are_numbers, entries_fault, entries_numbers, Takes};
@@ -114,10 +114,13 @@ impl Values {
     }
 }
 
-/// What a word writes, as its slot says: a number, or bytes.
-fn read_word(alloc: Global, slot: Slot, word: &[u8]) -> Result<(Option<u64>, Vec<u8>), ReadError>
-    ensures number { IfOk result (λ v. v.0 ≡ grammar.slot_number slot (Some word.now)) }
-    ensures bytes { IfOk result (λ v. v.1.items ≡ grammar.slot_bytes slot (Some word.now)) }
+/// Adds what a word writes, as its slot says: a number, or bytes.
+fn read_word(alloc: Global, slot: Slot, word: &[u8], values: &mut Values) -> Result<(), ReadError>
+    requires { length values.old.numbers.items < MOST_PARTS }
+    ensures number { OnOk result (values.new.numbers.items
+        ≡ values.old.numbers.items ++ grammar.slot_number slot (Some word.now) ∷ []) }
+    ensures bytes { OnOk result (values.new.bytes.items
+        ≡ values.old.bytes.items ++ grammar.slot_bytes slot (Some word.now)) }
     ensures fine { OnOk result ((grammar.slot_fault slot (Some word.now)).0 ≡ false) }
     ensures err { IfErr result (λ e. Fails e (grammar.first_of (grammar.slot_fault slot (Some word.now) ∷ []))) }
 {
@@ -126,48 +129,46 @@ fn read_word(alloc: Global, slot: Slot, word: &[u8]) -> Result<(Option<u64>, Vec
             let Some(number) = bounded_number(largest, word) else {
                 return Err(ReadError::Fault(Kind::BadNumber));
             };
-            Ok((Some(number), Vec::new(alloc)))
+            values.numbers.push(Some(number));
         }
         Slot::Digits(least, most) => {
             let Some(bytes) = word_bytes(alloc, least, most, word)? else {
                 return Err(ReadError::Fault(Kind::BadHex));
             };
-            Ok((None, bytes))
+            values.numbers.push(None);
+            join(&mut values.bytes, bytes)?;
         }
     }
+    Ok(())
 }
 
-/// Some bytes, and more after them.
-fn joined(mut bytes: Vec<u8>, more: Vec<u8>) -> Result<Vec<u8>, AllocError>
-    ensures { IfOk result (λ all. all.items ≡ bytes.items ++ more.items) }
+/// Adds more bytes.
+fn join(bytes: &mut Vec<u8>, more: Vec<u8>) -> Result<(), AllocError>
+    ensures { OnOk result (bytes.new.items ≡ bytes.old.items ++ more.items) }
 {
     if bytes.is_empty() {
-        return Ok(more);
+        *bytes = more;
+        return Ok(());
     }
-    bytes.extend_from_slice(more.as_slice())?;
-    Ok(bytes)
+    bytes.extend_from_slice(more.as_slice())
 }
 
-/// What the words of a line write.
-pub fn read_entries(alloc: Global, entries: &[Entry]) -> Result<Values, ReadError>
+/// Reads what the words of a line write, in place of the values before.
+pub fn read_entries(alloc: Global, entries: &[Entry], values: &mut Values) -> Result<(), ReadError>
     requires { length entries.now ≤ MOST_PARTS }
-    ensures values { IfOk result (λ v. values_seen v ≡ grammar.values_of (entries_seen entries.now)) }
+    ensures values { OnOk result (values_seen values.new ≡ grammar.values_of (entries_seen entries.now)) }
     ensures fine { OnOk result (grammar.first_of (slot_faults entries.now) ≡ None) }
     ensures err { IfErr result (λ e. Fails e (grammar.first_of (slot_faults entries.now))) }
 {
-    let mut numbers = ArrayVec::new();
-    let mut bytes = Vec::new(alloc);
+    values.numbers.clear();
+    values.bytes.clear();
     for (slot, word) in entries {
         match *word {
-            None => numbers.push(None),
-            Some(word) => {
-                let (number, more) = read_word(alloc, *slot, word)?;
-                numbers.push(number);
-                bytes = joined(bytes, more)?;
-            }
+            None => values.numbers.push(None),
+            Some(word) => read_word(alloc, *slot, word, values)?,
         }
     }
-    Ok(Values { numbers, bytes })
+    Ok(())
 }
 
 /// The largest number of a part that is one.

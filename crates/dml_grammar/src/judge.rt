@@ -1,12 +1,11 @@
 //! One line of text: skipped, read, or faulty.
 
 ghost use Rattle.std.specs.Prelude.{◌≡◌, ◌+◌, ◌<◌, [], length, IfOk, IfErr, IfSome, OnOk, Some, None, unwrap_or, true, false};
-ghost use Rattle.std.specs.List.{list_all};
 ghost use Rattle.dml_grammar.specs.Grammar as grammar;
 ghost use Rattle.dml_grammar.specs.NumberLines.{has_digits};
 ghost use Rattle.dml_grammar.specs.Reads.{Condemns, Fails, FitsAt, FitsFields, FitsJob, HasSizes, IsNext, line_seen, values_seen, fine_or_skipped};
 ghost use Rattle.dml_grammar.specs.Table.{word_named};
-ghost use Rattle.dml_grammar.specs.Text.{is_text, words};
+ghost use Rattle.dml_grammar.specs.Text.{words};
 
 use crate::entries::{Values, fit, read_entries, read_numbers};
 use crate::faults::{Kind, ReadError};
@@ -14,7 +13,7 @@ use crate::lines::{Bytes, Line};
 use crate::progress::Progress;
 use crate::table::{MOST_PARTS, Word, parts_of, word_named};
 use crate::text::is_text;
-use crate::words::next_word;
+use crate::words::{from_word, split_word};
 use dml_desc::decode;
 use dml_types::{Job, MOST_JOBS, Op};
 use std::alloc::Global;
@@ -23,11 +22,11 @@ use std::mem;
 /// The most bytes of a line.
 const LONGEST_LINE: usize = 16_384;
 
-/// Whether the first byte of a word is `#`.
-fn is_comment(first: &[u8]) -> bool
-    ensures { result ≡ grammar.is_comment first.now }
+/// Whether a text that begins with a word begins with `#`.
+fn is_comment(text: &[u8]) -> bool
+    ensures { result ≡ grammar.is_comment text.now }
 {
-    matches!(first, [b'#', ..])
+    matches!(text, [b'#', ..])
 }
 
 /// Whether a line's numbers are out of range.
@@ -167,8 +166,7 @@ fn read_digit_words(
     let Some(entries) = fit(parts_of(word), rest) else {
         return Err(ReadError::Fault(Kind::WrongWords));
     };
-    let read = read_entries(alloc, entries.as_slice())?;
-    *values = read;
+    read_entries(alloc, entries.as_slice(), values)?;
     if is_out_of_range(word, values, progress) {
         return Err(ReadError::Fault(Kind::BadRange));
     }
@@ -305,6 +303,7 @@ fn read_line(
 
 /// What a line of text is after the lines read so far: its first word, and what the others write; None where it is
 /// skipped.
+#[tactic(auto, using(crate::proofs::LineLemmas::comment_skipped, crate::proofs::LineLemmas::judged_words, crate::proofs::WordLemmas::no_words))]
 pub fn judge(
     alloc: Global,
     progress: &Progress,
@@ -318,12 +317,11 @@ pub fn judge(
         IsNext progress.now (grammar.line_of word (values_seen values.new)))) }
     ensures err { IfErr result (λ e. Condemns e (grammar.verdict text.now progress.now)) }
 {
-    let Some((first, rest)) = next_word(text) else {
-        return Ok(None);
-    };
-    if is_comment(first) {
+    let words = from_word(text);
+    if words.is_empty() || is_comment(words) {
         return Ok(None);
     }
+    let (first, rest) = split_word(words);
     let word = read_line(alloc, progress, text, first, rest, values)?;
     Ok(Some(word))
 }

@@ -1,8 +1,7 @@
 //! The table of lines: which words may come after a first word, and what each of them is.
 
 ghost use Rattle.std.specs.Prelude.{◌≡◌, ◌≤◌, length};
-ghost use Rattle.dml_grammar.specs.Table.{rows_seen, find_word, word_named, job_parts, parts_of, suffix_text};
-ghost use Rattle.dml_grammar.specs.FirstByte.{rows_beginning};
+ghost use Rattle.dml_grammar.specs.Table.{word_named, job_parts, parts_of, suffix_text};
 
 use dml_types::Op;
 
@@ -65,68 +64,27 @@ const CHECK: Part = Part::Named(Suffix::Check, Slot::Number(0xff));
 
 const FLAGS: Part = Part::Named(Suffix::Flags, Slot::Number(0xff_ffff));
 
-/// The first words that begin with a byte.
-#[inline(always)]
-fn beginning_with(byte: u8) -> &'static [(&'static [u8], Word)]
-    ensures { rows_seen result.now ≡ rows_beginning byte }
-{
-    match byte {
-        b'i' => &[(b"image", Word::Image)],
-        b'p' => &[(b"page", Word::Page), (b"poke", Word::Poke)],
-        b'n' => &[(b"noop", Word::Job(Op::NoOp))],
-        b'm' => &[(b"move", Word::Job(Op::Move))],
-        b'f' => &[(b"fill", Word::Job(Op::Fill))],
-        b'c' => &[
-            (b"compare", Word::Job(Op::Compare)),
-            (b"compare-pattern", Word::Job(Op::ComparePattern)),
-            (b"create", Word::Job(Op::CreateDelta)),
-        ],
-        b'a' => &[(b"apply", Word::Job(Op::ApplyDelta))],
-        b'd' => &[(b"dualcast", Word::Job(Op::Dualcast))],
-        b'r' => &[(b"raw", Word::Raw)],
-        b'b' => &[(b"batch", Word::Batch)],
-        b'e' => &[(b"end", Word::End)],
-        b's' => &[(b"show", Word::Show)],
-        _ => &[],
-    }
-}
-
-/// The word beside a text in a table, if it is there.
-fn find_word(rows: &[(&[u8], Word)], text: &[u8]) -> Option<Word>
-    ensures { result ≡ find_word (rows_seen rows.now) text.now }
-{
-    for (name, word) in rows {
-        if text == *name {
-            return Some(*word);
-        }
-    }
-    None
-}
-
-/// The first word with this text, if it is one, by the table.
-#[inline(never)]
-fn word_in_table(text: &[u8]) -> Option<Word>
-    ensures { result ≡ word_named text.now }
-{
-    let first = text.first()?;
-    find_word(beginning_with(*first), text)
-}
-
-/// The first word with this text, if it is one. Most lines are those of jobs, whose words are told by their letters.
-#[inline(always)]
+/// The first word with this text, if it is one.
 pub fn word_named(text: &[u8]) -> Option<Word>
     ensures { result ≡ word_named text.now }
 {
     match text {
         b"move" => Some(Word::Job(Op::Move)),
         b"fill" => Some(Word::Job(Op::Fill)),
+        b"page" => Some(Word::Page),
+        b"poke" => Some(Word::Poke),
         b"noop" => Some(Word::Job(Op::NoOp)),
+        b"show" => Some(Word::Show),
+        b"raw" => Some(Word::Raw),
+        b"end" => Some(Word::End),
         b"apply" => Some(Word::Job(Op::ApplyDelta)),
+        b"batch" => Some(Word::Batch),
+        b"image" => Some(Word::Image),
         b"create" => Some(Word::Job(Op::CreateDelta)),
         b"compare" => Some(Word::Job(Op::Compare)),
         b"dualcast" => Some(Word::Job(Op::Dualcast)),
         b"compare-pattern" => Some(Word::Job(Op::ComparePattern)),
-        _ => word_in_table(text),
+        _ => None,
     }
 }
 

@@ -67,7 +67,7 @@ fn blank_len(text: &[u8]) -> usize
 /// The bytes of a step.
 const STEP: usize = 16;
 
-/// The bytes of a word behind which the search goes by vectors.
+/// The most bytes of a word whose end is looked for byte by byte.
 const NEAR: usize = 32;
 
 /// The place of the lowest bit that is set; 16 where none is.
@@ -106,7 +106,7 @@ fn long_word_len(text: &[u8]) -> usize
 }
 
 /// How many bytes a text begins with that are no blanks. Most words are short, and end in the first step; those that do
-/// not, and those at the end of a line, go byte by byte up to 32 bytes, and from there on by vectors.
+/// not, and those at the end of a line, go byte by byte up to 32 bytes. A longer word is looked through anew, by vectors.
 #[tactic(auto, using(crate::proofs::WordLemmas::position_or_len_at))]
 #[inline(always)]
 fn word_len(text: &[u8]) -> usize
@@ -125,15 +125,37 @@ fn word_len(text: &[u8]) -> usize
     if n == NEAR { long_word_len(text) } else { n }
 }
 
+/// A line from its first word on; nothing where it has no word.
+#[tactic(auto, using(crate::proofs::WordLemmas::blanks_skipped, crate::proofs::WordLemmas::no_blank_behind))]
+#[inline(always)]
+pub fn from_word(line: &[u8]) -> &[u8]
+    ensures words { text_spec.words result.now ≡ text_spec.words line.now }
+    ensures begins { 0 < length result.now → text_spec.is_blank (slice_index result.now 0) ≡ false }
+{
+    line.split_at(blank_len(line)).1
+}
+
+/// The first word of a text that begins with it, and what follows it.
+#[tactic(auto, using(crate::proofs::WordLemmas::words_at_word, crate::proofs::WordLemmas::first_of_word))]
+#[inline(always)]
+pub fn split_word(text: &[u8]) -> (&[u8], &[u8])
+    requires some { 0 < length text.now }
+    requires begins { text_spec.is_blank (slice_index text.now 0) ≡ false }
+    ensures words { text_spec.words text.now ≡ result.0.now ∷ text_spec.words result.1.now }
+    ensures first { slice_index result.0.now 0 ≡ slice_index text.now 0 }
+{
+    text.split_at(word_len(text))
+}
+
 /// The first word of a line, and what follows it; None where the line has no word.
-#[tactic(auto, using(crate::proofs::WordLemmas::words_none, crate::proofs::WordLemmas::words_split))]
+#[tactic(auto, using(crate::proofs::WordLemmas::no_words))]
 pub fn next_word(line: &[u8]) -> Option<(&[u8], &[u8])>
     ensures { MatchOption result (text_spec.words line.now ≡ [])
         (λ r. text_spec.words line.now ≡ r.0.now ∷ text_spec.words r.1.now) }
 {
-    let (_, text) = line.split_at(blank_len(line));
+    let text = from_word(line);
     if text.is_empty() {
         return None;
     }
-    Some(text.split_at(word_len(text)))
+    Some(split_word(text))
 }

@@ -1,4 +1,4 @@
-use Rattle.std.proofs.Common.{◌≡◌, ◌<◌, ◌≤◌, ◌*◌, ◌+◌, ◌^◌, length, get_or, arith}
+use Rattle.std.proofs.Common.{◌<◌, ◌≤◌, ◌*◌, ◌+◌, ◌^◌, length, get_or, arith}
 use Rattle.dml_grammar.specs.Digits.{worth}
 use Rattle.dml_grammar.proofs.DigitLemmas.{few_below, number_more}
 use Rattle.dml_grammar.proofs.leading.leading_hexadecimal.Goals as goal

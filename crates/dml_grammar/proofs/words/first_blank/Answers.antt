@@ -12,7 +12,7 @@ returns-clause-within c =
     let long = length-chunk 0 16 c.args.text.now c.requires in
     run_in_chunk_le is_blank c.args.text.now 0 16 c.lowest_bit.result 0 c.requires
     (first_lane _ is_blank v _ c.lowest_bit.result 16 long (omega arith) (chunk-fits w8 0 16 c.args.text.now c.type_inv.text)
-    (zip2_of_maps _ _ _ v (zip2_splat {Y = ℕ} _ v 16 32 long) (zip2_splat {Y = ℕ} _ v 16 9 long)) refl c.lowest_bit.ensures)
+    (zip2_of_maps _ _ _ v (zip2_splat {Y = ℕ} _ v 16 _ long) (zip2_splat {Y = ℕ} _ v 16 _ long)) refl c.lowest_bit.ensures)
 
 pub returns-clause-before : goal.returns-clause-before
 returns-clause-before c = λ k low.
@@ -20,7 +20,7 @@ returns-clause-before c = λ k low.
     let long = length-chunk 0 16 c.args.text.now c.requires in
     run_in_chunk_fails is_blank c.args.text.now 0 16 c.lowest_bit.result 0 c.requires
     (first_lane _ is_blank v _ c.lowest_bit.result 16 long (omega arith) (chunk-fits w8 0 16 c.args.text.now c.type_inv.text)
-    (zip2_of_maps _ _ _ v (zip2_splat {Y = ℕ} _ v 16 32 long) (zip2_splat {Y = ℕ} _ v 16 9 long)) refl c.lowest_bit.ensures)
+    (zip2_of_maps _ _ _ v (zip2_splat {Y = ℕ} _ v 16 _ long) (zip2_splat {Y = ℕ} _ v 16 _ long)) refl c.lowest_bit.ensures)
     k (omega arith) (omega arith)
 
 pub returns-clause-here : goal.returns-clause-here
@@ -30,4 +30,4 @@ returns-clause-here c = λ low.
     let at : 0 + c.lowest_bit.result ≡ c.lowest_bit.result = omega arith in
     rw at at (run_in_chunk_stops is_blank c.args.text.now 0 16 c.lowest_bit.result 0 c.requires
     (first_lane _ is_blank v _ c.lowest_bit.result 16 long (omega arith) (chunk-fits w8 0 16 c.args.text.now c.type_inv.text)
-    (zip2_of_maps _ _ _ v (zip2_splat {Y = ℕ} _ v 16 32 long) (zip2_splat {Y = ℕ} _ v 16 9 long)) refl c.lowest_bit.ensures) low)
+    (zip2_of_maps _ _ _ v (zip2_splat {Y = ℕ} _ v 16 _ long) (zip2_splat {Y = ℕ} _ v 16 _ long)) refl c.lowest_bit.ensures) low)

@@ -116,9 +116,8 @@ pub fn put_bytes(text: &mut [u8], bytes: &[u8])
 
 /// The two lower-case hexadecimal digits of a byte.
 #[inline(always)]
-pub fn byte_digits(byte: u8) -> (u8, u8)
-    ensures text { result.0 ∷ result.1 ∷ [] ≡ byte_text byte }
-    ensures ascii { (result.0 < 128) × (result.1 < 128) }
+fn byte_digits(byte: u8) -> (u8, u8)
+    ensures { result.0 ∷ result.1 ∷ [] ≡ byte_text byte }
 {
     (glyph(byte / 16), glyph(byte % 16))
 }
@@ -127,8 +126,7 @@ pub fn byte_digits(byte: u8) -> (u8, u8)
 #[inline(always)]
 fn glyph(digit: u8) -> u8
     requires { digit < 16 }
-    ensures value { result ≡ digit_glyph false digit }
-    ensures ascii { result < 128 }
+    ensures { result ≡ digit_glyph false digit }
 {
     if digit < 10 {
         b'0' + digit

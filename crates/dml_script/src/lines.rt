@@ -7,7 +7,7 @@ ghost use Rattle.dml_script.specs.Output.{batch_line, job_line};
 use crate::digits::{put_byte, put_number, put_text};
 use dml_types::{BatchRecord, Record};
 
-/// Room for the longest line of a record.
+/// Room for the longest line of a record, each of its numbers counted as one of 64 bits.
 pub const RECORD_ROOM: usize = 160;
 
 /// Puts the line of a job's record at the end of a buffer, and answers where it begins.

@@ -166,6 +166,7 @@ impl Session {
     {
         let text = self.take(alloc, line)?;
         write_all(writer, &text)?;
+        drop(text);
         Ok(lines.next_line(alloc)?)
     }
 

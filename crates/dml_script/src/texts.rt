@@ -57,7 +57,7 @@ fn record_text(alloc: Global, number: u32, answer: &Record) -> Result<String, Al
         fault,
         delta_size,
     } = *answer;
-    let mut text = String::with_capacity(alloc, RECORD_ROOM)?;
+    let mut text = String::with_capacity(alloc, JOB_ROOM)?;
     write!(text, "job {number} status ")?;
     push_byte(&mut text, status.code())?;
     write!(
@@ -67,8 +67,8 @@ fn record_text(alloc: Global, number: u32, answer: &Record) -> Result<String, Al
     Ok(text)
 }
 
-/// Room for the longest line of a record.
-const RECORD_ROOM: usize = 112;
+/// Room for the longest line of a job's record.
+const JOB_ROOM: usize = 112;
 
 fn batch_text(alloc: Global, answer: &BatchRecord) -> Result<String, AllocError>
     ensures { IfOk result (λ text. string_bytes text ≡ batch_line answer.now) }

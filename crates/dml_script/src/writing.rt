@@ -1,6 +1,6 @@
 //! Writing an answer, and all of some bytes.
 
-ghost use Rattle.std.specs.Prelude.{◌≡◌, ◌≢◌, ◌+◌, ◌^◌, ◌<◌, ◌≤◌, [], false, true, length, take, Err, IfErr, IfOk, IsErrOf, OnOk, OnErr};
+ghost use Rattle.std.specs.Prelude.{◌≡◌, ◌≢◌, ◌+◌, ◌^◌, ◌<◌, ◌≤◌, [], false, true, length, take, Err, IfErr, IfOk, OnOk, OnErr};
 ghost use Rattle.std.specs.Io.KnownBytes.{Keeps};
 ghost use Rattle.dml_script.specs.AnswerLaws.{job_lines};
 ghost use Rattle.dml_script.specs.Output.{batch_line, job_line};
@@ -121,8 +121,8 @@ pub fn write_batch<W: Write>(
     ensures failed { OnErr result (has_failed writer.new ≡ true) }
 {
     let mut line = [0; RECORD_ROOM];
-    let at = put_batch(&mut line, answer);
-    write_all(writer, &line[at..])
+    let start = put_batch(&mut line, answer);
+    write_all(writer, &line[start..])
 }
 
 /// Writes all of some bytes, and flushes the writer.

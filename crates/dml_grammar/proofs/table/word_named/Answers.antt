@@ -1,7 +1,7 @@
 use Rattle.std.proofs.Common.{ℕ, List, [], ◌∷◌, get_or, arith, refl, codes}
 use Rattle.std.proofs.lemmas.Bool.{ne_eqb}
 use Rattle.dml_types.specs.declared.operations.Op.TheVariants.{NoOp, Move, Fill, Compare, ComparePattern, CreateDelta, ApplyDelta, Dualcast}
-use Rattle.dml_grammar.specs.declared.table.Word.TheVariants.{Batch, Image, Job}
+use Rattle.dml_grammar.specs.declared.table.Word.TheVariants.{Batch, Image, Job, Page, Poke, Show}
 use Rattle.dml_grammar.proofs.TableLemmas.{named_by_letters, unnamed_by_letters}
 use Rattle.dml_grammar.proofs.table.word_named.Goals as goal
 
@@ -36,6 +36,18 @@ returns-in-dualcast c =
 pub returns-in-99 : goal.returns-in-99
 returns-in-99 c =
     named_by_letters c.args.text.now (codes "compare-pattern") (Job ComparePattern) (omega arith) (omega arith, (omega arith, (omega arith, (omega arith, (omega arith, (omega arith, (omega arith, (omega arith, (omega arith, (omega arith, (omega arith, (omega arith, (omega arith, (omega arith, (omega arith, tt))))))))))))))) refl
+
+pub returns-in-page : goal.returns-in-page
+returns-in-page c =
+    named_by_letters c.args.text.now (codes "page") Page (omega arith) (omega arith, (omega arith, (omega arith, (omega arith, tt)))) refl
+
+pub returns-in-poke : goal.returns-in-poke
+returns-in-poke c =
+    named_by_letters c.args.text.now (codes "poke") Poke (omega arith) (omega arith, (omega arith, (omega arith, (omega arith, tt)))) refl
+
+pub returns-in-show : goal.returns-in-show
+returns-in-show c =
+    named_by_letters c.args.text.now (codes "show") Show (omega arith) (omega arith, (omega arith, (omega arith, (omega arith, tt)))) refl
 
 pub returns-in-batch : goal.returns-in-batch
 returns-in-batch c =

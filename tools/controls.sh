@@ -7,8 +7,8 @@
 # `rt check` must still prove the crate: then it was the meaning that the edit was refused for. So has an EDIT.more.md,
 # which only tools/more_edits.sh tries.
 #
-# Each control is tried on a copy of the repository with the work that checks have kept, and nothing here is changed. A
-# line is printed for each, with its seconds, and last 'N controls proved, M not'. Status 0 only where all are proved.
+# Each control is tried on a copy of the repository, over what checks have kept, and nothing here is changed. A line is
+# printed for each, with its seconds, and last 'N controls proved, M not'. Status 0 only where all are proved.
 cd "$(dirname "$0")/.." || exit 2
 for crate in "$@"; do
     [ -n "$(ls "crates/$crate"/must-fail/*.control.md 2>/dev/null)" ] || { echo "controls: $crate has none" >&2; exit 2; }
@@ -20,7 +20,6 @@ others=0
 # tried CRATE CONTROL: one control
 tried() {
     name=$(basename "$2" .control.md)
-    copied "$1" src specs proofs
     start=$(date +%s)
     if [ ! -f "crates/$1/must-fail/$name.edit" ] && [ ! -f "crates/$1/must-fail/$name.more.md" ]; then
         said="there is no edit $name.edit or $name.more.md beside it"
@@ -38,7 +37,7 @@ tried() {
         others=$((others + 1))
         echo "control $1/$name: NOT PROVED: $said"
     fi
-    copied "$1" src specs proofs
+    restored "$1"
 }
 
 for folder in crates/*; do
@@ -49,7 +48,6 @@ for folder in crates/*; do
     esac
     for control in "crates/$crate"/must-fail/*.control.md; do
         [ -f "$control" ] || continue
-        [ -d "$room/crates/$crate/out/incremental" ] || copied "$crate" out/incremental
         tried "$crate" "$control"
     done
 done

@@ -1,19 +1,16 @@
-# Read by tools/controls.sh and tools/test_edits.sh at the top of the repository, whose folder is then $top: a copy of
-# it in $room, with the libraries that checks have built, which goes when the script ends; and what rewrites a place of
-# the copy.
+# Read by tools/controls.sh, tools/more_edits.sh and tools/test_edits.sh at the top of the repository, whose folder is
+# then $top: a whole copy of its crates in $room, without what rt has made, which goes when the script ends; and what
+# rewrites a place of the copy. A command of rt in the copy begins by itself with what checks here have kept.
 top=$(pwd)
 room=$(mktemp -d) || exit 2
 trap 'rm -rf "$room"' EXIT
 trap 'exit 2' HUP INT TERM
 
-# copied CRATE PART..: these parts of the crate in the copy are those of the repository
-copied() {
-    crate=$1
-    shift
-    mkdir -p "$room/crates/$crate/out"
-    for part in "$@"; do
-        rm -rf "$room/crates/$crate/$part"
-        [ ! -e "$top/crates/$crate/$part" ] || cp -a "$top/crates/$crate/$part" "$room/crates/$crate/$part"
+# restored CRATE: the crate's sources in the copy are those of the repository
+restored() {
+    for part in src specs proofs; do
+        rm -rf "$room/crates/$1/$part"
+        [ ! -e "$top/crates/$1/$part" ] || cp -a "$top/crates/$1/$part" "$room/crates/$1/$part"
     done
 }
 
@@ -42,7 +39,4 @@ rewritten() {
     ' "$1"
 }
 
-cp crates.txt "$room/"
-for folder in crates/*; do
-    copied "${folder#crates/}" src specs proofs out/rlib
-done
+tar -cf - --exclude='crates/*/out' crates.txt HANDLES crates | tar -xf - -C "$room" || exit 2

@@ -3,19 +3,16 @@
 #
 # An edit costs the gate half a minute, so a crate keeps those that tell most. The others stand beside them as
 # crates/CRATE/must-fail/EDIT.more.md, in the same words, and the prover must refuse them as well. Here they are tried
-# by `rt must-fail` on a copy of the repository with the work that checks have kept; nothing here is changed. The last
-# line says of how many crates all were refused, and of how many not. Status 0 only where all are.
+# by `rt must-fail` on a copy of the repository, over what checks have kept; nothing here is changed. The last line says
+# of how many crates all were refused, and of how many not. Status 0 only where all are.
 cd "$(dirname "$0")/.." || exit 2
 for crate in "$@"; do
     [ -n "$(ls "crates/$crate"/must-fail/*.more.md 2>/dev/null)" ] || { echo "more_edits: $crate has none" >&2; exit 2; }
 done
-room=$(mktemp -d) || exit 2
-trap 'rm -rf "$room"' EXIT
-trap 'exit 2' HUP INT TERM
+. tools/copy.sh
 refused=0
 others=0
 
-cp -a crates.txt HANDLES crates "$room/"
 rm -f "$room"/crates/*/must-fail/*.edit
 for more in "$room"/crates/*/must-fail/*.more.md; do
     mv "$more" "${more%.more.md}.edit"

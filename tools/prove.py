@@ -3,12 +3,11 @@
 
 Usage: tools/prove.py
 
-A run of rt holds every crate below the one that it works on, so in this folder two crates over a common one would wait
-for each other. Each library is therefore built by `rt lib` in a folder of its own, over links to the libraries below
-it, and what is built and kept, its folder out/, comes back from there. At last `rt run` builds the program.
+A run of rt holds every crate below the one that it works on, so in one folder two crates over a common one would wait
+for each other. So `rt lib` is run here and in whole copies of the crates, in each for one library at a time, once those
+below it are proved: rt takes what was proved in another copy on the machine. At last `rt run` builds the program here.
 """
 
-import fcntl
 import os
 import re
 import shutil
@@ -22,14 +21,14 @@ TOP = os.path.dirname(os.path.dirname(os.path.realpath(__file__)))
 PROGRAM = "dmljob"
 # The memory that one job of a check takes, as measured, with some to spare.
 MEMORY_OF_A_JOB = 1_500_000_000
-SOURCES = ("src", "specs", "proofs")
 
 
-def lines_of_crates():
-    """Returns the line of each crate in crates.txt."""
+def used_by_crates():
+    """Returns, for each crate in crates.txt, those of them that it uses."""
     with open(f"{TOP}/crates.txt", encoding="utf-8") as file:
-        lines = [line.partition("#")[0].strip() for line in file]
-    return {line.partition(":")[0].split()[0]: line for line in lines if ":" in line}
+        lines = [line.partition("#")[0].partition(":") for line in file]
+    uses = {head.split()[0]: used.split() for head, colon, used in lines if colon}
+    return {crate: [it for it in used if it in uses] for crate, used in uses.items()}
 
 
 def below(crate, uses):
@@ -50,53 +49,50 @@ def free_memory():
         return 1024 * int(re.search(r"MemAvailable:\s+(\d+)", file.read())[1])
 
 
-def link(source, target):
-    """Copies a folder by links to its files, or as it is where no link can be made."""
+class Room:
+    """The repository, or a copy of it, in which one command of rt works at a time."""
 
-    def linked(old, new):
-        try:
-            os.link(old, new)
-        except OSError:
-            shutil.copy2(old, new)
+    def __init__(self, top):
+        self.top, self.crate, self.process, self.log = top, None, None, None
 
-    if os.path.isdir(source):
-        shutil.copytree(source, target, copy_function=linked)
+    def start(self, crate, *words):
+        """Starts a command of rt in a crate's folder."""
+        self.crate, self.log = crate, tempfile.TemporaryFile("w+", encoding="utf-8", errors="replace")
+        how = {"stdin": subprocess.DEVNULL, "stdout": self.log, "stderr": subprocess.STDOUT}
+        self.process = subprocess.Popen(["rt", *words], cwd=f"{self.top}/crates/{crate}", **how)
 
-
-class Build:
-    """A library that is built in a folder of its own."""
-
-    def __init__(self, crate, libraries, lines, jobs):
-        self.crate, self.room = crate, tempfile.mkdtemp(prefix=f"{PROGRAM}-{crate}-")
-        self.folder = f"{self.room}/crates/{crate}"
-        with open(f"{self.room}/crates.txt", "w", encoding="utf-8") as file:
-            file.writelines(f"{lines[it]}\n" for it in [*libraries, crate])
-        for name in [*libraries, crate]:
-            for part in SOURCES:
-                link(f"{TOP}/crates/{name}/{part}", f"{self.room}/crates/{name}/{part}")
-        for name in libraries:
-            link(f"{TOP}/crates/{name}/out/rlib", f"{self.room}/crates/{name}/out/rlib")
-        self.move_out(f"{TOP}/crates/{crate}", self.folder)
-        with open(f"{self.room}/log", "w", encoding="utf-8") as log:
-            words = ["rt", "lib", "--jobs", str(jobs)]
-            how = {"stdin": subprocess.DEVNULL, "stdout": log, "stderr": subprocess.STDOUT}
-            self.process = subprocess.Popen(words, cwd=self.folder, **how)
-
-    def move_out(self, old, new):
-        if os.path.isdir(f"{old}/out"):
-            shutil.rmtree(f"{new}/out", ignore_errors=True)
-            shutil.move(f"{old}/out", f"{new}/out")
+    def said(self):
+        """Returns what the command has said."""
+        self.log.seek(0)
+        return self.log.read()
 
     def end(self):
-        """Ends the build, hands its kept work back, and returns what it said."""
-        if self.process.poll() is None:
+        """Ends the command where it still runs."""
+        if self.process and self.process.poll() is None:
             self.process.terminate()
-        self.process.wait()
-        self.move_out(self.folder, f"{TOP}/crates/{self.crate}")
-        with open(f"{self.room}/log", encoding="utf-8", errors="replace") as log:
-            said = log.read()
-        shutil.rmtree(self.room, ignore_errors=True)
-        return said
+            self.process.wait()
+
+
+class Rooms:
+    """The repository itself, and copies of it below a folder, as many as there is work for."""
+
+    def __init__(self, folder):
+        self.folder, self.all = folder, [Room(TOP)]
+        self.most = len(os.sched_getaffinity(0))
+
+    def add(self):
+        """Adds a copy of all that rt reads, without what it has made."""
+        top = f"{self.folder}/{len(self.all)}"
+        shutil.copytree(f"{TOP}/crates", f"{top}/crates", symlinks=True, ignore=shutil.ignore_patterns("out"))
+        for name in ("crates.txt", "HANDLES"):
+            shutil.copy2(f"{TOP}/{name}", top)
+        self.all.append(Room(top))
+
+    def free(self, wanted, working):
+        """Returns the rooms in which nothing works, as many as are wanted where there may be so many."""
+        while len(self.all) < min(len(working) + wanted, self.most):
+            self.add()
+        return [room for room in self.all if room not in working][:wanted]
 
 
 class Progress:
@@ -117,65 +113,46 @@ class Progress:
             print(f"{text}: {crate}", file=sys.stderr, flush=True)
 
 
-def hold(crates):
-    """Keeps other runs out of these crates' folders, as rt does, until what is returned is closed."""
-    held = [os.open(f"{TOP}/crates/{it}", os.O_RDONLY) for it in sorted(crates)]
-    for folder in held:
-        try:
-            fcntl.flock(folder, fcntl.LOCK_EX | fcntl.LOCK_NB)
-        except BlockingIOError:
-            print(f"{PROGRAM}: waits for another run to finish", file=sys.stderr)
-            fcntl.flock(folder, fcntl.LOCK_EX)
-    return held
-
-
-def fail(crate, said):
-    log = f"{TOP}/crates/{crate}/out/build.log"
-    with open(log, "w", encoding="utf-8") as file:
-        file.write(said)
-    print(f"{PROGRAM}: {crate} is not proved or built: see {log}", file=sys.stderr)
-    return 1
-
-
-def build_libraries(libraries, uses, lines, progress):
+def build_libraries(libraries, uses, rooms, progress):
     """Builds the libraries, each once those below it are built, of several ready ones first that with the longest way
-    to the program. Returns the name of one that fails and what it said."""
-    processors = len(os.sched_getaffinity(0))
+    to the program. Returns the room of one that fails."""
     left = sorted(libraries, key=lambda it: way(it, uses, libraries), reverse=True)
-    built, running = set(), []
-    try:
-        while left or running:
-            ready = [it for it in left if built.issuperset(uses[it])][: max(processors - len(running), 0)]
-            for crate in ready:
-                shared = MEMORY_OF_A_JOB * len(ready)
-                jobs = max(1, min(processors, free_memory() // shared))
-                running.append(Build(crate, below(crate, uses), lines, jobs))
-                left.remove(crate)
-            time.sleep(0.2)
-            progress.show()
-            for build in [it for it in running if it.process.poll() is not None]:
-                running.remove(build)
-                said = build.end()
-                if build.process.returncode:
-                    return build.crate, said
-                built.add(build.crate)
-                progress.show(build.crate)
-    finally:
-        for build in running:
-            build.end()
+    built, working = set(), []
+    while left or working:
+        ready = [it for it in left if built.issuperset(uses[it])]
+        free = rooms.free(len(ready), working)
+        jobs = max(1, min(rooms.most, free_memory() // (MEMORY_OF_A_JOB * max(1, len(free)))))
+        for room, crate in zip(free, ready):
+            room.start(crate, "lib", "--jobs", str(jobs))
+            working.append(room)
+            left.remove(crate)
+        time.sleep(0.2)
+        progress.show()
+        for room in [it for it in working if it.process.poll() is not None]:
+            working.remove(room)
+            if room.process.returncode:
+                return room
+            built.add(room.crate)
+            progress.show(room.crate)
     return None
 
 
-def build_program(progress):
-    """Proves and builds the program itself. Returns its name and what was said where that fails."""
-    with tempfile.TemporaryFile("w+", encoding="utf-8", errors="replace") as log:
-        how = {"stdin": subprocess.DEVNULL, "stdout": log, "stderr": subprocess.STDOUT}
-        with subprocess.Popen(["rt", "run", "--", "help"], cwd=f"{TOP}/crates/{PROGRAM}", **how) as ran:
-            while ran.poll() is None:
-                time.sleep(0.2)
-                progress.show()
-        log.seek(0)
-        return (PROGRAM, log.read()) if ran.returncode else None
+def build_program(room, progress):
+    """Proves and builds the program itself. Returns the room where that fails."""
+    room.start(PROGRAM, "run", "--", "help")
+    while room.process.poll() is None:
+        time.sleep(0.2)
+        progress.show()
+    return room if room.process.returncode else None
+
+
+def fail(room):
+    log = f"{TOP}/crates/{PROGRAM}/out/build.log"
+    os.makedirs(os.path.dirname(log), exist_ok=True)
+    with open(log, "w", encoding="utf-8") as file:
+        file.write(room.said())
+    print(f"{PROGRAM}: {room.crate} is not proved or built: see {log}", file=sys.stderr)
+    return 1
 
 
 def main():
@@ -185,22 +162,18 @@ def main():
         print(f"{PROGRAM}: it is not built, and there is no command rt (the Rattle toolchain)", file=sys.stderr)
         return 1
     print(f"{PROGRAM}: proving and building the program; the first time this takes some minutes", file=sys.stderr)
-    lines = lines_of_crates()
-    uses = {crate: [it for it in line.partition(":")[2].split() if it in lines] for crate, line in lines.items()}
+    uses = used_by_crates()
     libraries = below(PROGRAM, uses)
     progress = Progress(len(libraries) + 1)
-    for crate in [*libraries, PROGRAM]:
-        os.makedirs(f"{TOP}/crates/{crate}/out", exist_ok=True)
-    held = hold(libraries)
-    failed = build_libraries(libraries, uses, lines, progress)
-    for folder in held:
-        os.close(folder)
-    failed = failed or build_program(progress)
-    if failed:
-        progress.show(end="\n")
-        return fail(*failed)
-    progress.show(PROGRAM, end="\n")
-    return 0
+    with tempfile.TemporaryDirectory(prefix=f"{PROGRAM}-") as folder:
+        rooms = Rooms(folder)
+        try:
+            failed = build_libraries(libraries, uses, rooms, progress) or build_program(rooms.all[0], progress)
+            progress.show(None if failed else PROGRAM, end="\n")
+            return fail(failed) if failed else 0
+        finally:
+            for room in rooms.all:
+                room.end()
 
 
 if __name__ == "__main__":

@@ -7,8 +7,8 @@
 # the name of a crate of tests and the names of tests there; any other line is a remark. Without it each of these tests
 # passes. With it `rt check` still proves the crate, and each of these tests must fail.
 #
-# Each is tried on a copy of the repository with the work that checks have kept, and nothing here is changed. A line is
-# printed for each, with its seconds, and last 'N refused by tests, M not'. Status 0 only where all are refused.
+# Each is tried on a copy of the repository, over what checks have kept, and nothing here is changed. A line is printed
+# for each, with its seconds, and last 'N refused by tests, M not'. Status 0 only where all are refused.
 cd "$(dirname "$0")/.." || exit 2
 for crate in "$@"; do
     [ -n "$(ls "crates/$crate"/must-fail/*.tests.md 2>/dev/null)" ] ||
@@ -36,7 +36,6 @@ others_than() {
 # tried CRATE EDIT: one wrong body
 tried() {
     name=$(basename "$2" .tests.md)
-    copied "$1" src specs proofs
     rm -rf "$room/with"
     start=$(date +%s)
     said=$(others_than ok "$top/$2" "$room/without")
@@ -56,7 +55,7 @@ tried() {
         others=$((others + 1))
         echo "edit $1/$name: NOT REFUSED: $said"
     fi
-    copied "$1" src specs proofs
+    restored "$1"
 }
 
 for edit in crates/*/must-fail/*.tests.md; do
@@ -67,7 +66,6 @@ for edit in crates/*/must-fail/*.tests.md; do
         *" $changed "*) ;;
         *) continue ;;
     esac
-    [ -d "$room/crates/$changed/out/incremental" ] || copied "$changed" out/incremental
     tried "$changed" "$edit"
 done
 echo "$refused refused by tests, $others not"

@@ -1,6 +1,11 @@
 //! Clients of a portal: they submit small jobs and poll their records, round after round.
-ghost use Rattle.dml_portal.specs.Lanes.{IsSeatOf};
+ghost use Rattle.std.specs.Prelude.{IfOk, List};
+ghost use Rattle.std.specs.List.{All};
+ghost use Rattle.dml_portal.specs.declared.lanes.Lane.{Lane};
+ghost use Rattle.dml_portal.specs.Lanes.{AreSameLanes, IsSeatOf};
+ghost use Rattle.dml_portal.specs.Seats.{IsSameSeat};
 ghost use Rattle.dml_portal.specs.Servers.{lanes_of};
+ghost use Rattle.dml_portal.specs.Settled.{AreSeatsOf};
 
 use crate::Size;
 use crate::content::{engine_of, image_of};
@@ -8,7 +13,7 @@ use crate::digests::Digest;
 use crate::random::Random;
 use dml_portal::{Done, Portal, Seat, Server};
 use dml_types::Job;
-use std::alloc::Global;
+use std::alloc::{AllocError, Global};
 use std::io;
 use std::sync::Wait;
 use std::thread::Threads;
@@ -36,42 +41,88 @@ fn job_of(random: &mut Random) -> Job {
     }
 }
 
-/// Each of the clients submits up to 16 jobs.
-fn submitted(seats: &mut Vec<Seat>, random: &mut Random, digest: &mut Digest) {
-    for seat in seats.iter_mut() {
-        for _ in 0..1 + random.below(16) {
-            if seat.try_submit(job_of(random)).is_err() {
-                digest.word(2);
-            }
+/// A client submits so many jobs.
+fn submit(seat: &mut Seat, random: &mut Random, count: u32, digest: &mut Digest)
+    ensures { IsSameSeat seat.old seat.new }
+{
+    for _ in 0..count {
+        if seat.try_submit(job_of(random)).is_err() {
+            digest.word(2);
         }
+    }
+}
+
+/// A client polls all its records.
+fn poll(seat: &mut Seat, digest: &mut Digest)
+    ensures { IsSameSeat seat.old seat.new }
+{
+    for _ in 0..1024 {
+        match seat.poll() {
+            Some(record) => digest.record(&record),
+            None => break,
+        }
+    }
+}
+
+/// Each of the clients submits up to 16 jobs.
+fn submitted(seats: &mut Vec<Seat>, random: &mut Random, digest: &mut Digest)
+    ensures { (lanes : List Lane) → All (IsSeatOf lanes) seats.old.items → All (IsSeatOf lanes) seats.new.items }
+{
+    for seat in seats.iter_mut() {
+        let count = 1 + random.below(16);
+        submit(seat, random, count, digest);
     }
 }
 
 /// Each of the clients polls all its records.
-fn polled(seats: &mut Vec<Seat>, digest: &mut Digest) {
+fn polled(seats: &mut Vec<Seat>, digest: &mut Digest)
+    ensures { (lanes : List Lane) → All (IsSeatOf lanes) seats.old.items → All (IsSeatOf lanes) seats.new.items }
+{
     for seat in seats.iter_mut() {
-        for _ in 0..1024 {
-            match seat.poll() {
-                Some(record) => digest.record(&record),
-                None => break,
-            }
-        }
+        poll(seat, digest);
     }
 }
 
+/// All clients finish.
+fn finished(alloc: Global, seats: Vec<Seat>) -> Result<Vec<Done>, AllocError>
+    ensures { IfOk result (λ dones. (lanes : List Lane) → All (IsSeatOf lanes) seats.items → AreSeatsOf lanes dones.items) }
+{
+    seats.into_iter().map(|seat| seat.finish()).collect(alloc)
+}
+
 /// Serves a round, and says how many jobs it carried out.
-fn served<T: Threads + Wait + Sync>(
-    rt: &T,
-    alloc: Global,
-    server: &mut Server,
-) -> io::Result<usize> {
+fn served<T: Threads + Wait + Sync>(rt: &T, alloc: Global, server: &mut Server) -> io::Result<usize>
+    ensures { AreSameLanes (lanes_of server.old) (lanes_of server.new) }
+{
     match server.serve_round(rt, alloc) {
         Ok(number) => Ok(number),
         Err(_) => Err(io::ErrorKind::OutOfMemory.into()),
     }
 }
 
-/// Rounds of some clients over an image in which a few pages are absent.
+/// Settles a portal, and digests what it leaves: the image and the log.
+fn settle<T: Threads + Wait + Sync>(
+    rt: &T,
+    alloc: Global,
+    server: Server,
+    dones: Vec<Done>,
+    digest: &mut Digest,
+) -> io::Result<()>
+    requires { AreSeatsOf (lanes_of server) dones.items }
+{
+    let Ok(settled) = server.settle(rt, alloc, dones) else {
+        return Err(io::ErrorKind::OutOfMemory.into());
+    };
+    for entry in &settled.log.list {
+        digest.word(u64::from(entry.client));
+        digest.job(&entry.job);
+        digest.record(&entry.answer);
+    }
+    digest.image(&settled.image);
+    Ok(())
+}
+
+/// Rounds of some clients over an image in which a few pages are absent, and what their portal leaves.
 fn rounds<T: Threads + Wait + Sync>(
     rt: &T,
     alloc: Global,
@@ -91,7 +142,8 @@ fn rounds<T: Threads + Wait + Sync>(
         digest.word(number as u64);
         polled(&mut seats, digest);
     }
-    Ok(())
+    let dones = finished(alloc, seats)?;
+    settle(rt, alloc, server, dones, digest)
 }
 
 /// A portal of one client.
@@ -112,15 +164,6 @@ impl One {
         };
         let seat = seats.pop()?;
         Some(One { server, seat })
-    }
-
-    /// Submits so many jobs.
-    fn submit(&mut self, random: &mut Random, count: u32, digest: &mut Digest) {
-        for _ in 0..count {
-            if self.seat.try_submit(job_of(random)).is_err() {
-                digest.word(2);
-            }
-        }
     }
 
     /// Serves a round, and polls some of its records.
@@ -151,14 +194,7 @@ impl One {
     ) -> io::Result<()> {
         let One { server, seat } = self;
         let dones = vec![in alloc; seat.finish()]?;
-        let Ok(settled) = server.settle(rt, alloc, dones) else {
-            return Err(io::ErrorKind::OutOfMemory.into());
-        };
-        for entry in &settled.log.list {
-            digest.record(&entry.answer);
-        }
-        digest.image(&settled.image);
-        Ok(())
+        settle(rt, alloc, server, dones, digest)
     }
 }
 
@@ -174,10 +210,10 @@ fn settled<T: Threads + Wait + Sync>(
         return Err(io::ErrorKind::OutOfMemory.into());
     };
     for _ in 0..turns {
-        one.submit(random, 128, digest);
+        submit(&mut one.seat, random, 128, digest);
         one.serve(rt, alloc, digest)?;
     }
-    one.submit(random, 1000, digest);
+    submit(&mut one.seat, random, 1000, digest);
     one.settle(rt, alloc, digest)
 }
 

@@ -1,7 +1,7 @@
 //! Digests of results.
 
 use dml_image::Image;
-use dml_types::{BatchRecord, Record};
+use dml_types::{BatchRecord, Job, Record};
 
 /// A digest of words: the same for the same words, and for others mostly another. It is no secret's.
 #[derive(Clone, Copy)]
@@ -34,6 +34,15 @@ impl Digest {
             self.word(u64::from(*byte));
         }
         self.word(bytes.len() as u64);
+    }
+
+    pub(crate) fn job(&mut self, job: &Job) {
+        let codes = u64::from(job.opcode) << 40 | u64::from(job.expected) << 32;
+        self.word(codes | u64::from(job.flags));
+        self.word(job.source);
+        self.word(job.target);
+        self.word(job.extra);
+        self.word(u64::from(job.size) << 32 | u64::from(job.delta_size));
     }
 
     pub(crate) fn record(&mut self, record: &Record) {

@@ -92,7 +92,7 @@ impl<G: Gate + Sync> Engine<G> {
         ensures settings { self.new.settings ≡ self.old.settings }
         ensures watched { self.new.watched ≡ self.old.watched }
     {
-        if self.is_worth_waves(jobs, Fences::Accepted) {
+        if self.goes_by_waves(jobs, Fences::Accepted) {
             self.batch_in_waves(rt, alloc, jobs, records)
         } else {
             self.batch_in_list_order(jobs, records)
@@ -100,8 +100,8 @@ impl<G: Gate + Sync> Engine<G> {
     }
 
     /// The same wave by wave. Before the first wave with a job at a fence or behind it the statuses of all jobs before
-    /// the fence are looked at. Where no memory is left to find the waves, or none pays for a second worker, the batch
-    /// goes on in list order.
+    /// the fence are looked at. Where no memory is left to find the waves, or where no gate is given and none pays for a
+    /// second worker, the batch goes on in list order.
     fn batch_in_waves<R: Threads + Wait + Sync>(
         &mut self,
         rt: &R,

@@ -30,7 +30,7 @@ pub struct Engine<G = Free> {
     arena: Arena,
     settings: Settings,
     gate: G,
-    /// Whether the gate was put in by `with_gate`: it then sees every task of two or more, however small.
+    /// Whether the gate was put in by `with_gate`: it then sees every task, however small and with however many workers.
     watched: bool,
 }
 
@@ -48,7 +48,8 @@ impl<G> Model for Engine<G> {
 }
 
 impl Engine<Free> {
-    /// An engine over an image, with a gate that does nothing.
+    /// An engine over an image, with a gate that does nothing. It starts workers where they pay by a list's bytes;
+    /// `with_gate(Free)` behind it hands everything to them.
     ///
     /// # Errors
     /// `BadSettings` where a setting is out of its limits, and `NoMemory` where there is no room for the staging
@@ -84,6 +85,10 @@ impl Engine<Free> {
 
 impl<G: Drop> Engine<G> {
     /// The same engine with another gate in place of its own. No memory is taken.
+    ///
+    /// From then on every task of every job, list and batch is handed to the workers, however small it is and however
+    /// many workers there are, and one enters the gate before each; `with_gate(Free)` has workers whatever the load.
+    /// Only where memory is refused does one worker go on alone, and enter no gate.
     pub fn with_gate<H>(self, gate: H) -> Engine<H>
         ensures image { result.image ≡ self.entry.image }
         ensures settings { result.settings ≡ self.entry.settings }

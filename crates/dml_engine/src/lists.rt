@@ -41,15 +41,15 @@ impl<G: Gate + Sync> Engine<G> {
         ensures settings { self.new.settings ≡ self.old.settings }
         ensures watched { self.new.watched ≡ self.old.watched }
     {
-        if self.is_worth_waves(jobs, Fences::Refused) {
+        if self.goes_by_waves(jobs, Fences::Refused) {
             self.in_waves(rt, alloc, jobs, records);
         } else {
             self.in_list_order(jobs, records);
         }
     }
 
-    /// Carries out a list of jobs wave by wave; where no memory is left to find the waves, or no wave pays for a second
-    /// worker, one after another.
+    /// Carries out a list of jobs wave by wave; where no memory is left to find the waves, or where no gate is given and
+    /// no wave pays for a second worker, one after another.
     fn in_waves<R: Threads + Wait + Sync>(
         &mut self,
         rt: &R,
@@ -83,9 +83,9 @@ impl<G: Gate + Sync> Engine<G> {
         }
     }
 
-    /// Carries out the jobs of a wave that do anything, without their fences: on workers, as many as they pay for, or
-    /// `alone`, one after another. Answers whether one worker is to go on alone from here, as it is once no memory is
-    /// left.
+    /// Carries out the jobs of a wave that do anything, without their fences: on workers, as many as they pay for, or,
+    /// where no gate is given and they pay for one, or `alone`, one after another. Answers whether one worker is to go
+    /// on alone from here, as it is once no memory is left.
     pub(crate) fn next_wave<R: Threads + Wait + Sync>(
         &mut self,
         rt: &R,
@@ -106,7 +106,7 @@ impl<G: Gate + Sync> Engine<G> {
         let settings = self.settings();
         let load = Load::of_wave(checked, wave, settings.chunk);
         let workers = load.wave_workers(self.is_watched(), settings.workers);
-        let shared = !alone && workers > 1;
+        let shared = !alone && (self.is_watched() || workers > 1);
         if shared {
             if let Ok(()) = self.carry_out_together(rt, alloc, workers, checked, wave, records) {
                 return false;
@@ -118,6 +118,14 @@ impl<G: Gate + Sync> Engine<G> {
 }
 
 impl<G> Engine<G> {
+    /// Whether a list of jobs goes wave by wave: a gate that was given is to see every task, with however many workers;
+    /// else several workers have to pay.
+    pub(crate) fn goes_by_waves(&self, jobs: &[Job], fences: Fences) -> bool
+        ensures { IsTrue result ↔ ((self.now.watched ≡ true) ⊎ (is_for_waves self.now fences jobs.now ≡ true)) }
+    {
+        self.is_watched() || self.is_worth_waves(jobs, fences)
+    }
+
     /// Whether a list of jobs may be given more than one worker, by what the jobs name, before any of them is checked.
     pub(crate) fn may_pay(&self, jobs: &[Job]) -> bool
         ensures { IsTrue result ↔ ((1 < self.now.settings.workers)
@@ -127,7 +135,7 @@ impl<G> Engine<G> {
     }
 
     /// Whether a list of jobs is given more than one worker.
-    pub(crate) fn is_worth_waves(&self, jobs: &[Job], fences: Fences) -> bool
+    fn is_worth_waves(&self, jobs: &[Job], fences: Fences) -> bool
         ensures { result ≡ is_for_waves self.now fences jobs.now }
     {
         let settings = self.settings();

@@ -16,7 +16,7 @@ pub(crate) const MOST_JOBS: usize = dml_types::MOST_JOBS as usize;
 
 impl<G: Gate + Sync> Engine<G> {
     /// Carries out a job, and returns its completion record. A refused job changes nothing. One job pays for no worker,
-    /// so it goes to them only where a gate was given.
+    /// so it goes to them only where a gate was given by `with_gate`.
     pub fn submit<R: Threads + Wait + Sync>(&mut self, rt: &R, alloc: Global, job: Job) -> Record
         ensures image { self.new.image ≡ (step self.old.image job self.old.settings.staging).0 }
         ensures answer { result ≡ (step self.old.image job self.old.settings.staging).1 }
@@ -32,7 +32,7 @@ impl<G: Gate + Sync> Engine<G> {
     }
 
     /// Carries out a list of at most 1,024 jobs, and returns their completion records: as one after another, in list
-    /// order.
+    /// order. Workers are started where they pay by the list's bytes, or, where a gate was given by `with_gate`, always.
     ///
     /// # Errors
     /// `TooMany` where there are more jobs, and `NoMemory` where there is no room for the records.

@@ -1,6 +1,7 @@
 //! The worked rows of portals, and their refusals.
 
 mod clients;
+mod entering;
 mod gates;
 mod growths;
 mod portals;

@@ -256,7 +256,7 @@ fn waves_enter_one_after_another(rt: HostRuntime) -> Result<(), Fail> {
     Ok(())
 }
 
-/// A gate that was given sees each wave of a list of two tasks, also one of a single task.
+/// A gate that was given sees each wave of a list, also one of a single task.
 #[test]
 fn waves_of_one_task_enter(rt: HostRuntime) -> Result<(), Fail> {
     let jobs = [Job::fill(1, 0, 8), Job::fill(2, 0, 8)];

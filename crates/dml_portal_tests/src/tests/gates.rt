@@ -70,21 +70,25 @@ impl<'c, C: Clock> Gate for Meeting<'c, C> {
     }
 }
 
-/// An engine over a page of zeros whose jobs are cut in chunks of 8 bytes, for three workers.
-fn engine_of_eight(alloc: Global) -> Option<Engine> {
+/// An engine over a page of zeros whose jobs are cut in chunks of 8 bytes.
+fn engine_of_eight(alloc: Global, workers: u32) -> Option<Engine> {
     let mut image = Image::new(alloc, 1).ok()?;
     image.bring(0, &[0; 4096]).ok()?;
     let settings = Settings {
         staging: 1 << 20,
         chunk: 8,
-        workers: 3,
+        workers,
     };
     Engine::new(alloc, image, settings).ok()
 }
 
 /// The server of a portal whose lists all go through this gate, and the seat of its one client.
-fn gated<G: Gate + Drop>(alloc: Global, gate: G) -> Option<(Server<G>, Seat)> {
-    let engine = engine_of_eight(alloc)?.with_gate(gate);
+pub(super) fn gated<G: Gate + Drop>(
+    alloc: Global,
+    workers: u32,
+    gate: G,
+) -> Option<(Server<G>, Seat)> {
+    let engine = engine_of_eight(alloc, workers)?.with_gate(gate);
     let Ok((server, mut seats)) = Portal::open(alloc, engine, 1, 2) else {
         return None;
     };
@@ -120,7 +124,7 @@ fn every_submit_runs_at_once(rt: HostRuntime) -> Result<(), Fail> {
             clock: &rt,
             counts: &counts,
         };
-        let (server, seat) = gated(rt.alloc(), gate).ok_or("no memory")?;
+        let (server, seat) = gated(rt.alloc(), 3, gate).ok_or("no memory")?;
         expect_fills(&rt, rt.alloc(), server, seat);
         assert_eq!(rt; counts.both(), (ALL_ONCE, 0), "turn {turn}");
     }
@@ -208,7 +212,7 @@ fn pushed_before_tasks(rt: HostRuntime) -> Result<(), Fail> {
             clock: &rt,
             counts: &counts,
         };
-        let (mut server, mut seat) = gated(rt.alloc(), gate).ok_or("no memory")?;
+        let (mut server, mut seat) = gated(rt.alloc(), 3, gate).ok_or("no memory")?;
         fill_rings(&rt, rt.alloc(), &mut server, &mut seat);
         let answers = polled_while_served(&rt, rt.alloc(), server, seat, &counts);
         let wanted = ((Some(done(0)), Ok(2)), (1, 0));

@@ -1,0 +1,306 @@
+//! A gate that was given is entered once for each task of the accepted jobs that are not abandoned, with however many
+//! workers.
+
+use super::engine_with;
+use dml_engine::{Engine, SubmitError};
+use dml_pool::Gate;
+use dml_types::{Job, Settings};
+use std::alloc::Global;
+use std::process::Abort;
+use std::sync::Wait;
+use std::sync::atomic::{AtomicU64, Ordering};
+use std::test::Fail;
+use std::thread::Threads;
+
+/// The most tasks of a wave here.
+const MOST: usize = 1024;
+
+/// How often a task of each number entered, and how often one of a greater number.
+#[derive(Drop)]
+struct Counts {
+    numbers: Vec<AtomicU64>,
+    others: AtomicU64,
+}
+
+impl Counts {
+    fn new(alloc: Global) -> Option<Counts> {
+        let mut numbers = Vec::with_capacity(alloc, MOST).ok()?;
+        for _ in 0..MOST {
+            numbers.push(AtomicU64::new(0)).ok()?;
+        }
+        Some(Counts {
+            numbers,
+            others: AtomicU64::new(0),
+        })
+    }
+
+    /// How often tasks of a number entered, or of all numbers that are too great.
+    fn of(&self, number: usize) -> &AtomicU64 {
+        self.numbers.get(number).unwrap_or(&self.others)
+    }
+}
+
+/// A gate that counts who enters.
+#[derive(Drop)]
+struct Counting<'c> {
+    counts: &'c Counts,
+}
+
+impl<'c> Gate for Counting<'c> {
+    fn enter(&self, task: usize) {
+        self.counts.of(task).fetch_add(1, Ordering::SeqCst);
+    }
+}
+
+/// The call that carries out the jobs of a row.
+#[derive(Clone, Copy, Debug)]
+enum Call {
+    List,
+    Batch,
+    Single,
+}
+
+/// Jobs over two pages of which the first is present, in chunks of 8 bytes, and how many tasks their waves have.
+#[derive(Clone, Copy)]
+struct Row<'a> {
+    name: &'a str,
+    jobs: &'a [Job],
+    waves: &'a [usize],
+}
+
+/// Makes the call; each job by itself where it is `Single`.
+fn make<R: Threads + Wait + Sync, G: Gate + Sync>(
+    rt: &R,
+    alloc: Global,
+    engine: &mut Engine<G>,
+    call: Call,
+    jobs: &[Job],
+) -> Result<(), SubmitError> {
+    match call {
+        Call::List => {
+            engine.submit_list(rt, alloc, jobs)?;
+        }
+        Call::Batch => {
+            engine.submit_batch(rt, alloc, jobs)?;
+        }
+        Call::Single => {
+            for job in jobs {
+                engine.submit(rt, alloc, *job);
+            }
+        }
+    }
+    Ok(())
+}
+
+/// Each wave's tasks entered once, by their numbers from 0 on.
+fn expect_entered(rt: &impl Abort, row: &Row, counts: &Counts, workers: u32, call: Call) {
+    for number in 0..=MOST {
+        let mut want = 0_u64;
+        for size in row.waves {
+            want = want.saturating_add(u64::from(number < *size));
+        }
+        let entered = counts.of(number).load(Ordering::SeqCst);
+        assert_eq!(rt;
+            entered,
+            want,
+            "{}: {call:?} with {workers} workers: task {number}",
+            row.name
+        );
+    }
+}
+
+/// Expects what a row's jobs have enter at one number of workers.
+fn expect_with<R: Abort + Threads + Wait + Sync>(
+    rt: &R,
+    alloc: Global,
+    row: &Row,
+    call: Call,
+    workers: u32,
+) -> Result<(), Fail> {
+    let settings = Settings {
+        staging: 128,
+        chunk: 8,
+        workers,
+    };
+    let counts = Counts::new(alloc).ok_or("no memory")?;
+    let engine = engine_with(alloc, 2, settings).ok_or("no memory")?;
+    let mut engine = engine.with_gate(Counting { counts: &counts });
+    make(rt, alloc, &mut engine, call, row.jobs)?;
+    expect_entered(rt, row, &counts, workers, call);
+    Ok(())
+}
+
+/// Expects the same of rows at one worker, at two and at sixteen, by each of these calls.
+fn expect<R: Abort + Threads + Wait + Sync>(
+    rt: &R,
+    alloc: Global,
+    rows: &[Row],
+    calls: &[Call],
+) -> Result<(), Fail> {
+    for row in rows {
+        for call in calls {
+            for workers in [1, 2, 16] {
+                expect_with(rt, alloc, row, *call, workers)?;
+            }
+        }
+    }
+    Ok(())
+}
+
+/// A job by itself, as a list, as a batch or submitted alone.
+#[test]
+fn tasks_of_a_job_enter_once(rt: HostRuntime) -> Result<(), Fail> {
+    let rows = [
+        Row {
+            name: "no task",
+            jobs: &[Job::no_op()],
+            waves: &[],
+        },
+        Row {
+            name: "one task",
+            jobs: &[Job::fill(1, 0, 8)],
+            waves: &[1],
+        },
+        Row {
+            name: "a short last task",
+            jobs: &[Job::move_bytes(0, 512, 20)],
+            waves: &[3],
+        },
+        Row {
+            name: "an absent page",
+            jobs: &[Job::fill(1, 4088, 24)],
+            waves: &[3],
+        },
+        Row {
+            name: "many tasks",
+            jobs: &[Job::compare(0, 0, 4096)],
+            waves: &[512],
+        },
+        Row {
+            name: "refused",
+            jobs: &[Job::fill(1, 0, 8).with_flags(0x10)],
+            waves: &[],
+        },
+    ];
+    expect(
+        &rt,
+        rt.alloc(),
+        &rows,
+        &[Call::List, Call::Batch, Call::Single],
+    )
+}
+
+/// One job of each operation, which do not conflict: 3, 2, 2, 1, 3, 3, 2 and 0 tasks. Those of the apply are its entries.
+fn every_operation() -> [Job; 8] {
+    [
+        Job::move_bytes(0, 512, 20),
+        Job::fill(1, 600, 9),
+        Job::compare(0, 8, 16),
+        Job::compare_pattern(16, 0, 8),
+        Job::create_delta(0, 64, 24, 1024, 30),
+        Job::apply_delta(128, 30, 2048, 64),
+        Job::dualcast(0, 3072, 7168, 16),
+        Job::no_op(),
+    ]
+}
+
+#[test]
+fn tasks_of_every_operation_enter_once(rt: HostRuntime) -> Result<(), Fail> {
+    let jobs = every_operation();
+    let rows = [
+        Row {
+            name: "no job",
+            jobs: &jobs[..0],
+            waves: &[],
+        },
+        Row {
+            name: "every operation",
+            jobs: &jobs,
+            waves: &[16],
+        },
+    ];
+    expect(&rt, rt.alloc(), &rows, &[Call::List, Call::Batch])
+}
+
+/// Jobs without a fence, whose waves are the same as a list and as a batch. Two moves of 100 bytes do not fit into the
+/// staging of one wave.
+#[test]
+fn tasks_of_jobs_enter_once(rt: HostRuntime) -> Result<(), Fail> {
+    let rows = [
+        Row {
+            name: "waves of one task",
+            jobs: &[Job::fill(1, 0, 8), Job::fill(2, 0, 8), Job::fill(3, 0, 8)],
+            waves: &[1, 1, 1],
+        },
+        Row {
+            name: "as many as fit",
+            jobs: &[Job::move_bytes(0, 512, 100), Job::move_bytes(0, 1024, 100)],
+            waves: &[13, 13],
+        },
+        Row {
+            name: "a refused job",
+            jobs: &[Job::fill(1, 0, 16), Job::fill(2, 0, 8).with_flags(0x10)],
+            waves: &[2],
+        },
+        Row {
+            name: "1,024 jobs",
+            jobs: &[Job::compare(0, 8, 8); MOST],
+            waves: &[MOST],
+        },
+    ];
+    expect(&rt, rt.alloc(), &rows, &[Call::List, Call::Batch])
+}
+
+/// Batches with fences: what is abandoned enters nowhere.
+#[test]
+fn tasks_about_a_fence_enter_once(rt: HostRuntime) -> Result<(), Fail> {
+    let fenced = Job::fill(2, 64, 16).with_flags(1);
+    let stranger = Job {
+        opcode: 0x10,
+        ..fenced
+    };
+    let last = Job::fill(3, 128, 8);
+    let rows = [
+        Row {
+            name: "a first fence",
+            jobs: &[fenced],
+            waves: &[2],
+        },
+        Row {
+            name: "one task before",
+            jobs: &[Job::fill(1, 0, 8), fenced, last],
+            waves: &[1, 3],
+        },
+        Row {
+            name: "a refused job at the fence",
+            jobs: &[Job::fill(1, 0, 16), stranger, last],
+            waves: &[2, 1],
+        },
+        Row {
+            name: "abandoned behind a fault",
+            jobs: &[Job::fill(1, 4096, 8), fenced, last],
+            waves: &[1],
+        },
+        Row {
+            name: "abandoned behind a second fence",
+            jobs: &[last, fenced, Job::fill(1, 4096, 24), fenced, last],
+            waves: &[1, 5],
+        },
+    ];
+    expect(&rt, rt.alloc(), &rows, &[Call::Batch])
+}
+
+/// In a list a fence is refused, and holds nothing back.
+#[test]
+fn tasks_beside_a_refused_fence_enter_once(rt: HostRuntime) -> Result<(), Fail> {
+    let rows = [Row {
+        name: "a fence in a list",
+        jobs: &[
+            Job::fill(1, 4096, 8),
+            Job::fill(2, 64, 16).with_flags(1),
+            Job::fill(3, 128, 8),
+        ],
+        waves: &[2],
+    }];
+    expect(&rt, rt.alloc(), &rows, &[Call::List])
+}

@@ -20,7 +20,7 @@ import faults
 from texts import BAD_NUMBER, done
 
 # The defaults, and the smallest chunks up to the largest with one worker, two and as many as there may be.
-SETTINGS = [(4096, 4)] + [(chunk, workers) for chunk in (8, 16, 4096, 1048576) for workers in (1, 2, 16)]
+SETTINGS = [(4096, 4)] + [(chunk, workers) for chunk in (8, 16, 32, 4096, 1048576) for workers in (1, 2, 16)]
 SECONDS = 300
 
 # A row's name, the words behind `run`, the script, and what is wanted: exit status, standard output and standard error.

@@ -77,10 +77,10 @@ fn image_of(alloc: Global, row: &Row) -> Option<Image<'static>> {
 }
 
 /// The settings of the rows.
-pub(super) fn settings(staging: u32) -> [Settings; 12] {
-    let mut all = [Settings { staging, ..USUAL }; 12];
+pub(super) fn settings(staging: u32) -> [Settings; 15] {
+    let mut all = [Settings { staging, ..USUAL }; 15];
     for (i, settings) in all.iter_mut().enumerate() {
-        settings.chunk = [8, 16, 4096, 1_048_576][i / 3];
+        settings.chunk = [8, 16, 32, 4096, 1_048_576][i / 3];
         settings.workers = [1, 2, 16][i % 3];
     }
     all

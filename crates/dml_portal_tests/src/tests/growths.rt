@@ -238,6 +238,25 @@ fn settled_at_last<R: Abort + Threads + Wait + Sync>(
     }
 }
 
+/// What a portal leaves, or leaves when it is settled again at once, with the same seats and its jobs left.
+fn settled_at_once<R: Abort + Threads + Wait + Sync>(
+    rt: &R,
+    alloc: Global,
+    server: Server<Free>,
+    dones: Vec<Done>,
+) -> Option<Settled>
+    requires { AreSeatsOf server.lanes.items dones.items }
+{
+    let seats = dones.len();
+    match server.settle(rt, alloc, dones) {
+        Ok(settled) => Some(settled),
+        Err((server, dones, fault)) => {
+            assert_eq!(rt; (fault, dones.len()), (SettleFault::NoMemory, seats));
+            server.settle(rt, alloc, dones).ok()
+        }
+    }
+}
+
 /// These are the clients and the completed bytes of the log.
 fn expect_completed(rt: &impl Abort, log: &[LogEntry], wanted: &[(u32, u32)]) {
     assert_eq!(rt; log.len(), wanted.len());
@@ -250,7 +269,7 @@ fn expect_completed(rt: &impl Abort, log: &[LogEntry], wanted: &[(u32, u32)]) {
 #[test]
 fn refused_settle(rt: HostRuntime) -> Result<(), Fail> {
     let (server, dones) = finished(&rt, rt.alloc()).ok_or("no memory")?;
-    let settled = settled_at_last(&rt, rt.alloc(), server, dones, &[3]).ok_or("not settled")?;
+    let settled = settled_at_once(&rt, rt.alloc(), server, dones).ok_or("not settled")?;
     let wanted = [(1, 0), (0, 16), (0, 16), (1, 8)];
     expect_completed(&rt, settled.log.list.as_slice(), &wanted);
     expect_bytes(&rt, &settled.image, &BYTES);

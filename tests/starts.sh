@@ -1,14 +1,18 @@
 #!/bin/sh
-# Counts the threads that `dmljob run` starts, by tests/started.c: no gate is given there, and no answer and no contract
-# tells how many workers a list had. Where the system has no thread left, the answers are the same. Works on the program
-# that the gate leaves in crates/dmljob/out; `check` calls it. Needs the GNU C library, timeout, and a C compiler
-# (CC, or cc).
+# Counts the threads that `dmljob run` and a round of a portal start, by tests/started.c: no gate is given there, and no
+# answer and no contract tells how many workers a list or a batch had. Where the system has no thread left, the answers
+# are the same. Works on the program and on the tests of dml_portal that the gate leaves in crates/NAME/out; `check`
+# calls it. Needs the GNU C library, timeout, and a C compiler (CC, or cc).
 cd "$(dirname "$0")/.." || exit 2
 work=$(mktemp -d) || exit 2
 trap 'rm -rf "$work"' EXIT
 dmljob=crates/dmljob/out/dmljob
+portals=crates/dml_portal_tests/out/dml_portal_tests_tests
+chunk=65536
 failed=0
-[ -x "$dmljob" ] || { echo "starts: $dmljob is missing: run rt ci first" >&2; exit 1; }
+for program in "$dmljob" "$portals"; do
+    [ -x "$program" ] || { echo "starts: $program is missing: run rt ci first" >&2; exit 1; }
+done
 "${CC:-cc}" -O2 -Wall -Wextra -Werror -shared -fPIC -o "$work/started.so" tests/started.c -ldl || exit 1
 
 # image: one of 16 MiB of zeros
@@ -23,6 +27,13 @@ compares() {
         for (job = 0; job < front; job++) print "compare " job % 8 * 2097152 " " job % 8 * 2097152 + 1048576 " " size
         for (link = 0; link < links; link++) print "fill 0 0 8\ncompare 0 1048576 " size
     }'
+}
+
+# batch FENCED: a batch of four compares of 1 MiB, of which the one at this place, counted from 0, has the fence
+batch() {
+    echo batch
+    compares 4 1048576 0 | awk -v fenced="$1" '{ print $0 (NR - 1 == fenced ? " flags 1" : "") }'
+    echo end
 }
 
 # creates COUNT: so many creates of 512 KiB, which do not conflict: each has a record of its own
@@ -54,7 +65,7 @@ run() {
     { image; cat; } >"$work/in"
     rm -f "$work/log"
     timeout 60 env STARTED_MOST="$1" STARTED_LOG="$work/log" LD_PRELOAD="$work/started.so" \
-        "$dmljob" run --workers "$2" --chunk 65536 --arena 16777216 <"$work/in" >"$3" 2>&1
+        "$dmljob" run --workers "$2" --chunk "$chunk" --arena 16777216 <"$work/in" >"$3" 2>&1
     status=$?
     started=$(cat "$work/log" 2>/dev/null)
 }
@@ -66,6 +77,18 @@ expect() {
     equal=$(grep -c "status 01 result 0 completed $3 " "$work/out")
     if [ "$status" -ne 0 ] || [ "$started" != "$1" ] || [ "$equal" -ne "$4" ]; then
         echo "starts: $5, $2 workers: status $status, $started threads started, not $1; $equal jobs were done, not $4" >&2
+        failed=1
+    fi
+}
+
+# round WANTED TEST: a test of a portal passes, and starts so many threads
+round() {
+    rm -f "$work/log"
+    timeout 60 env STARTED_LOG="$work/log" LD_PRELOAD="$work/started.so" "$portals" "$2" >"$work/out" 2>&1 </dev/null
+    status=$?
+    started=$(cat "$work/log" 2>/dev/null)
+    if [ "$status" -ne 0 ] || [ "$started" != "$1" ]; then
+        echo "starts: $2: status $status, $started threads started, not $1: $(cat "$work/out")" >&2
         failed=1
     fi
 }
@@ -102,6 +125,19 @@ counted 0 4 1 1048576 0
 counted 1 4 34 65536 0
 counted 0 4 33 65536 0
 counted 3 4 1024 65536 0
+# More tasks than in the other rows, 16,384: chunks of 4 KiB leave 496 KiB of each compare to be shared.
+chunk=4096
+counted 3 4 64 1048576 0
+chunk=65536
+# A batch is judged as a list is, and each of its waves by itself: two compares share 1,998,848 bytes and pay for two
+# workers, so those before a fence start one thread and those behind it one.
+batch none >"$work/jobs"
+expect 3 4 1048576 4 'a batch of 4 compares' <"$work/jobs"
+batch 2 >"$work/jobs"
+expect 2 4 1048576 4 'a batch of 2 compares and 2 behind a fence' <"$work/jobs"
+# A round of a portal is one list.
+round 3 tests::rounds::round_worth_four_workers
+round 0 tests::round_of_128
 # Levels behind the first one cost a list no worker, until the cut of all of them costs more than workers save, or
 # where none of them shares a mebibyte and a half.
 counted 3 4 4 1048576 10

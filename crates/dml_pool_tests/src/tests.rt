@@ -8,7 +8,8 @@ use dml_arena::{Arena, Region};
 use dml_desc::{Checked, check};
 use dml_image::{Image, ImageError};
 use dml_pool::{
-    Free, Gate, Outcome, Piece, PoolError, Queue, Slot, Task, run_wave, run_wave_into_lists,
+    Free, Gate, Outcome, Outcomes, Piece, PoolError, Queue, Slot, Task, run_wave,
+    run_wave_into_lists,
 };
 use dml_scan::Found;
 use dml_types::{Job, Op};
@@ -376,19 +377,20 @@ fn accepted_fill(rt: &impl Abort) -> Checked {
     check(&Job::fill(1, 0, 8), STAGING).expect(rt, "an accepted job")
 }
 
-/// Forty times the same fill of eight bytes on the deque.
+/// So many times the same fill of eight bytes on the deque.
 fn queued_fills<'j, 'a>(
     rt: &impl Abort,
     alloc: Global,
     job: &'j Checked,
+    count: u32,
     region: Region<'a>,
 ) -> Result<Queue<'j, 'a>, AllocError>
     requires { region.bytes ≡ [] }
     ensures runnable { IfOk result (λ queue. All IsRunnable queue.tasks) }
 {
-    let mut queue = Queue::new(alloc, 40)?;
+    let mut queue = Queue::new(alloc, count)?;
     let mut rest = region;
-    for _ in 0..40_u32 {
+    for _ in 0..count {
         let (room, behind) = rest.cut(0);
         want_chunk(rt, job, 0, 8, &room);
         queue.push(job, 0, 8, room);
@@ -464,7 +466,7 @@ fn refused_queue(rt: HostRuntime) -> Result<(), Fail> {
     let _image = image(rt.alloc())?;
     let mut arena = Arena::new(rt.alloc(), 0)?;
     let job = accepted_fill(&rt);
-    if let Ok(queue) = queued_fills(&rt, rt.alloc(), &job, arena.open()) {
+    if let Ok(queue) = queued_fills(&rt, rt.alloc(), &job, 40, arena.open()) {
         assert_eq!(rt; (queue.len(), queue.room()), (40, 40));
     }
     Ok(())
@@ -475,8 +477,22 @@ fn set_up_of_run_wave_into_lists(rt: HostRuntime) -> Result<(), Fail> {
     let _image = image(rt.alloc())?;
     let mut arena = Arena::new(rt.alloc(), 0)?;
     let job = accepted_fill(&rt);
-    let _queue = queued_fills(&rt, rt.alloc(), &job, arena.open())?;
+    let _queue = queued_fills(&rt, rt.alloc(), &job, 40, arena.open())?;
     Ok(())
+}
+
+/// How many lists there are, how many outcomes in all, and the sum of their tasks' numbers.
+fn numbers_in(lists: &[Outcomes<'_>]) -> (usize, u64, u64) {
+    let (mut count, mut sum) = (0_u64, 0_u64);
+    for list in lists {
+        for place in list.as_slice() {
+            if let Some(outcome) = place {
+                count = count.wrapping_add(1);
+                sum = sum.wrapping_add(u64::from(outcome.task));
+            }
+        }
+    }
+    (lists.len(), count, sum)
 }
 
 /// The outcome of each task in some list, or want of memory with no task begun.
@@ -485,23 +501,31 @@ fn refused_run_wave_into_lists(rt: HostRuntime) -> Result<(), Fail> {
     let image = image(rt.alloc())?;
     let mut arena = Arena::new(rt.alloc(), 0)?;
     let job = accepted_fill(&rt);
-    let queue = queued_fills(&rt, rt.alloc(), &job, arena.open())?;
+    let queue = queued_fills(&rt, rt.alloc(), &job, 40, arena.open())?;
     let gate = Meeting::new(&rt, [0; 16]);
     match run_wave_into_lists(&rt, rt.alloc(), &image, queue, 3, &gate) {
         Ok(lists) => {
-            let (mut count, mut sum) = (0u32, 0u32);
-            for list in lists.as_slice() {
-                for place in list.as_slice() {
-                    if let Some(outcome) = place {
-                        count = count.wrapping_add(1);
-                        sum = sum.wrapping_add(outcome.task);
-                    }
-                }
-            }
-            assert_eq!(rt; (lists.len(), count, sum), (3, 40, 780));
+            assert_eq!(rt; numbers_in(&lists), (3, 40, 780));
             assert_eq!(rt; gate.counts(), (ALL_ENTERED, 0));
         }
         Err(PoolError::Refused) => assert_eq!(rt; gate.counts(), (0, 0)),
+    }
+    Ok(())
+}
+
+/// A wave of the most tasks is carried out by two workers and by sixteen, whose first tasks enter at once.
+#[test]
+fn most_tasks_on_workers(rt: HostRuntime) -> Result<(), Fail> {
+    let image = image(rt.alloc())?;
+    let job = accepted_fill(&rt);
+    for (workers, first) in [(2, 0x11), (16, ALL_ENTERED)] {
+        let mut arena = Arena::new(rt.alloc(), 0)?;
+        let queue = queued_fills(&rt, rt.alloc(), &job, 131_072, arena.open())?;
+        let gate = Meeting::new(&rt, [first; 16]);
+        let lists = run_wave_into_lists(&rt, rt.alloc(), &image, queue, workers, &gate)?;
+        let wanted = (workers as usize, 131_072, 8_589_869_056);
+        assert_eq!(rt; numbers_in(&lists), wanted, "{workers} workers");
+        assert_eq!(rt; gate.counts(), (ALL_ENTERED, 0), "{workers} workers");
     }
     Ok(())
 }

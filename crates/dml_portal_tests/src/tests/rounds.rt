@@ -2,9 +2,13 @@
 ghost use Rattle.dml_portal.specs.Seats.{IsSameSeat};
 
 use super::portals::{Three, Two};
+use super::steps::{expect_polled, expect_served, submit_all};
 use super::{done, engine, expect_bytes};
-use dml_portal::{LogEntry, Seat};
-use dml_types::Job;
+use dml_engine::Engine;
+use dml_image::Image;
+use dml_pool::Free;
+use dml_portal::{LogEntry, Portal, Seat, Server};
+use dml_types::{Job, Settings};
 use std::alloc::Global;
 use std::process::Abort;
 use std::sync::Wait;
@@ -232,5 +236,39 @@ fn three_seats(rt: HostRuntime) -> Result<(), Fail> {
         let settled = portal.settle(&rt, rt.alloc()).ok_or("not settled")?;
         expect_log(&rt, settled.log.list.as_slice(), &FETCHED);
     }
+    Ok(())
+}
+
+/// An engine with no gate given over 512 pages of zeros, in chunks of 64 KiB, for four workers.
+fn engine_of_two_mebibytes(alloc: Global) -> Option<Engine> {
+    let mut image = Image::new(alloc, 512).ok()?;
+    for page in 0..512 {
+        image.bring(page, &[0; 4096]).ok()?;
+    }
+    let settings = Settings {
+        staging: 0,
+        chunk: 65_536,
+        workers: 4,
+    };
+    Engine::new(alloc, image, settings).ok()
+}
+
+/// The server of a portal over that engine, and the seat of its one client.
+fn portal_of_two_mebibytes(alloc: Global) -> Option<(Server<Free>, Seat)> {
+    let Ok((server, mut seats)) = Portal::open(alloc, engine_of_two_mebibytes(alloc)?, 1, 4) else {
+        return None;
+    };
+    let seat = seats.pop()?;
+    Some((server, seat))
+}
+
+/// Four compares of a mebibyte, which pay for four workers; how many threads the round starts is counted from outside
+/// (tests/starts.sh).
+#[test]
+fn round_worth_four_workers(rt: HostRuntime) -> Result<(), Fail> {
+    let (mut server, mut seat) = portal_of_two_mebibytes(rt.alloc()).ok_or("no memory")?;
+    submit_all(&rt, &mut seat, &[Job::compare(0, 1_048_576, 1_048_576); 4]);
+    expect_served(&rt, rt.alloc(), &mut server, 4);
+    expect_polled(&rt, &mut seat, &[done(1_048_576); 4]);
     Ok(())
 }

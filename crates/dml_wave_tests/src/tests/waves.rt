@@ -17,7 +17,8 @@ use std::process::Abort;
 use std::sync::Wait;
 use std::sync::atomic::{AtomicU64, Ordering};
 use std::test::Fail;
-use std::thread::Threads;
+use std::thread::{self, Threads};
+use std::time::{Clock, Duration};
 
 /// The staging size of a run without options.
 const STAGING: u32 = 1_048_576;
@@ -108,6 +109,50 @@ impl Counting {
 impl Gate for Counting {
     fn enter(&self, _task: usize) {
         self.entered.fetch_add(1, Ordering::SeqCst);
+    }
+}
+
+/// The turns after which a gate gives up.
+const TURNS: u32 = 10_000;
+
+/// A gate that counts the tasks that enter, and holds the first one until another one has entered.
+#[derive(Drop)]
+struct Meeting<'c, C> {
+    clock: &'c C,
+    entered: AtomicU64,
+    given_up: AtomicU64,
+}
+
+impl<'c, C: Clock> Meeting<'c, C> {
+    fn new(clock: &'c C) -> Meeting<'c, C> {
+        Meeting {
+            clock,
+            entered: AtomicU64::new(0),
+            given_up: AtomicU64::new(0),
+        }
+    }
+
+    fn counts(&self) -> (u64, u64) {
+        (
+            self.entered.load(Ordering::SeqCst),
+            self.given_up.load(Ordering::SeqCst),
+        )
+    }
+}
+
+impl<'c, C: Clock> Gate for Meeting<'c, C> {
+    fn enter(&self, task: usize) {
+        self.entered.fetch_add(1, Ordering::SeqCst);
+        if task > 0 {
+            return;
+        }
+        for _ in 0..TURNS {
+            if self.entered.load(Ordering::SeqCst) > 1 {
+                return;
+            }
+            thread::sleep(self.clock, Duration::from_millis(1));
+        }
+        self.given_up.fetch_add(1, Ordering::SeqCst);
     }
 }
 
@@ -447,4 +492,81 @@ fn set_up_of_carry_out_wave_of_three(rt: HostRuntime) {
 #[test]
 fn refused_carry_out_wave_of_three(rt: HostRuntime) {
     wave_or_refused(&rt, rt.alloc(), 3);
+}
+
+/// An image of 256 pages of zeros.
+fn image_of_a_mebibyte(alloc: Global) -> Result<Image<'static>, ImageError> {
+    let mut image = Image::new(alloc, 256)?;
+    for page in 0..256 {
+        image.bring(page, &[0; 4096])?;
+    }
+    Ok(image)
+}
+
+/// A wave of the most tasks is carried out by two workers and by sixteen, more than one of which work at once.
+#[test]
+fn most_tasks_on_workers(rt: HostRuntime) -> Result<(), Fail> {
+    for workers in [2, 16] {
+        let settings = Settings {
+            staging: 0,
+            chunk: 8,
+            workers,
+        };
+        let mut image = image_of_a_mebibyte(rt.alloc())?;
+        let table = [Job::fill(0x0807_0605_0403_0201, 0, 1_048_576)];
+        let (jobs, mut records) = list_of(rt.alloc(), 0, &table).ok_or("no memory")?;
+        let gate = Meeting::new(&rt);
+        carried_past(
+            &rt,
+            rt.alloc(),
+            &gate,
+            &settings,
+            &mut image,
+            &jobs,
+            &[0],
+            &mut records,
+        )?;
+        assert_eq!(rt; gate.counts(), (131_072, 0), "{workers} workers");
+        expect_records(&rt, &records, &[done(Status::Success, 1_048_576)]);
+        expect_byte(&rt, &image, 0, Some(1));
+        expect_byte(&rt, &image, 1_048_575, Some(8));
+    }
+    Ok(())
+}
+
+/// A wave of jobs without a task is carried out: none enters, and the records stay.
+fn expect_no_task<R: Abort + Threads + Wait + Sync>(
+    rt: &R,
+    alloc: Global,
+    table: &[Job],
+    wave: &[u32],
+) -> Result<(), Fail> {
+    let settings = Settings {
+        staging: 0,
+        chunk: 8,
+        workers: 2,
+    };
+    let mut image = image(alloc)?;
+    let (jobs, mut records) = list_of(alloc, 0, table).ok_or("no memory")?;
+    let gate = Counting::new();
+    carried_past(
+        rt,
+        alloc,
+        &gate,
+        &settings,
+        &mut image,
+        &jobs,
+        wave,
+        &mut records,
+    )?;
+    assert_eq!(rt; gate.count(), 0);
+    assert!(rt; records.iter().all(|record| *record == BLANK));
+    Ok(())
+}
+
+#[test]
+fn waves_of_no_task(rt: HostRuntime) -> Result<(), Fail> {
+    expect_no_task(&rt, rt.alloc(), &[], &[])?;
+    expect_no_task(&rt, rt.alloc(), &[Job::no_op()], &[])?;
+    expect_no_task(&rt, rt.alloc(), &[Job::no_op()], &[0])
 }

@@ -8,6 +8,6 @@ invariant-loop g l =
     record {
       runnable : All IsRunnable l.queue.tasks;
       count : length l.queue.tasks ≡ l.counter;
-      room : l.queue.room ≡ 40;
+      room : l.queue.room ≡ l.fn.count;
       empty : l.rest.bytes ≡ [];
     }

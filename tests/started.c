@@ -1,6 +1,7 @@
 /* Loaded before a program by LD_PRELOAD, counts the threads that it starts: at the program's end their number is
-   written to the file STARTED_LOG. Where STARTED_MOST is a number, no more threads than that are started: for each
-   further one the system is said to have none left. Needs the GNU C library. */
+   written behind the file STARTED_LOG, a line for each process, since a program of tests has one for each test. Where
+   STARTED_MOST is a number, no more threads than that are started: for each further one the system is said to have none
+   left. Needs the GNU C library. */
 #define _GNU_SOURCE
 #include <dlfcn.h>
 #include <errno.h>
@@ -35,7 +36,7 @@ static void log_starts(void)
     if (!path || atomic_flag_test_and_set(&done))
         return;
     int length = snprintf(line, sizeof line, "%lu\n", atomic_load(&started));
-    int file = open(path, O_WRONLY | O_CREAT | O_TRUNC, 0600);
+    int file = open(path, O_WRONLY | O_CREAT | O_APPEND, 0600);
     if (file >= 0 && write(file, line, length) == length)
         close(file);
 }

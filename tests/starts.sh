@@ -59,6 +59,11 @@ copies() {
     awk -v count="$1" -v line="$2" 'BEGIN { for (job = 0; job < count; job++) print line }'
 }
 
+# threads: how many the last program has started
+threads() {
+    awk '{ all += $1 } END { print all + 0 }' "$work/log"
+}
+
 # run MOST WORKERS OUT: carries out the jobs on the standard input, where the system has no more than so many threads if
 # any number is given, into a file; sets `status` and `started`. No list may take a minute.
 run() {
@@ -67,7 +72,7 @@ run() {
     timeout 60 env STARTED_MOST="$1" STARTED_LOG="$work/log" LD_PRELOAD="$work/started.so" \
         "$dmljob" run --workers "$2" --chunk "$chunk" --arena 16777216 <"$work/in" >"$3" 2>&1
     status=$?
-    started=$(cat "$work/log" 2>/dev/null)
+    started=$(threads)
 }
 
 # expect WANTED WORKERS DONE COUNT WHAT: the jobs on the standard input start so many threads, and so many of them end
@@ -86,7 +91,7 @@ round() {
     rm -f "$work/log"
     timeout 60 env STARTED_LOG="$work/log" LD_PRELOAD="$work/started.so" "$portals" "$2" >"$work/out" 2>&1 </dev/null
     status=$?
-    started=$(cat "$work/log" 2>/dev/null)
+    started=$(threads)
     if [ "$status" -ne 0 ] || [ "$started" != "$1" ]; then
         echo "starts: $2: status $status, $started threads started, not $1: $(cat "$work/out")" >&2
         failed=1

@@ -153,7 +153,7 @@ fn join(bytes: &mut Vec<u8>, more: Vec<u8>) -> Result<(), AllocError>
     bytes.extend_from_slice(more.as_slice())
 }
 
-/// Reads what the words of a line write, in place of the values before.
+/// Reads what the words of a line write, in place of the values before. After an error the values are of no line.
 pub fn read_entries(alloc: Global, entries: &[Entry], values: &mut Values) -> Result<(), ReadError>
     requires { length entries.now ≤ MOST_PARTS }
     ensures values { OnOk result (values_seen values.new ≡ grammar.values_of (entries_seen entries.now)) }

@@ -67,7 +67,7 @@ fn blank_len(text: &[u8]) -> usize
 /// The bytes of a step.
 const STEP: usize = 16;
 
-/// The most bytes of a word whose end is looked for byte by byte.
+/// The bytes among which the end of a word is looked for one by one.
 const NEAR: usize = 32;
 
 /// The place of the lowest bit that is set; 16 where none is.
@@ -106,7 +106,8 @@ fn long_word_len(text: &[u8]) -> usize
 }
 
 /// How many bytes a text begins with that are no blanks. Most words are short, and end in the first step; those that do
-/// not, and those at the end of a line, go byte by byte up to 32 bytes. A longer word is looked through anew, by vectors.
+/// not, and those at the end of a line, go byte by byte up to 32 bytes. A word of 32 bytes or more is looked through
+/// anew, by vectors.
 #[tactic(auto, using(crate::proofs::WordLemmas::position_or_len_at))]
 #[inline(always)]
 fn word_len(text: &[u8]) -> usize

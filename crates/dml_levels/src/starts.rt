@@ -19,8 +19,8 @@ pub struct Start {
     pub likely: u32,
 }
 
-/// The starts of ranges. The sort shows the likely cell of each, so that it is only looked at and not sought among many,
-/// by branches that no processor can foresee.
+/// The starts of ranges. The sort shows the likely cell of each, so that it is only looked at and not sought among
+/// many, by branches that no processor can foresee.
 #[derive(Debug, Drop)]
 pub struct Starts {
     pub list: Vec<Start>,

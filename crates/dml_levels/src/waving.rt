@@ -14,7 +14,8 @@ use crate::links::link_places;
 use dml_desc::Checked;
 use std::alloc::{AllocError, Global};
 
-/// Up to so many levels, the jobs are looked through for each, since links take more than twice the memory.
+/// Up to so many levels, the jobs are looked through for each: links take more than twice the memory of a list of
+/// places.
 const FEW_LEVELS: u64 = 2;
 
 /// The most jobs that are linked.

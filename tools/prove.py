@@ -8,6 +8,7 @@ for each other. So `rt lib` is run here and in whole copies of the crates, in ea
 below it are proved: rt takes what was proved in another copy on the machine. At last `rt run` builds the program here.
 """
 
+import fcntl
 import os
 import re
 import shutil
@@ -146,9 +147,20 @@ def build_program(room, progress):
     return room if room.process.returncode else None
 
 
+def hold():
+    """Keeps other runs of this tool out of this checkout, until what is returned is closed."""
+    os.makedirs(f"{TOP}/crates/{PROGRAM}/out", exist_ok=True)
+    held = open(f"{TOP}/crates/{PROGRAM}/out/proving", "w", encoding="utf-8")
+    try:
+        fcntl.flock(held, fcntl.LOCK_EX | fcntl.LOCK_NB)
+    except BlockingIOError:
+        print(f"{PROGRAM}: waits for another run to finish", file=sys.stderr)
+        fcntl.flock(held, fcntl.LOCK_EX)
+    return held
+
+
 def fail(room):
     log = f"{TOP}/crates/{PROGRAM}/out/build.log"
-    os.makedirs(os.path.dirname(log), exist_ok=True)
     with open(log, "w", encoding="utf-8") as file:
         file.write(room.said())
     print(f"{PROGRAM}: {room.crate} is not proved or built: see {log}", file=sys.stderr)
@@ -165,7 +177,7 @@ def main():
     uses = used_by_crates()
     libraries = below(PROGRAM, uses)
     progress = Progress(len(libraries) + 1)
-    with tempfile.TemporaryDirectory(prefix=f"{PROGRAM}-") as folder:
+    with hold(), tempfile.TemporaryDirectory(prefix=f"{PROGRAM}-", ignore_cleanup_errors=True) as folder:
         rooms = Rooms(folder)
         try:
             failed = build_libraries(libraries, uses, rooms, progress) or build_program(rooms.all[0], progress)

@@ -9,8 +9,7 @@ top=$(cd "$(dirname "$0")/.." && pwd) || exit 2
 room=$(mktemp -d) || exit 2
 trap 'rm -rf "$room"' EXIT
 mkdir "$room/crates" || exit 2
-# What an earlier check kept in out/ comes along, so that the arena is not proved again.
-cp -R "$top/crates/dml_arena" "$room/crates/" || exit 2
+tar -cf - -C "$top/crates" --exclude=out dml_arena | tar -xf - -C "$room/crates" || exit 2
 cp "$top/HANDLES" "$room/" || exit 2
 grep '^dml_arena' "$top/crates.txt" >"$room/crates.txt" || exit 2
 

@@ -54,7 +54,8 @@ load_of chunk jobs = fold (with_job chunk) no_load jobs
 abbrev pub workers_for : ℕ → ℕ → ℕ
 workers_for most bytes = max 1 (min most ((bytes / 524288 + 1) / 2))
 
--- how many workers a list is given, of at most so many; where a gate was given, all of them for two tasks or more
+-- how many workers a list is given, of at most so many; where a gate was given, all of them for two tasks or more, but
+-- an engine with a gate goes by waves, whatever this says
 abbrev pub list_workers : Bool → ℕ → Load → ℕ
 list_workers watched most load =
     if watched then (if nat_lt 1 load.tasks then most else 1) else workers_for most load.shared

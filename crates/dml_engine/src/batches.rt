@@ -100,8 +100,8 @@ impl<G: Gate + Sync> Engine<G> {
     }
 
     /// The same wave by wave. Before the first wave with a job at a fence or behind it the statuses of all jobs before
-    /// the fence are looked at. Where no memory is left to find the waves, or where no gate is given and none pays for a
-    /// second worker, the batch goes on in list order.
+    /// the fence are looked at. Where no memory is left to find the waves, or where no gate is given and none pays for
+    /// a second worker, the batch goes on in list order.
     fn batch_in_waves<R: Threads + Wait + Sync>(
         &mut self,
         rt: &R,

@@ -30,7 +30,8 @@ pub struct Engine<G = Free> {
     arena: Arena,
     settings: Settings,
     gate: G,
-    /// Whether the gate was put in by `with_gate`: it then sees every task, however small and with however many workers.
+    /// Whether the gate was put in by `with_gate`: it then sees every task, however small it is and however many
+    /// workers there are.
     watched: bool,
 }
 

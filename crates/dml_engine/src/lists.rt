@@ -48,8 +48,8 @@ impl<G: Gate + Sync> Engine<G> {
         }
     }
 
-    /// Carries out a list of jobs wave by wave; where no memory is left to find the waves, or where no gate is given and
-    /// no wave pays for a second worker, one after another.
+    /// Carries out a list of jobs wave by wave; where no memory is left to find the waves, or where no gate is given
+    /// and no wave pays for a second worker, one after another.
     fn in_waves<R: Threads + Wait + Sync>(
         &mut self,
         rt: &R,
@@ -83,9 +83,10 @@ impl<G: Gate + Sync> Engine<G> {
         }
     }
 
-    /// Carries out the jobs of a wave that do anything, without their fences: on workers, as many as they pay for, or,
-    /// where no gate is given and they pay for one, or `alone`, one after another. Answers whether one worker is to go
-    /// on alone from here, as it is once no memory is left.
+    /// Carries out the jobs of a wave that do anything, without their fences: on workers, where a gate is given on as
+    /// many as the settings have, and else on as many as they pay for. Where no gate is given and they pay for one, or
+    /// `alone`, one after another. Answers whether one worker is to go on alone from here, as it is once no memory is
+    /// left.
     pub(crate) fn next_wave<R: Threads + Wait + Sync>(
         &mut self,
         rt: &R,

@@ -24,8 +24,8 @@ const LEAST_SHARED: u64 = 3 * HALF_OF_A_WORKER;
 /// The bytes that are as dear as a task, as measured.
 const TASK_BYTES: u64 = 2048;
 
-/// How many tasks are taken off for a job: its check, its level and its place in a wave are some tenth as dear as these,
-/// as measured.
+/// How many tasks are taken off for a job: its check, its level and its place in a wave are some tenth as dear as
+/// these, as measured.
 const JOB_TASKS: u64 = 8;
 
 /// The bytes that the cut of waves is counted as for each job at each level: twice what a look at a job for a level
@@ -106,7 +106,8 @@ impl Load {
         }
     }
 
-    /// How many workers a list of this work is given, of at most `most`; `watched` where a gate is to see all work.
+    /// How many workers a list of this work is given, of at most `most`; `watched` where a gate is to see all work. An
+    /// engine with a gate goes by waves, whatever this says.
     pub fn list_workers(self, watched: bool, most: u32) -> u32
         requires { 1 ≤ most }
         ensures rule { result ≡ word.list_workers watched most self }
@@ -145,9 +146,9 @@ fn workers_for(bytes: u64, most: u32) -> u32
     (paid.min(u64::from(most)) as u32).max(1)
 }
 
-/// Of a list that is worth a second worker, whether some of its levels are: whether they share enough bytes for one, and
-/// these make up for the cut of its waves, counted as a look at every job for every level. No wave of another level is
-/// given a second worker.
+/// Of a list that is worth a second worker, whether some of its levels are: whether they share enough bytes for one,
+/// and these make up for the cut of its waves, counted as a look at every job for every level. No wave of another level
+/// is given a second worker.
 pub fn levels_pay(jobs: &[Checked], levels: &[u32], chunk: u32) -> bool
     requires { IsChunk chunk }
     ensures rule { result ≡ word.levels_pay chunk jobs.now levels.now }

@@ -32,7 +32,8 @@ impl<G: Gate + Sync> Engine<G> {
     }
 
     /// Carries out a list of at most 1,024 jobs, and returns their completion records: as one after another, in list
-    /// order. Workers are started where they pay by the list's bytes, or, where a gate was given by `with_gate`, always.
+    /// order. Where a gate was given by `with_gate` the list is handed to the workers; else these are started where
+    /// they pay by its bytes.
     ///
     /// # Errors
     /// `TooMany` where there are more jobs, and `NoMemory` where there is no room for the records.

@@ -1,5 +1,6 @@
 //! Engines and what their calls answer. The expected records and bytes are those of the jobs' definitions.
 
+mod crowds;
 mod entering;
 mod fences;
 mod gates;

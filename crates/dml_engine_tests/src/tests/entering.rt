@@ -56,6 +56,7 @@ impl<'c> Gate for Counting<'c> {
 #[derive(Clone, Copy, Debug)]
 enum Call {
     List,
+    Into,
     Batch,
     Single,
 }
@@ -66,6 +67,23 @@ struct Row<'a> {
     name: &'a str,
     jobs: &'a [Job],
     waves: &'a [usize],
+}
+
+/// Carries out at most 1,024 jobs with their records in a list of its own.
+fn make_into<R: Threads + Wait + Sync, G: Gate + Sync>(
+    rt: &R,
+    alloc: Global,
+    engine: &mut Engine<G>,
+    jobs: &[Job],
+) -> Result<(), SubmitError> {
+    if jobs.len() > MOST {
+        return Err(SubmitError::TooMany);
+    }
+    let Ok(mut records) = Vec::with_capacity(alloc, jobs.len()) else {
+        return Err(SubmitError::NoMemory);
+    };
+    engine.submit_into(rt, alloc, jobs, &mut records);
+    Ok(())
 }
 
 /// Makes the call; each job by itself where it is `Single`.
@@ -80,6 +98,7 @@ fn make<R: Threads + Wait + Sync, G: Gate + Sync>(
         Call::List => {
             engine.submit_list(rt, alloc, jobs)?;
         }
+        Call::Into => make_into(rt, alloc, engine, jobs)?,
         Call::Batch => {
             engine.submit_batch(rt, alloc, jobs)?;
         }
@@ -157,6 +176,11 @@ fn tasks_of_a_job_enter_once(rt: HostRuntime) -> Result<(), Fail> {
             waves: &[],
         },
         Row {
+            name: "no byte",
+            jobs: &[Job::fill(1, 0, 0)],
+            waves: &[],
+        },
+        Row {
             name: "one task",
             jobs: &[Job::fill(1, 0, 8)],
             waves: &[1],
@@ -186,11 +210,12 @@ fn tasks_of_a_job_enter_once(rt: HostRuntime) -> Result<(), Fail> {
         &rt,
         rt.alloc(),
         &rows,
-        &[Call::List, Call::Batch, Call::Single],
+        &[Call::List, Call::Into, Call::Batch, Call::Single],
     )
 }
 
-/// One job of each operation, which do not conflict: 3, 2, 2, 1, 3, 3, 2 and 0 tasks. Those of the apply are its entries.
+/// One job of each operation, which do not conflict: 3, 2, 2, 1, 3, 3, 2 and 0 tasks. Those of the apply are its
+/// entries.
 fn every_operation() -> [Job; 8] {
     [
         Job::move_bytes(0, 512, 20),
@@ -219,7 +244,8 @@ fn tasks_of_every_operation_enter_once(rt: HostRuntime) -> Result<(), Fail> {
             waves: &[16],
         },
     ];
-    expect(&rt, rt.alloc(), &rows, &[Call::List, Call::Batch])
+    let calls = [Call::List, Call::Into, Call::Batch];
+    expect(&rt, rt.alloc(), &rows, &calls)
 }
 
 /// Jobs without a fence, whose waves are the same as a list and as a batch. Two moves of 100 bytes do not fit into the
@@ -243,12 +269,23 @@ fn tasks_of_jobs_enter_once(rt: HostRuntime) -> Result<(), Fail> {
             waves: &[2],
         },
         Row {
+            name: "no byte beside a task",
+            jobs: &[Job::fill(1, 0, 0), Job::fill(2, 8, 8)],
+            waves: &[1],
+        },
+        Row {
+            name: "no byte in the first of two waves",
+            jobs: &[Job::fill(1, 0, 8), Job::fill(2, 0, 0), Job::fill(3, 0, 16)],
+            waves: &[1, 2],
+        },
+        Row {
             name: "1,024 jobs",
             jobs: &[Job::compare(0, 8, 8); MOST],
             waves: &[MOST],
         },
     ];
-    expect(&rt, rt.alloc(), &rows, &[Call::List, Call::Batch])
+    let calls = [Call::List, Call::Into, Call::Batch];
+    expect(&rt, rt.alloc(), &rows, &calls)
 }
 
 /// Batches with fences: what is abandoned enters nowhere.
@@ -302,5 +339,5 @@ fn tasks_beside_a_refused_fence_enter_once(rt: HostRuntime) -> Result<(), Fail> 
         ],
         waves: &[2],
     }];
-    expect(&rt, rt.alloc(), &rows, &[Call::List])
+    expect(&rt, rt.alloc(), &rows, &[Call::List, Call::Into])
 }

@@ -36,7 +36,7 @@ outcome() {
 script() {
     printf "$1" >"$work/in"
     outcome "$2" "$3" "$4" run
-    for chunk in 8 16 4096 1048576; do
+    for chunk in 8 16 32 4096 1048576; do
         for workers in 1 2 16; do
             outcome "$2" "$3" "$4" run --chunk "$chunk" --workers "$workers"
         done

@@ -1,5 +1,5 @@
 /* Loaded before a program by LD_PRELOAD, counts the threads that it starts: at the program's end their number is
-   written behind the file STARTED_LOG, a line for each process, since a program of tests has one for each test. Where
+   appended to the file STARTED_LOG, a line for each process, since a program of tests has one for each test. Where
    STARTED_MOST is a number, no more threads than that are started: for each further one the system is said to have none
    left. Needs the GNU C library. */
 #define _GNU_SOURCE

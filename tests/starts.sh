@@ -59,8 +59,9 @@ copies() {
     awk -v count="$1" -v line="$2" 'BEGIN { for (job = 0; job < count; job++) print line }'
 }
 
-# threads: how many the last program has started
+# threads: how many the last program has started; `no` where it has no log
 threads() {
+    [ -s "$work/log" ] || { echo no; return; }
     awk '{ all += $1 } END { print all + 0 }' "$work/log"
 }
 
@@ -86,14 +87,17 @@ expect() {
     fi
 }
 
-# round WANTED TEST: a test of a portal passes, and starts so many threads
+# round WANTED TEST: a test of a portal passes, and starts so many threads; the process that the tests are started by and
+# the test's own are both counted
 round() {
     rm -f "$work/log"
     timeout 60 env STARTED_LOG="$work/log" LD_PRELOAD="$work/started.so" "$portals" "$2" >"$work/out" 2>&1 </dev/null
     status=$?
     started=$(threads)
-    if [ "$status" -ne 0 ] || [ "$started" != "$1" ]; then
-        echo "starts: $2: status $status, $started threads started, not $1: $(cat "$work/out")" >&2
+    processes=$(awk 'END { print NR }' "$work/log")
+    if [ "$status" -ne 0 ] || [ "$started" != "$1" ] || [ "${processes:-0}" -lt 2 ]; then
+        echo "starts: $2: status $status, $started threads started by ${processes:-0} processes, not $1 by 2 or more:" \
+            "$(cat "$work/out")" >&2
         failed=1
     fi
 }

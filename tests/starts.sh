@@ -20,8 +20,8 @@ image() {
     awk 'BEGIN { print "image 4096"; for (page = 0; page < 4096; page++) print "page " page }'
 }
 
-# compares FRONT SIZE LINKS: so many compares of a size, which do not conflict, and behind them a chain of so many links,
-# each a fill and a compare that conflict with all before them: each has a level of its own
+# compares FRONT SIZE LINKS: so many compares of a size, which do not conflict, and behind them a chain of so many
+# links, each a fill and a compare that conflict with all before them: each has a level of its own
 compares() {
     awk -v front="$1" -v size="$2" -v links="$3" 'BEGIN {
         for (job = 0; job < front; job++) print "compare " job % 8 * 2097152 " " job % 8 * 2097152 + 1048576 " " size
@@ -44,8 +44,8 @@ creates() {
     }'
 }
 
-# different: jobs behind which every create finds three blocks of two chunks that differ, and each compare that begins at
-# 2 or 6 MiB finds a difference; they are a list of their own. shown: the records of 24 creates
+# different: jobs behind which every create finds three blocks of two chunks that differ, and each compare that begins
+# at 2 or 6 MiB finds a difference; they are a list of their own. shown: the records of 24 creates
 different() {
     printf 'fill 1 2101248 8\nfill 2 2228224 16\nfill 3 6295552 8\nshow 2101248 8\n'
 }
@@ -87,8 +87,8 @@ expect() {
     fi
 }
 
-# round WANTED TEST: a test of a portal passes, and starts so many threads; the process that the tests are started by and
-# the test's own are both counted
+# round WANTED TEST: a test of a portal passes, and starts so many threads; the process that the tests are started by
+# and the test's own are both counted
 round() {
     rm -f "$work/log"
     timeout 60 env STARTED_LOG="$work/log" LD_PRELOAD="$work/started.so" "$portals" "$2" >"$work/out" 2>&1 </dev/null
@@ -102,8 +102,8 @@ round() {
     fi
 }
 
-# limited MOST WORKERS JOBS WITH WHAT: the jobs of the file `jobs` start so many threads where the system has no more, and
-# are answered byte for byte as they are where it has: so many end with success, so many of them with a difference
+# limited MOST WORKERS JOBS WITH WHAT: the jobs of the file `jobs` start so many threads where the system has no more,
+# and are answered byte for byte as they are where it has: so many end with success, so many of them with a difference
 limited() {
     run '' "$2" "$work/want" <"$work/jobs"
     free=$status

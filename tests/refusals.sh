@@ -246,18 +246,15 @@ said() {
     sed -n "s/.*$1 \([0-9]*\).*/\1/p" "$work/out"
 }
 
-# limited NAME LASTS BYTES..: takes steps by one call, and by calls of one step each, with so many bytes left. LASTS are
-# the last fetches of the rows.
+# limited NAME BYTES..: takes steps by one call, and by calls of one step each, with so many bytes left.
 #
-# Where the others come further than the one call, that one names the last fetch of a row, whose submits behind it are
-# in the lists when the plan is refused. Where it comes further than they do, no plan of its rows was refused: they hold
-# the plan of each fetch, and it that of a row. Else both end at the same step. The step that is named, tried again
-# alone, is taken exactly where the others took it. Counted are the calls that met a second refusal before they ended,
-# behind that of a list of more than a million bytes, or behind another.
+# The others never come further than the one call. Where it comes further than they do, no plan of its rows was refused:
+# they hold the plan of each fetch, and it that of a row. Else both end at the same step, which is not taken when it is
+# tried again alone. Counted are the calls that met a second refusal before they ended, behind that of a list of more
+# than a million bytes, or behind another.
 limited() {
     name=$1
-    lasts=$2
-    shift 2
+    shift
     before=$(growths "$core_tests" "tests::limits::set_up_of_limited_$name")
     behind_list=0
     behind_other=0
@@ -270,12 +267,9 @@ limited() {
         first=$(sed -n '1s/.* //p' "$work/log")
         refusals=$(($(wc -l <"$work/log") - 1 + ${more:-1}))
         what="limited $name, with $bytes bytes: one call ends at $whole, the others at $alone"
-        if [ "$whole" -lt "$alone" ]; then
-            is_in "$whole" "$lasts" || complain "$what"
-        elif [ "$whole" -gt "$alone" ]; then
-            [ "$refusals" -lt 2 ] || complain "$what, with $refusals refusals"
-        fi
-        [ "${more:-0}" = "$((whole < alone))" ] || complain "$what: then $more steps"
+        [ "$whole" -ge "$alone" ] || complain "$what"
+        [ "$whole" -le "$alone" ] || [ "$refusals" -lt 2 ] || complain "$what, with $refusals refusals"
+        [ "${more:-0}" = 0 ] || complain "$what: then $more steps"
         [ -n "$more" ] || [ "$refusals" = 0 ] || complain "$what: a refusal is not answered"
         if [ "$refusals" -gt 1 ] && [ "$first" -gt 1000000 ]; then
             behind_list=$((behind_list + 1))
@@ -288,13 +282,13 @@ limited() {
 }
 
 core_tests=crates/dml_core_tests/out/dml_core_tests_tests
-limited fetches 999 2000 8000 32000 65536 212500 216000 220000 262144
+limited fetches 2000 8000 32000 65536 212500 216000 220000 262144
 # The list of all that are fetched, 90,112 bytes, has its room here, so what is refused first is a plan.
-limited fetches 999 131072 160000 200000
+limited fetches 131072 160000 200000
 [ "$behind_other" = 3 ] || complain 'limited fetches: no step was refused behind a plan'
-limited full_list 399 2000 16000 32000 65536 100000 107500 131072 262144
+limited full_list 2000 16000 32000 65536 100000 107500 131072 262144
 [ "$behind_list" -gt 0 ] || complain 'limited full_list: no plan was refused behind a list'
-limited two_rows '1599 2299' 2000 16000 52000 131072 200000 262144 284500 290500 296500 300000 400000
+limited two_rows 2000 16000 52000 131072 200000 262144 284500 290500 296500 300000 400000
 
 # ---- the program
 

@@ -2,7 +2,7 @@
 use Rattle.std.proofs.Common.{◌≡◌, ◌⊎◌, ℕ, ◌+◌, ◌-◌, ◌<◌, ◌≤◌, Bool, true, false, not, drop, Option, None, Some, inl, inr, ⊎_elim, List, [], ◌∷◌, ◌++◌, length, get_or, set, take, refl, sym, ◌∙◌, ap, subst, arith}
 use Rattle.std.proofs.lemmas.Bool.{and_from, and_parts, cases_lt, false≢true, lt-ltb, ltb-true, or_left, or_right}
 use Rattle.std.proofs.lemmas.List.{get_or-drop, get_or-set_same, get_or-take, length-drop, length-take, length-take-le, length_push, set-set, set-get_or, take_more, take_rest}
-use Rattle.std.proofs.lemmas.Option.{slice_get-get_or}
+use Rattle.std.proofs.lemmas.Option.{slice_get-get_or, slice_get_past}
 use Rattle.std.proofs.Math.Seq.{take-add, take-append_seam}
 use Rattle.std.specs.Prelude.{◌&&◌, ◌||◌, IfSome, is_some, nat_lt, slice_get}
 use Rattle.dml_types.specs.Memory.{Memory}
@@ -210,9 +210,9 @@ turn_refused w v stopped steps place taken d within before turn refused =
     replay_refused w stopped stopped steps (place + taken) d below (turn_reaches w v stopped steps place taken before turn) refl
     (subst (λ (s : Option Step). IfSome s (λ (x : Step). is_allowed stopped x ≡ false)) at refused.1)
 
--- a row that stops before its end has a step there
-pub at_step : (P : Step → Type 0) (steps : List Step) (i : ℕ) (d : Step) → i < length steps → P (get_or steps i d) → IfSome (slice_get steps i) P
-at_step P steps i d below is = subst (λ (s : Option Step). IfSome s P) (sym (slice_get-get_or steps i d below)) is
+-- a row that stops at its end has no step there
+pub none_at_end : (P : Step → Type 0) (steps : List Step) (i : ℕ) → length steps ≤ i → IfSome (slice_get steps i) P
+none_at_end P steps i past = subst (λ (s : Option Step). IfSome s P) (sym (slice_get_past steps i past)) tt
 
 pub stops_below : (count size : ℕ) (wants refused : Bool) → count ≤ size → (count ≡ size → (wants || refused) ≡ false) → refused ≡ true → count < size
 stops_below count size wants refused within stops is =

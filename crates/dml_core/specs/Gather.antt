@@ -1,6 +1,6 @@
 -- Submits and fetches in a row, with one plan behind the last of them: the lists that they make longer, and the
 -- world that they leave.
-use Rattle.std.specs.Prelude.{◌≡◌, ℕ, ◌-◌, ◌<◌, ◌≤◌, Bool, true, false, ◌&&◌, IfSome, List, [], ◌∷◌, ◌++◌, Option, None, length, is_some, if◌then◌else◌, nat_lt, slice_get, slice_index_or, slice_set, take}
+use Rattle.std.specs.Prelude.{◌≡◌, ℕ, ◌-◌, ◌<◌, ◌≤◌, Bool, true, false, ◌&&◌, ◌||◌, IfSome, List, [], ◌∷◌, ◌++◌, Option, None, length, is_some, if◌then◌else◌, nat_lt, slice_get, slice_index_or, slice_set, take}
 use Rattle.dml_core.specs.Types.{Job, Fetched, Step, Submit, Fetch}
 use Rattle.dml_core.specs.Plan.{open_places, plan_of}
 use Rattle.dml_core.specs.World.{World, is_allowed, is_empty, new_entry, no_hand, part_of, set_out}
@@ -47,6 +47,16 @@ abbrev pub is_of_row : Step → Bool
 is_of_row (Submit client job) = true
 is_of_row (Fetch client) = true
 is_of_row s = false
+
+-- a submit of one of so many clients
+abbrev pub is_sent : ℕ → Step → Bool
+is_sent clients (Submit client job) = nat_lt client clients
+is_sent clients s = false
+
+-- the first of some steps fetches, or one that has none but such submits before it
+abbrev pub fetch_follows : ℕ → List Step → Bool
+fetch_follows clients [] = false
+fetch_follows clients (s ∷ steps) = is_fetch s || (is_sent clients s && fetch_follows clients steps)
 
 -- the step behind so many is not allowed
 abbrev pub IsRefused : World → List Step → ℕ → Type 0

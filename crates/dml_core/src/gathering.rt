@@ -1,10 +1,10 @@
 //! Submits and fetches in a row, with one plan behind the last of them.
-ghost use Rattle.std.specs.Prelude.{◌≡◌, ◌⊎◌, ◌||◌, ◌&&◌, ◌+◌, ◌-◌, ◌≤◌, ◌<◌, IfErr, IfOk, IfSome, OnSome, Some, false, is_some, length, nat_lt, not, slice_get, slice_index_or, slice_set, take, true, []};
+ghost use Rattle.std.specs.Prelude.{◌≡◌, ◌⊎◌, ℕ, ◌||◌, ◌&&◌, ◌+◌, ◌-◌, ◌≤◌, ◌<◌, IfErr, IfOk, IfSome, OnSome, Some, drop, false, is_some, length, nat_lt, not, slice_get, slice_index_or, slice_set, take, true, []};
 ghost use Rattle.dml_core.specs.Plan.{open_places};
 ghost use Rattle.dml_core.specs.World.{Reaches, World, part_of};
 ghost use Rattle.dml_core.specs.Replay.{StopsAt};
 ghost use Rattle.dml_core.specs.Types.{Fetch};
-ghost use Rattle.dml_core.specs.Gather.{AreGathered, AreParts, EndsWithLastFetch, FetchesAt, IsRefused, Lists, NoneFetches, gathered, grown, is_idle, lists, lists_of, may_fetch, may_join, more_fetched, more_sent, next_of, shorter, ungrown};
+ghost use Rattle.dml_core.specs.Gather.{AreGathered, AreParts, EndsWithLastFetch, FetchesAt, IsRefused, Lists, NoneFetches, fetch_follows, gathered, grown, is_idle, lists, lists_of, may_fetch, may_join, more_fetched, more_sent, next_of, shorter, ungrown};
 ghost use Rattle.dml_core.specs.Gather as word;
 
 use crate::counts::{count_one, first_count, next_counted};
@@ -23,8 +23,8 @@ const MOST_STEPS: usize = 2 * MAX_OPEN;
 
 /// How many steps were taken, and how many behind them are to be taken one at a time. Tried are the steps that were put
 /// into the lists, and one for which there was no memory. Where these are more than were taken, the last of those to be
-/// taken one at a time was tried in vain: if it is allowed, there was no memory for it. In a refused turn the step behind
-/// those taken is not allowed, and none is to be taken one at a time.
+/// taken one at a time was tried in vain: if it is allowed, there was no memory for it. In a refused turn the step
+/// behind those taken is not allowed, and none is to be taken one at a time.
 #[derive(Clone, Copy)]
 struct Turn {
     taken: usize,
@@ -33,8 +33,8 @@ struct Turn {
     is_refused: bool,
 }
 
-/// How many steps made the lists longer; the first of them fetches. Where they are not all, the step behind is neither a
-/// submit nor a fetch, there was no memory for it, or it is not allowed.
+/// How many steps made the lists longer; the first of them fetches. Where they are not all, the step behind is neither
+/// a submit nor a fetch, no fetch follows it, there was no memory for it, or it is not allowed.
 #[derive(Clone, Copy)]
 struct Row {
     count: usize,
@@ -43,8 +43,8 @@ struct Row {
 }
 
 impl World {
-    /// Takes a fetch and what is to be taken with it: the submits and fetches behind it, as far as they can be, with one
-    /// plan, or one at a time. Answers the place behind them.
+    /// Takes a fetch and what is to be taken with it: the fetches behind it and the submits in front of these, as far
+    /// as they can be, with one plan, or one at a time. Answers the place behind them.
     ///
     /// # Errors
     /// The place of the first step that is not allowed, or for which the allocator has no memory left. The world is
@@ -82,8 +82,8 @@ impl World {
         Ok(end)
     }
 
-    /// Takes the submits and fetches at the front of some steps that begin with a fetch, as far as they can be taken:
-    /// none where the first is not allowed.
+    /// Takes the row at the front of some steps that begin with a fetch, as far as it can be taken: no step where the
+    /// first is not allowed.
     fn gather(&mut self, alloc: Global, client: u32, steps: &[Step]) -> Turn
         requires { slice_get steps.now 0 ≡ Some (Fetch client) }
         ensures within { result.taken + result.alone ≤ length steps.now }
@@ -98,9 +98,9 @@ impl World {
         self.gather_row(alloc, client, &next, &steps[..most])
     }
 
-    /// Takes submits and fetches, as far as they can be taken. Of the client of the first it is known what is next. Only
-    /// the plan behind the last fetch is made, since each fetch plans all open jobs anew. Where the allocator has no
-    /// memory left for it, the steps are taken back, and the room that the lists grew by.
+    /// Takes submits and fetches, as far as they can be taken, up to the last fetch. Of the client of the first it is
+    /// known what is next. Only the plan behind the last fetch is made, since each fetch plans all open jobs anew.
+    /// Where the allocator has no memory left for it, the steps are taken back, and the room that the lists grew by.
     fn gather_row(&mut self, alloc: Global, client: u32, next: &Next, steps: &[Step]) -> Turn
         requires some { 0 < length steps.now }
         requires fetch { FetchesAt steps.now 0 }
@@ -111,6 +111,8 @@ impl World {
         ensures onward { result.is_refused ≡ false → 0 < result.taken + result.alone }
         ensures reached { Reaches self.old (take result.taken steps.now) self.new }
         ensures refused { result.is_refused ≡ true → IsRefused self.new steps.now result.taken }
+        ensures last { 0 < result.taken → result.tried ≡ result.taken → result.is_refused ≡ false
+            → FetchesAt steps.now (result.taken - 1) }
         ensures tried { result.taken ≡ 0 → 0 < result.tried
             → EndsWithLastFetch (take result.tried steps.now) result.alone }
     {
@@ -223,9 +225,40 @@ fn fetch_end(steps: &[Step]) -> usize
     end
 }
 
-/// Makes the lists of an idle world longer by the steps, which begin with a fetch, up to the first that cannot be taken.
-/// So many of the fetched jobs are open, and so many each client's; each fetch counts one more, so they are counted once
-/// at most.
+/// Whether a step is a submit of one of so many clients.
+fn is_sent(step: &Step, clients: usize) -> bool
+    ensures { result ≡ word.is_sent clients step.now }
+{
+    match *step {
+        Step::Submit { client, .. } => (client as usize) < clients,
+        Step::Fetch { .. } | Step::Take { .. } | Step::Finish { .. } | Step::Commit => false,
+    }
+}
+
+/// The place behind the next fetch from a place on, with nothing but submits of so many clients before it; that place
+/// where there is no such fetch.
+fn fetch_from(clients: usize, steps: &[Step], from: usize) -> usize
+    requires { from < length steps.now }
+    ensures within { result ≤ length steps.now }
+    ensures onward { from ≤ result }
+    ensures last { from < result → FetchesAt steps.now (result - 1) }
+    ensures follows { (i : ℕ) → from ≤ i → i < result → fetch_follows clients (drop i steps.now) ≡ true }
+    ensures none { result ≡ from → fetch_follows clients (drop from steps.now) ≡ false }
+{
+    for i in from..steps.len() {
+        if is_fetch(&steps[i]) {
+            return i + 1;
+        }
+        if !is_sent(&steps[i], clients) {
+            return from;
+        }
+    }
+    from
+}
+
+/// Makes the lists of an idle world longer by the steps, which begin with a fetch, up to the first that cannot be
+/// taken, or that no fetch follows. So many of the fetched jobs are open, and so many each client's; each fetch counts
+/// one more, so they are counted once at most.
 fn push_steps(
     sent: &mut Vec<SentJobs>,
     fetched: &mut Vec<Fetched>,
@@ -239,9 +272,12 @@ fn push_steps(
     ensures within { result.count ≤ length steps.now }
     ensures stops { result.count ≡ length steps.now → (result.wants_memory || result.is_refused) ≡ false }
     ensures wants_memory { IfSome (slice_get steps.now result.count) (λ step. result.wants_memory
-        ≡ may_join (lists sent.new.items fetched.new.items) step) }
+        ≡ (may_join (lists sent.new.items fetched.new.items) step
+        && fetch_follows (length sent.old.items) (drop result.count steps.now))) }
     ensures refused { IfSome (slice_get steps.now result.count) (λ step. result.is_refused
         ≡ (word.is_of_row step && not (may_join (lists sent.new.items fetched.new.items) step))) }
+    ensures last { 0 < result.count → (result.wants_memory || result.is_refused) ≡ false
+        → FetchesAt steps.now (result.count - 1) }
     ensures gathered { AreGathered (lists sent.old.items fetched.old.items) (take result.count steps.now)
         (lists sent.new.items fetched.new.items) }
     ensures reached { (w : World) → lists_of w ≡ lists sent.old.items fetched.old.items → is_idle w ≡ true
@@ -250,14 +286,19 @@ fn push_steps(
     ensures few { 0 < result.count → length (open_places fetched.new.items) ≤ 1024 }
     ensures fixed { result.count ≡ 0 → fetched.new.items ≡ fetched.old.items }
 {
+    let clients = sent.len();
     let mut open_jobs = open_jobs;
+    let mut end = 0;
     for i in 0..steps.len() {
-        if !push_step(sent, fetched, &mut open_jobs, parts, &steps[i]) {
-            let wants_memory = may_push(sent, fetched, open_jobs, parts, &steps[i]);
+        if i == end {
+            end = fetch_from(clients, steps, i);
+        }
+        if i == end || !push_step(sent, fetched, &mut open_jobs, parts, &steps[i]) {
+            let may = may_push(sent, fetched, open_jobs, parts, &steps[i]);
             return Row {
                 count: i,
-                wants_memory,
-                is_refused: is_denied(&steps[i], wants_memory),
+                wants_memory: may && i < end,
+                is_refused: is_denied(&steps[i], may),
             };
         }
     }

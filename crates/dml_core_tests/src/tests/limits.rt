@@ -2,20 +2,19 @@
 //! comes behind those of a set-up: taken by one call, and by calls of one step each. What both print is compared
 //! there.
 
-use super::rows::{Counts, MOST_STEPS, expect_counts, replayed};
+use super::rows::{Counts, expect_counts, replayed};
 use super::{idle, world};
 use dml_core::{Step, World};
 use std::alloc::Global;
 use std::process::Abort;
 use std::test::Fail;
 
-/// A world, and the steps that it is to take. All of them are allowed; there is memory for no more than so many.
+/// A world, and the steps that it is to take. All of them are allowed.
 #[derive(Drop)]
 struct Schedule {
     world: World,
     before: Counts,
     steps: Vec<Step>,
-    most: usize,
 }
 
 /// Puts a client's submits behind some steps.
@@ -45,12 +44,10 @@ fn schedule_of(alloc: Global, first: u32, second: u32, steps: Vec<Step>) -> Opti
     };
     before.count_all(&sends);
     let world = world(alloc, 3)?.replay(alloc, &sends).ok()?;
-    let most = steps.len();
     Some(Schedule {
         world,
         before,
         steps,
-        most,
     })
 }
 
@@ -69,14 +66,12 @@ fn full_list(alloc: Global) -> Option<Schedule> {
     push_submits(&mut steps, 2, 100)?;
     push_fetches(&mut steps, 0, 200)?;
     push_submits(&mut steps, 2, 10)?;
-    let most = steps.len();
     push_submits(&mut steps, 1, 1)?;
     push_fetches(&mut steps, 0, 100)?;
-    let schedule = schedule_of(alloc, 1000, 16_384, steps)?;
-    Some(Schedule { most, ..schedule })
+    schedule_of(alloc, 1000, 16_384, steps)
 }
 
-/// Two rows, the first of them as long as a row may be. Submits of two clients stand between the fetches.
+/// Two rows. Submits of two clients stand between the fetches of the first, and those of the third behind it.
 fn two_rows(alloc: Global) -> Option<Schedule> {
     let mut steps = Vec::new(alloc);
     for client in 0..3 {
@@ -85,22 +80,6 @@ fn two_rows(alloc: Global) -> Option<Schedule> {
     }
     push_fetches(&mut steps, 0, 200)?;
     schedule_of(alloc, 1000, 0, steps)
-}
-
-/// The last fetch of the row in which a step lies, or that ends before it; the step itself, where there is none.
-fn last_fetch(steps: &[Step], step: usize) -> usize {
-    let mut row = 0..0;
-    let mut last = step;
-    for (i, other) in steps.iter().enumerate() {
-        let fetches = matches!(*other, Step::Fetch { .. });
-        if fetches && !row.contains(&i) {
-            row = i..i.saturating_add(MOST_STEPS);
-        }
-        if fetches && row.contains(&step) {
-            last = i;
-        }
-    }
-    last
 }
 
 /// The steps by one call, and then, where memory was wanting, the one that it names alone. The lists are as long as
@@ -114,7 +93,6 @@ fn expect_whole(
         world,
         before,
         steps,
-        ..
     } = schedule;
     let (world, end, is_short) = replayed(alloc, world, &steps);
     println!(rt; "ended at {end}").ok()?;
@@ -138,7 +116,6 @@ fn expect_alone(
         world,
         before,
         steps,
-        most,
     } = schedule;
     let mut world = world;
     let mut end = 0;
@@ -150,8 +127,7 @@ fn expect_alone(
         }
         end = i.saturating_add(1);
     }
-    let last = last_fetch(steps.get(..most)?, end);
-    println!(rt; "ended at {end}, in the row up to {last}").ok()?;
+    println!(rt; "ended at {end}").ok()?;
     expect_counts(rt, &world, before, steps.get(..end)?);
     Some(())
 }

@@ -11,7 +11,7 @@ use std::test::Fail;
 const CLIENTS: u32 = 3;
 
 /// The most steps that have one plan.
-pub(super) const MOST_STEPS: usize = 2048;
+const MOST_STEPS: usize = 2048;
 
 /// Numbers that look thrown, the same at each run.
 #[derive(Drop)]
@@ -153,7 +153,19 @@ fn steps_of_row(alloc: Global, dice: &mut Dice) -> Option<Vec<Step>> {
     Some(steps)
 }
 
-/// How many steps are allowed behind those that were counted, and which of them want memory.
+/// The place behind the row that begins at a place: behind the last fetch of as many steps as a row may have.
+fn row_end(steps: &[Step], first: usize) -> usize {
+    let mut end = first;
+    for (i, step) in steps.iter().enumerate().skip(first).take(MOST_STEPS) {
+        if matches!(*step, Step::Fetch { .. }) {
+            end = i.saturating_add(1);
+        }
+    }
+    end
+}
+
+/// How many steps are allowed behind those that were counted, and which of them want memory, in the order in which they
+/// do: the submits behind a row's last fetch want theirs behind its plan.
 fn wanting(alloc: Global, before: Counts, steps: &[Step]) -> Option<(usize, Vec<Want>)> {
     let mut counts = before;
     let mut wants = Vec::new(alloc);
@@ -165,11 +177,7 @@ fn wanting(alloc: Global, before: Counts, steps: &[Step]) -> Option<(usize, Vec<
         if !row.contains(&i) {
             push_plan(&mut wants, last_fetch)?;
             last_fetch = None;
-            row = if fetches {
-                i..i.saturating_add(MOST_STEPS)
-            } else {
-                0..0
-            };
+            row = if fetches { i..row_end(steps, i) } else { 0..0 };
         }
         let Some(length) = counts.length(step) else {
             break;

@@ -1,47 +1,31 @@
-use Rattle.std.proofs.Common.{◌≡◌, ◌∙◌, ◌+◌, ◌<◌, Bool, true, false, not, List, length, get_or, take, rules, sym, ap, subst, arith}
+use Rattle.std.proofs.Common.{◌≡◌, ◌+◌, ◌-◌, ◌<◌, ◌≤◌, ℕ, Bool, true, false, not, drop, length, get_or, take, rules, sym, subst, arith}
 use Rattle.dml_types.specs.Job.{no_op_job}
 use Rattle.std.specs.Prelude.{◌&&◌, ◌||◌, nat_lt}
-use Rattle.dml_core.specs.Types.{Job, Fetched, Step, Submit}
+use Rattle.dml_core.specs.Types.{Step, Submit}
 use Rattle.dml_core.specs.World.{Reaches}
-use Rattle.dml_core.specs.Gather.{Lists, gathered, is_fetch, is_of_row, lists, may_join}
-use Rattle.dml_core.proofs.GatherLemmas.{at_step, begun_or_fetches, few_more, gather_more, gather_reaches}
+use Rattle.dml_core.specs.Gather.{FetchesAt, Lists, fetch_follows, gathered, is_fetch, is_of_row, lists, may_join}
+use Rattle.dml_core.proofs.GatherLemmas.{begun_or_fetches, few_more, gather_more, gather_reaches, none_at_end}
 use Rattle.dml_core.proofs.gathering.push_steps.Goals as goal
+use Rattle.dml_core.proofs.gathering.push_steps.Goals.{then-i-end, else-i-end, then-i-end-2-via-then-i-end-2, then-i-end-2-via-else-i-end-2+then-not-push_step}
 
-pub returns-then-not-push_step-clause-reached : goal.returns-then-not-push_step-clause-reached
-returns-then-not-push_step-clause-reached c =
-    let stopped : c.push_step.result ≡ false = search rules in
-    let same = c.push_step.ensures.same stopped in
+pub returns-then-i-end-2-clause-reached : goal.returns-then-i-end-2-clause-reached
+returns-then-i-end-2-clause-reached c =
+    let old = lists c.loop-i.sent.items c.loop-i.fetched.items in
+    let new = lists c.then-i-end-2.sent.items c.then-i-end-2.fetched.items in
+    let same : old ≡ new =
+    elim c.then-i-end-2.branch [
+      | then-i-end-2-via-then-i-end-2 w ↦ search rules
+      | then-i-end-2-via-else-i-end-2+then-not-push_step w ↦ search rules
+    ] in
     λ w is idle.
-    subst (λ (l : Lists). Reaches w (take c.loop-i.i c.args.steps.now) (gathered w l (nat_lt 0 c.loop-i.i))) (sym same)
+    subst (λ (l : Lists). Reaches w (take c.loop-i.i c.args.steps.now) (gathered w l (nat_lt 0 c.loop-i.i))) same
     (c.loop-i.invariant.reach w is idle)
-
-pub returns-then-not-push_step-clause-wants_memory : goal.returns-then-not-push_step-clause-wants_memory
-returns-then-not-push_step-clause-wants_memory c =
-    let steps = c.args.steps.now in
-    let new = c.push_step.new in
-    let may = c.may_push-wants_memory.result in
-    let below : c.loop-i.i < length steps = omega arith in
-    at_step (λ (s : Step). may ≡ may_join (lists new.sent.items new.fetched.items) s) steps c.loop-i.i (Submit 0 no_op_job) below
-    (subst (λ (l : List (List Job)). may ≡ may_join (lists l new.fetched.items) (get_or steps c.loop-i.i (Submit 0 no_op_job))) c.deref.ensures.value
-    (subst (λ (l : List Fetched). may ≡ may_join (lists c.deref.result.now l) (get_or steps c.loop-i.i (Submit 0 no_op_job))) c.deref-then-not-push_step.ensures.value c.may_push-wants_memory.ensures))
-
-pub returns-then-not-push_step-clause-refused : goal.returns-then-not-push_step-clause-refused
-returns-then-not-push_step-clause-refused c =
-    let steps = c.args.steps.now in
-    let new = c.push_step.new in
-    let may = c.may_push-wants_memory.result in
-    let below : c.loop-i.i < length steps = omega arith in
-    let step = get_or steps c.loop-i.i (Submit 0 no_op_job) in
-    let joins : may ≡ may_join (lists new.sent.items new.fetched.items) step =
-    subst (λ (l : List (List Job)). may ≡ may_join (lists l new.fetched.items) step) c.deref.ensures.value
-    (subst (λ (l : List Fetched). may ≡ may_join (lists c.deref.result.now l) step) c.deref-then-not-push_step.ensures.value c.may_push-wants_memory.ensures) in
-    at_step (λ (s : Step). c.is_denied.result ≡ (is_of_row s && not (may_join (lists new.sent.items new.fetched.items) s))) steps c.loop-i.i (Submit 0 no_op_job) below
-    (c.is_denied.ensures ∙ ap (λ (b : Bool). is_of_row step && not b) joins)
 
 pub loop-i-preserved : goal.loop-i-preserved
 loop-i-preserved c =
     let steps = c.args.steps.now in
     let i = c.loop-i.i in
+    let end = c.if-i-end.end in
     let first = lists c.args.sent.now.items c.args.fetched.now.items in
     let old = lists c.loop-i.sent.items c.loop-i.fetched.items in
     let new = lists c.push_step.new.sent.items c.push_step.new.fetched.items in
@@ -51,6 +35,8 @@ loop-i-preserved c =
     let more = c.push_step.ensures.more joined in
     let step = get_or steps i (Submit 0 no_op_job) in
     let now : nat_lt 0 (i + 1) ≡ (nat_lt 0 i || is_fetch step) = begun_or_fetches steps i (Submit 0 no_op_job) below c.requires.fetch in
+    let behind : i ≤ end = elim c.if-i-end.branch [ then-i-end w ↦ search rules | else-i-end w ↦ search rules ] in
+    let clients : c.len-clients.result ≡ length c.args.sent.now.items = search rules in
     record {
       all = gather_more first old new steps i (Submit 0 no_op_job) below c.loop-i.invariant.all may more;
       reach = λ w is idle.
@@ -58,6 +44,29 @@ loop-i-preserved c =
           (gather_reaches w old new steps i (Submit 0 no_op_job) (nat_lt 0 i) below idle (c.loop-i.invariant.reach w is idle) may more);
       counted = c.push_step.ensures.open_jobs;
       parts = c.push_step.ensures.parts;
+      onward = omega (arith, behind, c.if-i-end-2.false);
+      within = elim c.if-i-end.branch [ then-i-end w ↦ search rules | else-i-end w ↦ search rules ];
+      last = λ some.
+          elim c.if-i-end.branch [
+            | then-i-end w ↦
+                subst (λ (k : ℕ). FetchesAt steps (k - 1)) (sym w.end-is)
+                (w.fetch_from-end.ensures.last (omega (arith, behind, w.end-is, c.if-i-end-2.false)))
+            | else-i-end w ↦
+                subst (λ (k : ℕ). FetchesAt steps (k - 1)) (sym w.end-is)
+                (c.loop-i.invariant.last (omega (arith, some, w.end-is)))
+          ];
+      follows = λ k from before.
+          elim c.if-i-end.branch [
+            | then-i-end w ↦
+                subst (λ (n : ℕ). fetch_follows n (drop k steps) ≡ true) clients
+                (w.fetch_from-end.ensures.follows k (omega (arith, from)) (omega (arith, before, w.end-is)))
+            | else-i-end w ↦ c.loop-i.invariant.follows k (omega (arith, from)) (omega (arith, before, w.end-is))
+          ];
       few = λ begun. few_more steps i (Submit 0 no_op_job) old.fetched new.fetched below c.requires.fetch c.loop-i.invariant.few (c.push_step.ensures.few joined) c.push_step.ensures.fixed;
       fixed = λ none. absurd (let e : ⊥ = omega (arith, none) in e);
     }
+
+pub returns-clause-refused : goal.returns-clause-refused
+returns-clause-refused c =
+    let steps = c.args.steps.now in
+    none_at_end (λ (s : Step). false ≡ (is_of_row s && not (may_join (lists c.loop-i.sent.items c.loop-i.fetched.items) s))) steps (length steps) (omega arith)

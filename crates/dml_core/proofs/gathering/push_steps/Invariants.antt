@@ -1,8 +1,8 @@
-use Rattle.std.proofs.Common.{◌≡◌, ◌<◌, ◌≤◌, true, length, take}
+use Rattle.std.proofs.Common.{◌≡◌, ℕ, ◌-◌, ◌<◌, ◌≤◌, true, drop, length, take}
 use Rattle.std.specs.Prelude.{nat_lt}
 use Rattle.dml_core.specs.Plan.{open_places}
 use Rattle.dml_core.specs.World.{World, Reaches}
-use Rattle.dml_core.specs.Gather.{AreGathered, AreParts, gathered, is_idle, lists, lists_of}
+use Rattle.dml_core.specs.Gather.{AreGathered, AreParts, FetchesAt, fetch_follows, gathered, is_idle, lists, lists_of}
 use Rattle.dml_core.proofs.gathering.push_steps.Given as goal
 
 abbrev pub invariant-loop-i : goal.invariant-loop-i
@@ -13,6 +13,10 @@ invariant-loop-i l = record {
       → Reaches w (take l.i l.steps) (gathered w (lists l.sent.items l.fetched.items) (nat_lt 0 l.i));
   counted : l.open_jobs ≡ length (open_places l.fetched.items);
   parts : AreParts l.parts l.fetched.items;
+  onward : l.i ≤ l.end;
+  within : l.end ≤ length l.steps;
+  last : 0 < l.end → FetchesAt l.steps (l.end - 1);
+  follows : (k : ℕ) → l.i ≤ k → k < l.end → fetch_follows (length l.initial.sent.items) (drop k l.steps) ≡ true;
   few : 0 < l.i → length (open_places l.fetched.items) ≤ 1024;
   fixed : l.i ≡ 0 → l.fetched.items ≡ l.initial.fetched.items;
 }

@@ -288,7 +288,7 @@ limited fetches 131072 160000 200000
 [ "$behind_other" = 3 ] || complain 'limited fetches: no step was refused behind a plan'
 limited full_list 2000 16000 32000 65536 100000 107500 131072 262144
 [ "$behind_list" -gt 0 ] || complain 'limited full_list: no plan was refused behind a list'
-limited two_rows 2000 16000 52000 131072 200000 262144 284500 290500 296500 300000 400000
+limited two_rows 2000 16000 52000 131072 200000 262144 284500 300000 308500 311500 400000
 
 # ---- the program
 

@@ -9,7 +9,10 @@ top=$(cd "$(dirname "$0")/.." && pwd) || exit 2
 room=$(mktemp -d) || exit 2
 trap 'rm -rf "$room"' EXIT
 mkdir "$room/crates" || exit 2
-tar -cf - -C "$top/crates" --exclude=out dml_arena | tar -xf - -C "$room/crates" || exit 2
+mkdir "$room/crates/dml_arena" || exit 2
+for part in src specs proofs; do
+    cp -R "$top/crates/dml_arena/$part" "$room/crates/dml_arena/" || exit 2
+done
 cp "$top/HANDLES" "$room/" || exit 2
 grep '^dml_arena' "$top/crates.txt" >"$room/crates.txt" || exit 2
 

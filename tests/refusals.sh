@@ -258,11 +258,13 @@ limited() {
     before=$(growths "$core_tests" "tests::limits::set_up_of_limited_$name")
     behind_list=0
     behind_other=0
+    ends=
     for bytes in "$@"; do
         under "$bytes" "limited_${name}_alone"
         alone=$(said 'ended at')
         under "$bytes" "limited_${name}_by_one_call"
         whole=$(said 'ended at')
+        ends="$ends $whole"
         more=$(said 'then took')
         first=$(sed -n '1s/.* //p' "$work/log")
         refusals=$(($(wc -l <"$work/log") - 1 + ${more:-1}))
@@ -281,14 +283,27 @@ limited() {
         "$name" "$#" "$((behind_list + behind_other))" "$behind_list"
 }
 
+# ended FIRST LAST: one of these calls ended at a step between them
+ended() {
+    for end in $ends; do
+        [ "$end" -lt "$1" ] || [ "$end" -gt "$2" ] || return 0
+    done
+    complain "limited $name: no call ended from step $1 to $2, but at$ends"
+}
+
 core_tests=crates/dml_core_tests/out/dml_core_tests_tests
 limited fetches 2000 8000 32000 65536 212500 216000 220000 262144
+ended 0 998
+ended 1000 1000
 # The list of all that are fetched, 90,112 bytes, has its room here, so what is refused first is a plan.
 limited fetches 131072 160000 200000
 [ "$behind_other" = 3 ] || complain 'limited fetches: no step was refused behind a plan'
 limited full_list 2000 16000 32000 65536 100000 107500 131072 262144
 [ "$behind_list" -gt 0 ] || complain 'limited full_list: no plan was refused behind a list'
 limited two_rows 2000 16000 52000 131072 200000 262144 284500 300000 308500 311500 400000
+ended 0 1599
+ended 2100 2299
+ended 2300 2300
 
 # ---- the program
 

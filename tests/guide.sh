@@ -234,7 +234,7 @@ texts() {
     sed -n 's/.*Kind::[A-Za-z]* => "\(.*\)",/\1/p' "$top/crates/dml_grammar/src/faults.rt"
     grep -ho 'write_str("[^"]*\\n")' "$top"/crates/dml_command/src/refusals.rt "$top"/crates/dmljob/src/refusals.rt |
         sed 's/.*("//; s/\\n")//'
-    grep -o '(b"[a-z-]*", Word::' "$top/crates/dml_grammar/src/table.rt" | sed 's/(b"//; s/", Word:://'
+    sed -n 's/^ *b"\([a-z-]*\)" => Some(Word::.*/\1/p' "$top/crates/dml_grammar/src/table.rt"
 }
 texts >"$work/texts"
 [ "$(wc -l <"$work/texts")" -ge 30 ] || complain "the sources' texts were not found"

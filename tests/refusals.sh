@@ -201,7 +201,7 @@ library() {
     fi
     "$binary" --list >"$work/list" || complain "$binary --list fails"
     grep -q 'refused_' "$work/list" || printf 'refusals: %s: no test is named refused_*\n' "$1"
-    for test in $(sed -n 's/^\([A-Za-z0-9_:]*refused_[A-Za-z0-9_]*\): test$/\1/p' "$work/list"); do
+    for test in $(sed -n 's/^\(\([A-Za-z0-9_]*::\)*refused_[A-Za-z0-9_]*\): test$/\1/p' "$work/list"); do
         key=${1%_tests}:${test##*:}
         before=0
         if has_set_up "$key" "$test"; then

@@ -46,6 +46,20 @@ ends 0 "$((9 + number)) passed, 0 failed" 'rt: dml_one proved' '9 passed, 0 fail
 for task in '[34]  rt ci' '[12]  tests/cli.sh'; do
     grep -q "^ *$task\$" "$room/said" || { echo "try_check: no time of: $task"; wrong=1; }
 done
+grep -q '^== the gate: [34] seconds, [01] minutes of a processor, 0 must-fail edits$' "$room/said" ||
+    { echo 'try_check: does not say what the gate took'; wrong=1; }
+! grep -q 'over the budget' "$room/said" || { echo 'try_check: a budget is passed too early'; wrong=1; }
+mkdir -p "$room/top/crates/one/must-fail"
+for edit in $(seq 260); do
+    : >"$room/top/crates/one/must-fail/$edit.edit"
+done
+sed -i 's/^minutes_set=.*/minutes_set=0/' "$room/top/check"
+gate 0 '9 passed, 0 failed' 'seq 9000000 | tail -n 1 >/dev/null'
+ends 0 "$((9 + number)) passed, 0 failed" \
+    'check: over the budget: 1 minutes of a processor, where the gate is to take 0' \
+    'check: over the budget: 260 must-fail edits, where there are to be fewer than 260'
+rm -r "$room/top/crates"
+cp "$top/check" "$room/top/"
 gate 1 '8 passed, 1 failed'
 ends 1 "$((8 + number)) passed, 1 failed"
 gate 1 '9 passed, 0 failed'

@@ -1,18 +1,19 @@
 -- Submits and fetches in a row.
 use Rattle.std.proofs.Common.{◌≡◌, ◌⊎◌, ℕ, ◌+◌, ◌-◌, ◌<◌, ◌≤◌, Bool, true, false, not, drop, Option, None, Some, inl, inr, ⊎_elim, List, [], ◌∷◌, ◌++◌, length, get_or, set, take, refl, sym, ◌∙◌, ap, subst, arith}
-use Rattle.std.proofs.lemmas.Bool.{and_from, and_parts, cases_lt, false≢true, lt-ltb, ltb-true, or_left, or_right}
-use Rattle.std.proofs.lemmas.List.{get_or-drop, get_or-set_same, get_or-take, length-drop, length-take, length-take-le, length_push, set-set, set-get_or, take_more, take_rest}
+use Rattle.std.proofs.lemmas.Bool.{and_from, and_parts, cases_lt, false≢true, ltb-true, or_right}
+use Rattle.std.proofs.lemmas.List.{get_or-drop, get_or-set_same, get_or-take, length-drop, length-take, length-take-le, length_push, set-set, set-get_or, take-take, take_more, take_rest}
 use Rattle.std.proofs.lemmas.Option.{slice_get-get_or, slice_get_past}
 use Rattle.std.proofs.Math.Seq.{take-add, take-append_seam}
 use Rattle.std.specs.Prelude.{◌&&◌, ◌||◌, IfSome, is_some, nat_lt, slice_get}
+use Rattle.dml_types.specs.Job.{no_op_job}
 use Rattle.dml_types.specs.Memory.{Memory}
 use Rattle.dml_core.specs.Plan.{jobs_of, open_places, plan_of, tasks_of}
 use Rattle.dml_core.specs.Types.{Job, Settings, Fetched, Task, Step, Submit, Fetch, Take, Finish, Commit}
 use Rattle.dml_core.specs.declared.errors.StepFault.TheVariants.{NotAllowed}
 use Rattle.dml_core.specs.Replay.{StopsAt}
 use Rattle.dml_core.specs.World.{Kept, World, after, is_allowed, is_empty, no_hand, Reaches}
-use Rattle.dml_core.specs.Gather.{Lists, lists, is_fetch, is_idle, may_join, next_of, grown, shorter, ungrown, AreGathered, FetchesAt, IsRefused, NoneFetches, gathered, is_of_row}
-use Rattle.dml_core.proofs.ReplayLemmas.{reaches_append, replay_more, replay_refused}
+use Rattle.dml_core.specs.Gather.{Lists, lists, lists_of, is_fetch, is_idle, may_join, next_of, grown, shorter, ungrown, AreGathered, FetchesAt, IsRefused, NoneFetches, gathered, is_of_row}
+use Rattle.dml_core.proofs.ReplayLemmas.{reaches_append, reaches_first, replay_refused}
 use Rattle.dml_core.proofs.StepFacts.{world}
 
 and_turned : (free none next few : Bool) → (free && none) ≡ true → (next && few) ≡ true → (next && free && none && few) ≡ true
@@ -78,13 +79,6 @@ joins_after w now fetches (Take worker) may = cc
 joins_after w now fetches (Finish worker) may = cc
 joins_after w now fetches Commit may = cc
 
-pub gather_reaches : (w : World) (now next : Lists) (steps : List Step) (i : ℕ) (d : Step) (fetches : Bool) → i < length steps → is_idle w ≡ true → Reaches w (take i steps) (gathered w now fetches) → may_join now (get_or steps i d) ≡ true → next ≡ grown now (get_or steps i d) → Reaches w (take (i + 1) steps) (gathered w next (fetches || is_fetch (get_or steps i d)))
-gather_reaches w now next steps i d fetches below idle before may is =
-    let s = get_or steps i d in
-    replay_more w (gathered w now fetches) (gathered w next (fetches || is_fetch s)) steps i d below before
-    (joins_allowed w now fetches s idle may)
-    (ap (λ (l : Lists). gathered w l (fetches || is_fetch s)) is ∙ joins_after w now fetches s may)
-
 gathered_more : (steps : List Step) (first now next : Lists) (s : Step) → AreGathered first steps now → may_join now s ≡ true → next ≡ grown now s → AreGathered first (steps ++ s ∷ []) next
 gathered_more [] first now next s before may is =
     (ap (λ (l : Lists). may_join l s) before ∙ may, ap (λ (l : Lists). grown l s) before ∙ sym is)
@@ -127,6 +121,20 @@ gather_less first now next steps i d below all is =
     (gathered_less (take i steps) first now (get_or steps i d)
     (subst (λ (list : List Step). AreGathered first list now) (take_more steps i d below) all))
 
+submit_ungrown : (now : Lists) (s : Step) → is_fetch s ≡ false → (ungrown now s).fetched ≡ now.fetched
+submit_ungrown now (Submit client job) is = refl
+submit_ungrown now (Fetch client) is = cc
+submit_ungrown now (Take worker) is = refl
+submit_ungrown now (Finish worker) is = refl
+submit_ungrown now Commit is = refl
+
+-- a step behind the last fetch is taken back, and what was fetched stays
+pub fetched_as_before : (now next : Lists) (steps : List Step) (from i : ℕ) (d : Step) → NoneFetches steps from → from ≤ i → i < length steps → next ≡ ungrown now (get_or steps i d) → next.fetched ≡ now.fetched
+fetched_as_before now next steps from i d none behind below is =
+    ap (λ (l : Lists). l.fetched) is
+    ∙ submit_ungrown now (get_or steps i d)
+    (subst (λ (s : Option Step). IfSome s (λ (x : Step). is_fetch x ≡ false)) (slice_get-get_or steps i d below) (none.each i behind below))
+
 -- a row begins with a fetch
 abbrev FewOpen : List Fetched → Type 0
 FewOpen fetched = length (open_places fetched) ≤ 1024
@@ -140,13 +148,6 @@ fetch_or_behind steps i d below fetches =
     subst (λ (s : Option Step). IfSome s (λ (x : Step). is_fetch x ≡ true)) (slice_get-get_or steps 0 d (omega (arith, below))) fetches in
     inl (subst (λ (k : ℕ). is_fetch (get_or steps k d) ≡ true) here begins))
     (cases_lt 0 i)
-
-pub begun_or_fetches : (steps : List Step) (i : ℕ) (d : Step) → i < length steps → FetchesAt steps 0 → nat_lt 0 (i + 1) ≡ (nat_lt 0 i || is_fetch (get_or steps i d))
-begun_or_fetches steps i d below fetches =
-    lt-ltb 0 (i + 1) (omega arith)
-    ∙ sym (⊎_elim (λ (is : is_fetch (get_or steps i d) ≡ true). or_right (nat_lt 0 i) (is_fetch (get_or steps i d)) is)
-    (λ (behind : 0 < i). or_left (nat_lt 0 i) (is_fetch (get_or steps i d)) (lt-ltb 0 i behind))
-    (fetch_or_behind steps i d below fetches))
 
 pub few_more : (steps : List Step) (i : ℕ) (d : Step) (old new : List Fetched) → i < length steps → FetchesAt steps 0 → (0 < i → FewOpen old) → (is_fetch (get_or steps i d) ≡ true → FewOpen new) → (is_fetch (get_or steps i d) ≡ true) ⊎ (new ≡ old) → FewOpen new
 few_more steps i d old new below fetches before here (inl is) = here is
@@ -181,6 +182,46 @@ same_step steps n i d low within =
     let size = length-take n steps in
     slice_get-get_or (take n steps) i d (omega (arith, size, low, within))
     ∙ (ap Some (get_or-take n steps i d low) ∙ sym (slice_get-get_or steps i d (omega (arith, low, within))))
+
+-- some of the first steps begin as all do
+pub begins_first : (steps : List Step) (n : ℕ) → 0 < n → n ≤ length steps → FetchesAt steps 0 → FetchesAt (take n steps) 0
+begins_first steps n some within fetches =
+    subst (λ (o : Option Step). IfSome o (λ (x : Step). is_fetch x ≡ true)) (sym (same_step steps n 0 (Submit 0 no_op_job) some within)) fetches
+
+-- steps that make the lists longer behind a fetch
+joined_reaches : (w : World) (first last : Lists) (steps : List Step) → is_idle w ≡ true → AreGathered first steps last → Reaches (gathered w first true) steps (gathered w last true)
+joined_reaches w first last [] idle all = ap (λ (l : Lists). (gathered w l true, None)) all
+joined_reaches w first last (s ∷ steps) idle all =
+    reaches_first (gathered w first true) s steps (gathered w last true) (joins_allowed w first true s idle all.0)
+    (subst (λ (v : World). Reaches v steps (gathered w last true)) (joins_after w first true s all.0)
+    (joined_reaches w (grown first s) last steps idle all.1))
+
+-- a row that begins with a fetch
+begun_reaches : (w : World) (last : Lists) (s : Step) (steps : List Step) → is_idle w ≡ true → is_fetch s ≡ true → AreGathered (lists_of w) (s ∷ steps) last → Reaches w (s ∷ steps) (gathered w last true)
+begun_reaches w last s steps idle is all =
+    let next : gathered w (grown (lists_of w) s) true ≡ after w s =
+    ap (gathered w (grown (lists_of w) s)) (sym is) ∙ joins_after w (lists_of w) false s all.0 in
+    reaches_first w s steps (gathered w last true) (joins_allowed w (lists_of w) false s idle all.0)
+    (subst (λ (v : World). Reaches v steps (gathered w last true)) next
+    (joined_reaches w (grown (lists_of w) s) last steps idle all.1))
+
+fetches_first : (s : Step) (steps : List Step) → FetchesAt (s ∷ steps) 0 → is_fetch s ≡ true
+fetches_first s steps fetches =
+    subst (λ (o : Option Step). IfSome o (λ (x : Step). is_fetch x ≡ true)) (slice_get-get_or (s ∷ steps) 0 s (omega arith)) fetches
+
+-- a row reaches the world with the lists that it makes longer, planned anew
+pub row_reaches : (w : World) (last : Lists) (steps : List Step) → is_idle w ≡ true → 0 < length steps → FetchesAt steps 0 → AreGathered (lists_of w) steps last → Reaches w steps (gathered w last true)
+row_reaches w last [] idle some fetches all = absurd (let e : ⊥ = omega (arith, some) in e)
+row_reaches w last (s ∷ steps) idle some fetches all =
+    begun_reaches w last s steps idle (fetches_first s steps fetches) all
+
+-- the row up to its last fetch
+pub ended_reaches : (w : World) (last : Lists) (steps : List Step) (count end : ℕ) → is_idle w ≡ true → count ≤ length steps → 0 < end → end ≤ count → FetchesAt steps 0 → AreGathered (lists_of w) (take end (take count steps)) last → Reaches w (take end steps) (gathered w last true)
+ended_reaches w last steps count end idle within some low fetches all =
+    let size = length-take-le end steps (omega (arith, within, low)) in
+    row_reaches w last (take end steps) idle (omega (arith, size, some))
+    (begins_first steps end some (omega (arith, within, low)) fetches)
+    (subst (λ (list : List Step). AreGathered (lists_of w) list last) (take-take end count steps low) all)
 
 -- a step behind some of the first steps is one behind some of all
 pub refused_in : (w : World) (steps : List Step) (n taken : ℕ) (d : Step) → n ≤ length steps → IsRefused w (take n steps) taken → IsRefused w steps taken

@@ -34,7 +34,8 @@ struct Turn {
 }
 
 /// How many steps made the lists longer; the first of them fetches. Where they are not all, the step behind is neither
-/// a submit nor a fetch, no fetch follows it, there was no memory for it, or it is not allowed.
+/// a submit nor a fetch, no fetch follows it, there was no memory for it, or it is not allowed. Only in front of one for
+/// which there was no memory, or that is not allowed, submits stand behind the last fetch.
 #[derive(Clone, Copy)]
 struct Row {
     count: usize,
@@ -99,8 +100,9 @@ impl World {
     }
 
     /// Takes submits and fetches, as far as they can be taken, up to the last fetch. Of the client of the first it is
-    /// known what is next. Only the plan behind the last fetch is made, since each fetch plans all open jobs anew.
-    /// Where the allocator has no memory left for it, the steps are taken back, and the room that the lists grew by.
+    /// known what is next. Only the plan behind the last fetch is made, since each fetch plans all open jobs anew; while
+    /// it is made, the lists hold no more than they do behind that fetch. Where the allocator has no memory left for it,
+    /// the steps are taken back, and the room that the lists grew by.
     fn gather_row(&mut self, alloc: Global, client: u32, next: &Next, steps: &[Step]) -> Turn
         requires some { 0 < length steps.now }
         requires fetch { FetchesAt steps.now 0 }
@@ -111,18 +113,19 @@ impl World {
         ensures onward { result.is_refused ≡ false → 0 < result.taken + result.alone }
         ensures reached { Reaches self.old (take result.taken steps.now) self.new }
         ensures refused { result.is_refused ≡ true → IsRefused self.new steps.now result.taken }
-        ensures last { 0 < result.taken → result.tried ≡ result.taken → result.is_refused ≡ false
-            → FetchesAt steps.now (result.taken - 1) }
+        ensures last { 0 < result.taken → FetchesAt steps.now (result.taken - 1) }
         ensures tried { result.taken ≡ 0 → 0 < result.tried
             → EndsWithLastFetch (take result.tried steps.now) result.alone }
     {
         let mut parts = first_count(client, next.part);
-        let rooms = Rooms::of(&self.sent, &self.fetched);
+        let before = Rooms::of(&self.sent, &self.fetched);
+        let mut rooms = before;
         let row = push_steps(
             &mut self.sent,
             &mut self.fetched,
             next.open_jobs,
             &mut parts,
+            &mut rooms,
             steps,
         );
         if row.count == 0 {
@@ -133,24 +136,52 @@ impl World {
                 is_refused: false,
             };
         }
+        let end = end_with_fetch(
+            &mut self.sent,
+            &mut self.fetched,
+            &rooms,
+            &steps[..row.count],
+        );
         match set_out(alloc, self.fetched.as_slice(), &self.settings) {
             Ok(Outset { waves, tasks }) => {
                 self.waves = waves;
                 self.committed = 0;
                 self.tasks = tasks;
                 self.taken = 0;
-                Turn {
-                    taken: row.count,
-                    alone: one_if(row.wants_memory),
-                    tried: row.count + one_if(row.wants_memory),
-                    is_refused: row.is_refused,
-                }
+                row.planned(end)
             }
             Err(_) => {
-                take_back(&mut self.sent, &mut self.fetched, &steps[..row.count]);
-                rooms.give_back(&mut self.sent, &mut self.fetched);
-                Turn::without_plan(&steps[..row.count])
+                take_back(&mut self.sent, &mut self.fetched, &steps[..end], 0);
+                before.give_back(&mut self.sent, &mut self.fetched);
+                Turn::without_plan(&steps[..end])
             }
+        }
+    }
+}
+
+impl Row {
+    /// So many of the row's steps were taken, up to its last fetch. The submits behind it are to be taken one at a time,
+    /// and the step for which there was no memory.
+    fn planned(&self, end: usize) -> Turn
+        requires within { end ≤ self.now.count }
+        requires room { self.now.count < 18446744073709551615 }
+        ensures taken { result.taken ≡ end }
+        ensures alone { self.now.wants_memory ≡ false → end + result.alone ≡ self.now.count }
+        ensures alone_more { self.now.wants_memory ≡ true → end + result.alone ≡ self.now.count + 1 }
+        ensures tried { self.now.wants_memory ≡ true → result.tried ≡ self.now.count + 1 }
+        ensures is_refused { result.is_refused ≡ true → self.now.is_refused ≡ true }
+        ensures all { result.is_refused ≡ true → self.now.count ≡ end }
+    {
+        let is_whole = end == self.count;
+        Turn {
+            taken: end,
+            alone: self.count - end + one_if(self.wants_memory),
+            tried: if self.wants_memory {
+                self.count + 1
+            } else {
+                end
+            },
+            is_refused: self.is_refused && is_whole,
         }
     }
 }
@@ -258,12 +289,13 @@ fn fetch_from(clients: usize, steps: &[Step], from: usize) -> usize
 
 /// Makes the lists of an idle world longer by the steps, which begin with a fetch, up to the first that cannot be
 /// taken, or that no fetch follows. So many of the fetched jobs are open, and so many each client's; each fetch counts
-/// one more, so they are counted once at most.
+/// one more, so they are counted once at most. Where submits follow a fetch, the room that the lists have is noted.
 fn push_steps(
     sent: &mut Vec<SentJobs>,
     fetched: &mut Vec<Fetched>,
     open_jobs: usize,
     parts: &mut [Option<usize>],
+    rooms: &mut Rooms,
     steps: &[Step],
 ) -> Row
     requires open_jobs { open_jobs ≡ length (open_places fetched.old.items) }
@@ -280,9 +312,6 @@ fn push_steps(
         → FetchesAt steps.now (result.count - 1) }
     ensures gathered { AreGathered (lists sent.old.items fetched.old.items) (take result.count steps.now)
         (lists sent.new.items fetched.new.items) }
-    ensures reached { (w : World) → lists_of w ≡ lists sent.old.items fetched.old.items → is_idle w ≡ true
-        → Reaches w (take result.count steps.now)
-        (gathered w (lists sent.new.items fetched.new.items) (nat_lt 0 result.count)) }
     ensures few { 0 < result.count → length (open_places fetched.new.items) ≤ 1024 }
     ensures fixed { result.count ≡ 0 → fetched.new.items ≡ fetched.old.items }
 {
@@ -292,6 +321,7 @@ fn push_steps(
     for i in 0..steps.len() {
         if i == end {
             end = fetch_from(clients, steps, i);
+            rooms.note(sent, fetched, end > i + 1);
         }
         if i == end || !push_step(sent, fetched, &mut open_jobs, parts, &steps[i]) {
             let may = may_push(sent, fetched, open_jobs, parts, &steps[i]);
@@ -445,13 +475,39 @@ fn push_fetched(
     }
 }
 
-/// Takes back the steps that made the lists longer, from the last on.
-fn take_back(sent: &mut Vec<SentJobs>, fetched: &mut Vec<Fetched>, steps: &[Step])
-    ensures { (first : Lists) → AreGathered first steps.now (lists sent.old.items fetched.old.items)
-        → first ≡ lists sent.new.items fetched.new.items }
+/// Takes back the submits behind the last fetch of the steps that made the lists longer, and the room that the lists
+/// grew by since: they had so much behind that fetch. Answers the place behind it.
+fn end_with_fetch(
+    sent: &mut Vec<SentJobs>,
+    fetched: &mut Vec<Fetched>,
+    rooms: &Rooms,
+    steps: &[Step],
+) -> usize
+    requires some { 0 < length steps.now }
+    requires fetch { FetchesAt steps.now 0 }
+    ensures ends { EndsWithLastFetch steps.now result }
+    ensures gathered { (first : Lists) → AreGathered first steps.now (lists sent.old.items fetched.old.items)
+        → AreGathered first (take result steps.now) (lists sent.new.items fetched.new.items) }
+    ensures fetched { fetched.new.items ≡ fetched.old.items }
+    ensures whole { result ≡ length steps.now → sent.new.items ≡ sent.old.items }
+{
+    let end = fetch_end(steps);
+    if end < steps.len() {
+        take_back(sent, fetched, steps, end);
+        rooms.give_back(sent, fetched);
+    }
+    end
+}
+
+/// Takes back the steps that made the lists longer, from the last on, up to that at a place.
+fn take_back(sent: &mut Vec<SentJobs>, fetched: &mut Vec<Fetched>, steps: &[Step], from: usize)
+    requires { from ≤ length steps.now }
+    ensures gathered { (first : Lists) → AreGathered first steps.now (lists sent.old.items fetched.old.items)
+        → AreGathered first (take from steps.now) (lists sent.new.items fetched.new.items) }
+    ensures fetched { NoneFetches steps.now from → fetched.new.items ≡ fetched.old.items }
 {
     let mut left = steps.len();
-    while left > 0 {
+    while left > from {
         left -= 1;
         take_back_step(sent, fetched, &steps[left]);
     }

@@ -1,5 +1,5 @@
 //! How much room the lists of a world have.
-ghost use Rattle.std.specs.Prelude.{◌≡◌, ◌≤◌, [], min, vec_capacity};
+ghost use Rattle.std.specs.Prelude.{◌≡◌, ◌≤◌, [], false, min, true, vec_capacity};
 
 use crate::counts::COUNTED;
 use crate::lists::SentJobs;
@@ -24,6 +24,16 @@ impl Rooms {
         Rooms {
             sent: rooms,
             fetched: fetched.capacity(),
+        }
+    }
+
+    /// Notes the room that the lists have, where it is wanted.
+    pub(crate) fn note(&mut self, sent: &[SentJobs], fetched: &Vec<Fetched>, is_wanted: bool)
+        ensures wanted { is_wanted ≡ true → self.new.fetched ≡ vec_capacity fetched.now }
+        ensures same { is_wanted ≡ false → self.new ≡ self.old }
+    {
+        if is_wanted {
+            *self = Rooms::of(sent, fetched);
         }
     }
 

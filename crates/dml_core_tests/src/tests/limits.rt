@@ -9,7 +9,7 @@ use std::alloc::Global;
 use std::process::Abort;
 use std::test::Fail;
 
-/// A world, and the steps that it is to take. All of them are allowed.
+/// A world, and the steps that it is to take. All of them are allowed, but for the last of `bad_end`.
 #[derive(Drop)]
 struct Schedule {
     world: World,
@@ -79,6 +79,25 @@ fn two_rows(alloc: Global) -> Option<Schedule> {
         push_submits(&mut steps, client, 500)?;
     }
     push_fetches(&mut steps, 0, 200)?;
+    schedule_of(alloc, 1000, 0, steps)
+}
+
+/// A row of as many steps as one may have, almost all of them submits between two fetches, whose list grows eleven times.
+fn long_row(alloc: Global) -> Option<Schedule> {
+    let mut steps = Vec::new(alloc);
+    push_fetches(&mut steps, 0, 200)?;
+    push_submits(&mut steps, 1, 1847)?;
+    push_fetches(&mut steps, 0, 1)?;
+    schedule_of(alloc, 1000, 0, steps)
+}
+
+/// A row that ends before a fetch that is not allowed, since its client sent nothing. The submits before it are not
+/// followed by a fetch that is, and the plan of those that are is made without what they take.
+fn bad_end(alloc: Global) -> Option<Schedule> {
+    let mut steps = Vec::new(alloc);
+    push_fetches(&mut steps, 0, 200)?;
+    push_submits(&mut steps, 1, 1800)?;
+    push_fetches(&mut steps, 2, 1)?;
     schedule_of(alloc, 1000, 0, steps)
 }
 
@@ -194,6 +213,50 @@ fn limited_two_rows_by_one_call(rt: HostRuntime) -> Result<(), Fail> {
 #[test]
 fn limited_two_rows_alone(rt: HostRuntime) -> Result<(), Fail> {
     let schedule = two_rows(rt.alloc()).ok_or("no memory")?;
+    expect_alone(&rt, rt.alloc(), schedule).ok_or("no output")?;
+    Ok(())
+}
+
+/// What both tests of the long row do before their calls.
+#[test]
+fn set_up_of_limited_long_row(rt: HostRuntime) -> Result<(), Fail> {
+    let schedule = long_row(rt.alloc()).ok_or("no memory")?;
+    expect_counts(&rt, &schedule.world, schedule.before, &[]);
+    Ok(())
+}
+
+#[test]
+fn limited_long_row_by_one_call(rt: HostRuntime) -> Result<(), Fail> {
+    let schedule = long_row(rt.alloc()).ok_or("no memory")?;
+    expect_whole(&rt, rt.alloc(), schedule).ok_or("no output")?;
+    Ok(())
+}
+
+#[test]
+fn limited_long_row_alone(rt: HostRuntime) -> Result<(), Fail> {
+    let schedule = long_row(rt.alloc()).ok_or("no memory")?;
+    expect_alone(&rt, rt.alloc(), schedule).ok_or("no output")?;
+    Ok(())
+}
+
+/// What both tests of the bad end do before their calls.
+#[test]
+fn set_up_of_limited_bad_end(rt: HostRuntime) -> Result<(), Fail> {
+    let schedule = bad_end(rt.alloc()).ok_or("no memory")?;
+    expect_counts(&rt, &schedule.world, schedule.before, &[]);
+    Ok(())
+}
+
+#[test]
+fn limited_bad_end_by_one_call(rt: HostRuntime) -> Result<(), Fail> {
+    let schedule = bad_end(rt.alloc()).ok_or("no memory")?;
+    expect_whole(&rt, rt.alloc(), schedule).ok_or("no output")?;
+    Ok(())
+}
+
+#[test]
+fn limited_bad_end_alone(rt: HostRuntime) -> Result<(), Fail> {
+    let schedule = bad_end(rt.alloc()).ok_or("no memory")?;
     expect_alone(&rt, rt.alloc(), schedule).ok_or("no output")?;
     Ok(())
 }

@@ -1,25 +1,11 @@
-use Rattle.std.proofs.Common.{◌≡◌, ◌+◌, ◌-◌, ◌<◌, ◌≤◌, ℕ, Bool, true, false, not, drop, length, get_or, take, rules, sym, subst, arith}
+use Rattle.std.proofs.Common.{◌≡◌, ◌-◌, ◌<◌, ◌≤◌, ℕ, true, false, not, drop, length, rules, sym, subst, arith}
 use Rattle.dml_types.specs.Job.{no_op_job}
-use Rattle.std.specs.Prelude.{◌&&◌, ◌||◌, nat_lt}
+use Rattle.std.specs.Prelude.{◌&&◌}
 use Rattle.dml_core.specs.Types.{Step, Submit}
-use Rattle.dml_core.specs.World.{Reaches}
-use Rattle.dml_core.specs.Gather.{FetchesAt, Lists, fetch_follows, gathered, is_fetch, is_of_row, lists, may_join}
-use Rattle.dml_core.proofs.GatherLemmas.{begun_or_fetches, few_more, gather_more, gather_reaches, none_at_end}
+use Rattle.dml_core.specs.Gather.{FetchesAt, fetch_follows, is_of_row, lists, may_join}
+use Rattle.dml_core.proofs.GatherLemmas.{few_more, gather_more, none_at_end}
 use Rattle.dml_core.proofs.gathering.push_steps.Goals as goal
-use Rattle.dml_core.proofs.gathering.push_steps.Goals.{then-i-end, else-i-end, then-i-end-2-via-then-i-end-2, then-i-end-2-via-else-i-end-2+then-not-push_step}
-
-pub returns-then-i-end-2-clause-reached : goal.returns-then-i-end-2-clause-reached
-returns-then-i-end-2-clause-reached c =
-    let old = lists c.loop-i.sent.items c.loop-i.fetched.items in
-    let new = lists c.then-i-end-2.sent.items c.then-i-end-2.fetched.items in
-    let same : old ≡ new =
-    elim c.then-i-end-2.branch [
-      | then-i-end-2-via-then-i-end-2 w ↦ search rules
-      | then-i-end-2-via-else-i-end-2+then-not-push_step w ↦ search rules
-    ] in
-    λ w is idle.
-    subst (λ (l : Lists). Reaches w (take c.loop-i.i c.args.steps.now) (gathered w l (nat_lt 0 c.loop-i.i))) same
-    (c.loop-i.invariant.reach w is idle)
+use Rattle.dml_core.proofs.gathering.push_steps.Goals.{then-i-end, else-i-end}
 
 pub loop-i-preserved : goal.loop-i-preserved
 loop-i-preserved c =
@@ -33,15 +19,10 @@ loop-i-preserved c =
     let joined : c.push_step.result ≡ true = search rules in
     let may = c.push_step.ensures.taken joined in
     let more = c.push_step.ensures.more joined in
-    let step = get_or steps i (Submit 0 no_op_job) in
-    let now : nat_lt 0 (i + 1) ≡ (nat_lt 0 i || is_fetch step) = begun_or_fetches steps i (Submit 0 no_op_job) below c.requires.fetch in
     let behind : i ≤ end = elim c.if-i-end.branch [ then-i-end w ↦ search rules | else-i-end w ↦ search rules ] in
     let clients : c.len-clients.result ≡ length c.args.sent.now.items = search rules in
     record {
       all = gather_more first old new steps i (Submit 0 no_op_job) below c.loop-i.invariant.all may more;
-      reach = λ w is idle.
-          subst (λ (b : Bool). Reaches w (take (i + 1) steps) (gathered w new b)) (sym now)
-          (gather_reaches w old new steps i (Submit 0 no_op_job) (nat_lt 0 i) below idle (c.loop-i.invariant.reach w is idle) may more);
       counted = c.push_step.ensures.open_jobs;
       parts = c.push_step.ensures.parts;
       onward = omega (arith, behind, c.if-i-end-2.false);

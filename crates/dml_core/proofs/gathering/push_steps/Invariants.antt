@@ -1,16 +1,11 @@
 use Rattle.std.proofs.Common.{◌≡◌, ℕ, ◌-◌, ◌<◌, ◌≤◌, true, drop, length, take}
-use Rattle.std.specs.Prelude.{nat_lt}
 use Rattle.dml_core.specs.Plan.{open_places}
-use Rattle.dml_core.specs.World.{World, Reaches}
-use Rattle.dml_core.specs.Gather.{AreGathered, AreParts, FetchesAt, fetch_follows, gathered, is_idle, lists, lists_of}
+use Rattle.dml_core.specs.Gather.{AreGathered, AreParts, FetchesAt, fetch_follows, lists}
 use Rattle.dml_core.proofs.gathering.push_steps.Given as goal
 
 abbrev pub invariant-loop-i : goal.invariant-loop-i
 invariant-loop-i l = record {
   all : AreGathered (lists l.initial.sent.items l.initial.fetched.items) (take l.i l.steps) (lists l.sent.items l.fetched.items);
-  reach :
-      (w : World) → lists_of w ≡ lists l.initial.sent.items l.initial.fetched.items → is_idle w ≡ true
-      → Reaches w (take l.i l.steps) (gathered w (lists l.sent.items l.fetched.items) (nat_lt 0 l.i));
   counted : l.open_jobs ≡ length (open_places l.fetched.items);
   parts : AreParts l.parts l.fetched.items;
   onward : l.i ≤ l.end;

@@ -1,8 +1,8 @@
-use Rattle.std.proofs.Common.{◌≡◌, ◌+◌, ◌-◌, ◌<◌, ℕ, length, take, subst, arith}
+use Rattle.std.proofs.Common.{◌≡◌, ◌+◌, ◌-◌, ◌<◌, ◌∙◌, ℕ, length, take, subst, arith}
 use Rattle.dml_types.specs.Job.{no_op_job}
 use Rattle.dml_core.specs.Types.{Submit}
 use Rattle.dml_core.specs.Gather.{AreGathered, lists}
-use Rattle.dml_core.proofs.GatherLemmas.{gather_less}
+use Rattle.dml_core.proofs.GatherLemmas.{fetched_as_before, gather_less}
 use Rattle.dml_core.proofs.gathering.take_back.Goals as goal
 
 pub loop-left-preserved : goal.loop-left-preserved
@@ -15,8 +15,12 @@ loop-left-preserved c =
     let new = lists c.take_back_step.new.sent.items c.take_back_step.new.fetched.items in
     let whole : left ≡ left - 1 + 1 = omega arith in (
       omega arith,
+      omega arith,
       λ first all.
           gather_less first old new steps (left - 1) (Submit 0 no_op_job) below
-          (let P : ℕ → Type 0 = λ n. AreGathered first (take n steps) old in subst P whole (c.loop-left.invariant.1 first all))
+          (let P : ℕ → Type 0 = λ n. AreGathered first (take n steps) old in subst P whole (c.loop-left.invariant.2 first all))
           c.take_back_step.ensures,
+      λ none.
+          fetched_as_before old new steps c.args.from (left - 1) (Submit 0 no_op_job) none (omega arith) below c.take_back_step.ensures
+          ∙ c.loop-left.invariant.3 none,
     )

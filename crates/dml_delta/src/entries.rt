@@ -36,6 +36,20 @@ impl Entries {
         }
     }
 
+    /// Those that are here.
+    pub fn bytes(&self) -> &[u8]
+        ensures { result.now ≡ self.now }
+    {
+        &self.bytes[..self.len]
+    }
+
+    /// Forgets those that are here.
+    pub fn clear(&mut self)
+        ensures { self.new ≡ [] }
+    {
+        self.len = 0;
+    }
+
     /// Adds the entry of a block.
     #[inline(always)]
     #[tactic(auto, using(crate::proofs::EntryLemmas::added))]

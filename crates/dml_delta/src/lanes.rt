@@ -41,7 +41,7 @@ pub fn add_differing(
 
 /// Which of eight blocks differ: bit i stands for block i.
 #[inline(always)]
-fn marks_of_group(one: &[u8], other: &[u8]) -> u64
+pub fn marks_of_group(one: &[u8], other: &[u8]) -> u64
     requires lengths { (length one.now ≡ 64) × (length other.now ≡ 64) }
     ensures { (i : ℕ) → is_marked result i ≡ nth_differs one.now other.now i }
 {
@@ -51,7 +51,7 @@ fn marks_of_group(one: &[u8], other: &[u8]) -> u64
 }
 
 /// Which of fewer blocks differ.
-fn marks_of_rest(one: &[u8], other: &[u8]) -> u64
+pub fn marks_of_rest(one: &[u8], other: &[u8]) -> u64
     requires lengths { length other.now ≡ length one.now }
     requires whole { length one.now % 8 ≡ 0 }
     requires few { length one.now ≤ 64 }
@@ -92,7 +92,7 @@ fn add_marked(entries: &mut Entries, marks: u64, blocks: &[u8], number: u32, roo
 
 /// Adds the entries of the marked ones of up to eight blocks, for which there is room. A mark is cleared by its place,
 /// so that the next one is soon found.
-fn add_entries(entries: &mut Entries, marks: u64, blocks: &[u8], number: u32)
+pub fn add_entries(entries: &mut Entries, marks: u64, blocks: &[u8], number: u32)
     requires few { length blocks.now ≤ 64 }
     requires marks { (i : ℕ) → is_marked marks i ≡ true → 8 * i + 8 ≤ length blocks.now }
     requires numbers { number + length blocks.now / 8 ≤ 65536 }

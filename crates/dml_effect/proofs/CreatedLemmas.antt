@@ -166,7 +166,7 @@ module _ (memory : Memory) (job : Job) (whole : IsWhole memory) (limits : Create
     long_written : length (take (10 * written) bytes) ≡ 10 * written
     long_written = length-take-le (10 * written) bytes written_within
 
-    taken : flat_map (block_entry memory job) (take room blocks) ≡ take (10 * written) bytes
+    pub taken : flat_map (block_entry memory job) (take room blocks) ≡ take (10 * written) bytes
     taken =
         ap (flat_map (block_entry memory job)) same_blocks
         ∙ (sym (take_tens (block_entry memory job) blocks written (entries_tens memory job 0 (job.size / 8) whole))

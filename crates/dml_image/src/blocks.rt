@@ -37,7 +37,7 @@ pub fn put_inside(bytes: &mut [u8], begin: u64, target: u64, entries: &[u8], fir
 
 /// The bytes of an entry's block, by value: so they are read and written as one word.
 #[inline(always)]
-fn entry_block(entries: &[u8], i: usize) -> [u8; 8]
+pub fn entry_block(entries: &[u8], i: usize) -> [u8; 8]
     requires { i < length entries.now / 10 }
     ensures bytes { result ≡ slice_range entries.now (10 * i + 2) (10 * i + 10) }
     ensures length { length result ≡ 8 }

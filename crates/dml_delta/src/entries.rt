@@ -8,7 +8,7 @@ use std::marker::Model;
 /// How many bytes of entries are gathered.
 const ROOM: usize = 640;
 
-/// Entries on their way to a region, gathered so that many are pushed at once.
+/// Entries on their way to a region or to a record, at most 640 bytes of them, gathered so that many are written at once.
 #[derive(Drop)]
 pub struct Entries {
     bytes: [u8; ROOM],
@@ -36,7 +36,7 @@ impl Entries {
         }
     }
 
-    /// Those that are here.
+    /// The bytes of those that are here.
     pub fn bytes(&self) -> &[u8]
         ensures { result.now ≡ self.now }
     {

@@ -1,5 +1,5 @@
 //! The blocks in which two slices of whole blocks differ, eight at a time.
-ghost use Rattle.std.specs.Prelude.{◌≡◌, ℕ, ◌+◌, ◌-◌, ◌*◌, ◌/◌, ◌%◌, ◌≤◌, true, ◌++◌, length, replicate};
+ghost use Rattle.std.specs.Prelude.{◌≡◌, ℕ, ◌+◌, ◌-◌, ◌*◌, ◌/◌, ◌%◌, ◌≤◌, true, [], ◌++◌, length, replicate};
 ghost use Rattle.dml_arena.specs.Piece.{SamePlace};
 ghost use Rattle.dml_delta.specs.Entries.{nth_block, nth_differs, nth_entry, gathered, is_marked};
 
@@ -39,9 +39,35 @@ pub fn add_differing(
     add_marked(entries, marks, other, number + 8 * groups as u32, room);
 }
 
+/// Adds the entries of those of up to 64 blocks that differ; the first has a number, and an entry the bytes of the second
+/// slice. None is gathered before.
+pub fn add_blocks(entries: &mut Entries, one: &[u8], other: &[u8], number: u32)
+    requires empty { entries.old ≡ [] }
+    requires lengths { length other.now ≡ length one.now }
+    requires whole { length one.now % 8 ≡ 0 }
+    requires few { length one.now ≤ 512 }
+    requires numbers { number + length one.now / 8 ≤ 65536 }
+    ensures { entries.new
+        ≡ gathered (nth_entry number other.now) (nth_differs one.now other.now) 0 (length one.now / 8) }
+{
+    let groups = one.len() / GROUP;
+    for k in 0..groups {
+        let at = GROUP * k;
+        let (one, other) = (&one[at..at + GROUP], &other[at..at + GROUP]);
+        let marks = marks_of_group(one, other);
+        add_some(entries, marks, other, number + 8 * k as u32);
+    }
+    let at = GROUP * groups;
+    if at < one.len() {
+        let (one, other) = (&one[at..], &other[at..]);
+        let marks = marks_of_rest(one, other);
+        add_some(entries, marks, other, number + 8 * groups as u32);
+    }
+}
+
 /// Which of eight blocks differ: bit i stands for block i.
 #[inline(always)]
-pub fn marks_of_group(one: &[u8], other: &[u8]) -> u64
+fn marks_of_group(one: &[u8], other: &[u8]) -> u64
     requires lengths { (length one.now ≡ 64) × (length other.now ≡ 64) }
     ensures { (i : ℕ) → is_marked result i ≡ nth_differs one.now other.now i }
 {
@@ -51,7 +77,7 @@ pub fn marks_of_group(one: &[u8], other: &[u8]) -> u64
 }
 
 /// Which of fewer blocks differ.
-pub fn marks_of_rest(one: &[u8], other: &[u8]) -> u64
+fn marks_of_rest(one: &[u8], other: &[u8]) -> u64
     requires lengths { length other.now ≡ length one.now }
     requires whole { length one.now % 8 ≡ 0 }
     requires few { length one.now ≤ 64 }
@@ -90,9 +116,24 @@ fn add_marked(entries: &mut Entries, marks: u64, blocks: &[u8], number: u32, roo
     }
 }
 
+/// The same where there is room for the entries of eight blocks.
+#[inline(always)]
+fn add_some(entries: &mut Entries, marks: u64, blocks: &[u8], number: u32)
+    requires few { length blocks.now ≤ 64 }
+    requires marks { (i : ℕ) → is_marked marks i ≡ true → 8 * i + 8 ≤ length blocks.now }
+    requires numbers { number + length blocks.now / 8 ≤ 65536 }
+    requires fits { length entries.old + 80 ≤ 640 }
+    ensures { entries.new ≡ entries.old
+        ++ gathered (nth_entry number blocks.now) (is_marked marks) 0 (length blocks.now / 8) }
+{
+    if marks != 0 {
+        add_entries(entries, marks, blocks, number);
+    }
+}
+
 /// Adds the entries of the marked ones of up to eight blocks, for which there is room. A mark is cleared by its place,
 /// so that the next one is soon found.
-pub fn add_entries(entries: &mut Entries, marks: u64, blocks: &[u8], number: u32)
+fn add_entries(entries: &mut Entries, marks: u64, blocks: &[u8], number: u32)
     requires few { length blocks.now ≤ 64 }
     requires marks { (i : ℕ) → is_marked marks i ≡ true → 8 * i + 8 ≤ length blocks.now }
     requires numbers { number + length blocks.now / 8 ≤ 65536 }

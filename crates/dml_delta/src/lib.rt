@@ -14,4 +14,4 @@ mod record;
 pub use applies::{ApplyPiece, BadEntry, scan_apply};
 pub use creates::{CreatePiece, scan_create};
 pub use entries::Entries;
-pub use lanes::{add_entries, marks_of_group, marks_of_rest};
+pub use lanes::add_blocks;

@@ -1,12 +1,12 @@
 -- What the pieces of a create, joined to one, say of its record and its put.
 use Rattle.std.proofs.Common.{◌≡◌, ℕ, ◌+◌, ◌-◌, ◌*◌, ◌/◌, ◌<◌, ◌≤◌, min, Bool, true, false, not, ◌&&◌, List, [], ◌∷◌, length, take, get_or, Option, None, Some, refl, sym, ◌∙◌, ap, ap₂, arith, ⊎_elim, cond, eqb}
 use Rattle.std.specs.List.{flat_map}
-use Rattle.std.proofs.lemmas.Bool.{cases_lt, eq-eqb, lt-ltb, le-ltb, not-true}
+use Rattle.std.proofs.lemmas.Bool.{cases_eq, cases_lt, eq-eqb, ne_eqb, lt-ltb, le-ltb, not-true}
 use Rattle.std.proofs.lemmas.List.{length-take-le}
 use Rattle.dml_types.specs.declared.jobs.Job.{Job}
 use Rattle.dml_types.specs.declared.operations.Op.TheVariants.{CreateDelta}
 use Rattle.dml_types.specs.declared.records.Record.{Record}
-use Rattle.dml_types.specs.Memory.{first, Memory, IsWhole, has, has_all, present_bytes, put_of}
+use Rattle.dml_types.specs.Memory.{first, Memory, has, has_all, present_bytes, put_of}
 use Rattle.dml_types.specs.Job.{op_of}
 use Rattle.dml_types.specs.Effect.{Effect, ended, faulted, judged, read_fault}
 use Rattle.dml_types.specs.Delta.{block_number, block_fault, created, crowded, differing, differs, block_entry, entry_room, expects, is_readable, readable_blocks, written_out}
@@ -20,9 +20,9 @@ use Rattle.dml_delta.specs.Entries.{gathered}
 use Rattle.dml_delta.proofs.EntryLemmas.{length_entries}
 use Rattle.dml_delta.proofs.UnitLemmas.{has_front, units_is}
 use Rattle.dml_effect.specs.Effects.{are_present, some_puts}
-use Rattle.dml_effect.specs.Joined.{record_puts}
+use Rattle.dml_effect.specs.Joined.{finished_record, record_puts}
 use Rattle.dml_effect.proofs.CreateChunkLemmas.{fault_is, fault_some, fault_none, staged_is}
-use Rattle.dml_effect.proofs.EntryLemmas.{blocks_small, entries_tens, length_tens, number_is, take_past, take_tens}
+use Rattle.dml_effect.proofs.EntryLemmas.{AreTens, blocks_small, length_tens, number_is, take_past, take_tens}
 use Rattle.dml_effect.proofs.PutLemmas.{some_put, no_put}
 use Rattle.dml_effect.proofs.WholeLemmas.{effect_of_checked}
 
@@ -105,9 +105,16 @@ module _ (memory : Memory) (job : Job) (block : ℕ) (place : ℕ) where
     abbrev outcome_of : ℕ
     outcome_of = cond (eqb entries 0) 0 1
 
-    pub finished_whole : create_fault memory job 0 (job.size / 8) ≡ None → ended (judged job (expects job outcome_of)) outcome_of job.size (10 * entries) ≡ written_out memory job entries
+    pub finished_whole : create_fault memory job 0 (job.size / 8) ≡ None → finished_record job (10 * entries) ≡ written_out memory job entries
     finished_whole none =
-        sym (ap (λ (b : Bool). cond b (ended (judged job (expects job outcome_of)) outcome_of job.size (10 * entries)) (faulted (block_fault memory job readable) 0 (8 * readable) (10 * entries))) (eq-eqb readable (job.size / 8) (all_readable none)))
+        ap (λ (b : Bool). let outcome = cond b 0 1 in ended (judged job (expects job outcome)) outcome job.size (10 * entries)) (no_bytes entries)
+        ∙ sym (ap (λ (b : Bool). cond b (ended (judged job (expects job outcome_of)) outcome_of job.size (10 * entries)) (faulted (block_fault memory job readable) 0 (8 * readable) (10 * entries))) (eq-eqb readable (job.size / 8) (all_readable none)))
+
+      where
+        no_bytes : (n : ℕ) → eqb (10 * n) 0 ≡ eqb n 0
+        no_bytes n =
+            ⊎_elim (λ none. eq-eqb (10 * n) 0 (omega arith) ∙ sym (eq-eqb n 0 none))
+            (λ some. ne_eqb (10 * n) 0 (λ e. some (omega arith)) ∙ sym (ne_eqb n 0 some)) (cases_eq n 0)
 
     pub finished_early : create_fault memory job 0 (job.size / 8) ≡ Some (block, place) → faulted (read_fault place) 0 (8 * block) (10 * entries) ≡ written_out memory job entries
     finished_early some =
@@ -116,7 +123,7 @@ module _ (memory : Memory) (job : Job) (block : ℕ) (place : ℕ) where
         ∙ sym (ap (λ (b : Bool). cond b (ended (judged job (expects job outcome_of)) outcome_of job.size (10 * entries)) (faulted (block_fault memory job readable) 0 (8 * readable) (10 * entries))) (apart readable (job.size / 8) at.2))
 
 -- the record and the put of a create, by the entries of all its blocks: so many, of which some have room
-module _ (memory : Memory) (job : Job) (whole : IsWhole memory) (limits : CreateLimits job) (bytes : List ℕ) (staged : bytes ≡ create_staged memory job 0 (job.size / 8)) where
+module _ (memory : Memory) (job : Job) (tens : AreTens (block_entry memory job) (differing memory job 0 (job.size / 8))) (limits : CreateLimits job) (bytes : List ℕ) (staged : bytes ≡ create_staged memory job 0 (job.size / 8)) where
   abbrev blocks : List ℕ
   blocks = differing memory job 0 (job.size / 8)
 
@@ -128,7 +135,7 @@ module _ (memory : Memory) (job : Job) (whole : IsWhole memory) (limits : Create
   bytes_are = staged
 
   long : length bytes ≡ 10 * length blocks
-  long = ap (λ (xs : List ℕ). length xs) bytes_are ∙ length_tens (block_entry memory job) blocks (entries_tens memory job 0 (job.size / 8) whole)
+  long = ap (λ (xs : List ℕ). length xs) bytes_are ∙ length_tens (block_entry memory job) blocks tens
 
   pub bytes_few : length bytes ≤ 655360
   bytes_few =
@@ -149,7 +156,7 @@ module _ (memory : Memory) (job : Job) (whole : IsWhole memory) (limits : Create
         let below : room < length blocks = omega (arith, count_blocks) in
         let small = blocks_small memory job 0 (job.size / 8) (omega (arith, limits.size)) in
         let number : block_number bytes written ≡ get_or blocks room 0 =
-        ap₂ block_number bytes_are same ∙ number_is memory job blocks room (entries_tens memory job 0 (job.size / 8) whole) small below in
+        ap₂ block_number bytes_are same ∙ number_is memory job blocks room tens small below in
         ap₂ (crowded memory job) same number
         ∙ sym (ap (λ (b : Bool). cond b (crowded memory job room (get_or blocks room 0)) (written_out memory job (length blocks))) (lt-ltb room (length blocks) below))
 
@@ -169,7 +176,7 @@ module _ (memory : Memory) (job : Job) (whole : IsWhole memory) (limits : Create
     pub taken : flat_map (block_entry memory job) (take room blocks) ≡ take (10 * written) bytes
     taken =
         ap (flat_map (block_entry memory job)) same_blocks
-        ∙ (sym (take_tens (block_entry memory job) blocks written (entries_tens memory job 0 (job.size / 8) whole))
+        ∙ (sym (take_tens (block_entry memory job) blocks written tens)
         ∙ ap (take (10 * written)) (sym bytes_are))
       where
         same_blocks : take room blocks ≡ take written blocks

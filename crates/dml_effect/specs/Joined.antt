@@ -13,6 +13,7 @@ use Rattle.dml_types.specs.declared.statuses.Status.TheVariants.{Success}
 use Rattle.dml_types.specs.Memory.{Put, put_of}
 use Rattle.dml_types.specs.Effect.{Fault, read_fault, write_fault, ended, faulted, judged}
 use Rattle.dml_types.specs.Bytewise.{lowest_done, pattern_bytes, result_of}
+use Rattle.dml_types.specs.Delta.{expects}
 
 -- an end, counted from n offsets before
 abbrev pub after : ℕ → Found → Found
@@ -62,6 +63,15 @@ abbrev pub compared_record : Job → Found → Record
 compared_record job All = ended (judged job (job.expected == 0)) 0 job.size 0
 compared_record job (Differs done) = ended (judged job (job.expected == 1)) 1 done 0
 compared_record job (Stopped done place write) = faulted (fault_by write place) 0 done 0
+
+-- the record of a create whose record range is full before the entry for a block, and of one whose entries were all
+-- put, so many bytes
+abbrev pub full_record : Job → ℕ → Record
+full_record job block = ended (judged job (expects job 2)) 2 (8 * block) job.delta_size
+
+abbrev pub finished_record : Job → ℕ → Record
+finished_record job bytes =
+    let outcome = (if bytes == 0 then 0 else 1) in ended (judged job (expects job outcome)) outcome job.size bytes
 
 -- the record of a job whose scan ended so
 abbrev pub scanned_record : Op → Job → Direction → Found → Record

@@ -17,12 +17,12 @@ ghost use Rattle.dml_effect.specs.Joined.{entries_joined, fault_joined};
 ghost use Rattle.dml_effect.specs.Joined as joined;
 
 use crate::effects::{Effect, Puts};
-use crate::records::judged;
+use crate::records::{finished_record, full_record};
 use dml_arena::Region;
 use dml_delta::CreatePiece;
 use dml_desc::Checked;
 use dml_image::Image;
-use dml_types::{Job, Record, Status, block_number};
+use dml_types::{Record, Status, block_number};
 
 /// Joins the pieces of all chunks of a create, upwards, to its effect. A create of no byte may have none.
 ///
@@ -168,22 +168,15 @@ fn crowded(image: &Image, job: &Checked, room: u32, block: u16) -> Record
     ensures { result ≡ delta.crowded image.now job.now room block }
 {
     let job = job.job();
-    let completed = 8 * u32::from(block);
     let delta_size = 10 * room;
     if delta_size == job.delta_size {
-        return Record {
-            status: judged(job, expects(job, 2)),
-            result: 2,
-            completed,
-            fault: 0,
-            delta_size,
-        };
+        return full_record(job, block);
     }
     let place = job.extra + u64::from(delta_size);
     Record {
         status: Status::WriteFault,
         result: 0,
-        completed,
+        completed: 8 * u32::from(block),
         fault: place + u64::from(image.present_bytes(place, 10)),
         delta_size,
     }
@@ -207,25 +200,8 @@ fn finished(_image: &Image, job: &Checked, fault: Option<(u32, u64)>, entries: u
             fault: place,
             delta_size,
         },
-        None => {
-            let outcome = u8::from(entries != 0);
-            Record {
-                status: judged(job, expects(job, outcome)),
-                result: outcome,
-                completed: job.size,
-                fault: 0,
-                delta_size,
-            }
-        }
+        None => finished_record(job, delta_size),
     }
-}
-
-/// Whether a create's result is one of the expected ones.
-fn expects(job: &Job, outcome: u8) -> bool
-    requires { outcome < 8 }
-    ensures { result ≡ delta.expects job.now outcome }
-{
-    (job.expected >> outcome) % 2 == 1
 }
 
 /// The put of the first `room` ones of the staged entries.

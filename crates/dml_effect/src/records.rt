@@ -1,6 +1,7 @@
 //! Completion records.
-ghost use Rattle.std.specs.Prelude.{◌≡◌};
+ghost use Rattle.std.specs.Prelude.{◌≡◌, ◌<◌};
 ghost use Rattle.dml_types.specs.Bytewise.{result_of};
+ghost use Rattle.dml_types.specs.Delta as delta;
 ghost use Rattle.dml_types.specs.Effect as word;
 ghost use Rattle.dml_effect.specs.Joined as joined;
 
@@ -41,7 +42,7 @@ pub fn scanned_record(op: Op, job: &Job, direction: Direction, found: Found) -> 
 }
 
 /// The completion record of a compare: the whole byte of the result is expected.
-fn compared_record(job: &Job, found: Found) -> Record
+pub fn compared_record(job: &Job, found: Found) -> Record
     ensures { result ≡ joined.compared_record job.now found }
 {
     match found {
@@ -66,8 +67,43 @@ pub fn copied_record(len: u32, direction: Direction, found: Found) -> Record
     }
 }
 
+/// The completion record of a create whose record range has its maximum of entries before that of a block: an overflow.
+pub fn full_record(job: &Job, block: u16) -> Record
+    ensures { result ≡ joined.full_record job.now block }
+{
+    Record {
+        status: judged(job, expects(job, 2)),
+        result: 2,
+        completed: 8 * u32::from(block),
+        fault: 0,
+        delta_size: job.delta_size,
+    }
+}
+
+/// The completion record of a create that came to its end, with so many bytes of entries.
+pub fn finished_record(job: &Job, bytes: u32) -> Record
+    ensures { result ≡ joined.finished_record job.now bytes }
+{
+    let outcome = u8::from(bytes != 0);
+    Record {
+        status: judged(job, expects(job, outcome)),
+        result: outcome,
+        completed: job.size,
+        fault: 0,
+        delta_size: bytes,
+    }
+}
+
+/// Whether a create's result is one of the expected ones.
+fn expects(job: &Job, outcome: u8) -> bool
+    requires { outcome < 8 }
+    ensures { result ≡ delta.expects job.now outcome }
+{
+    (job.expected >> outcome) % 2 == 1
+}
+
 /// The status of a job that ended with a result which is the expected one, or not.
-pub fn judged(job: &Job, is_expected: bool) -> Status
+fn judged(job: &Job, is_expected: bool) -> Status
     ensures { result ≡ word.judged job.now is_expected }
 {
     let check = JobFlags::CHECK_RESULT.bits();

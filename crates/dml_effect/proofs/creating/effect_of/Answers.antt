@@ -7,6 +7,7 @@ use Rattle.dml_delta.specs.declared.creates.CreatePiece.{CreatePiece}
 use Rattle.dml_effect.specs.Chunks.{IsCreateFrom, IsWholeCreate}
 use Rattle.dml_effect.proofs.CreatedLemmas.{answer_of_create, create_limits, finished_is, nothing_faults, nothing_staged, puts_are, puts_of_create}
 use Rattle.dml_effect.proofs.WholeLemmas.{image_of_puts}
+use Rattle.dml_effect.proofs.EntryLemmas.{entries_tens}
 use Rattle.dml_effect.proofs.creating.effect_of.Goals as goal
 
 -- where there is no piece, there is no block
@@ -29,7 +30,7 @@ returns-in-None-clause-answer c =
     let none = no_blocks memory job c.args.whole c.requires.whole c.in-None.is in
     let limits = create_limits job c.job-checked.ensures.checked c.requires.operation in
     c.finished.ensures
-    ∙ (finished_is memory job c.pages-pages.ensures.memory.whole limits [] (nothing_staged memory job none) 0 0 refl (omega arith) (omega arith)
+    ∙ (finished_is memory job (entries_tens memory job 0 (job.size / 8) c.pages-pages.ensures.memory.whole) limits [] (nothing_staged memory job none) 0 0 refl (omega arith) (omega arith)
     ∙ answer_of_create memory job c.requires.operation c.job-checked.ensures.checked)
 
 pub returns-in-None-clause-puts : goal.returns-in-None-clause-puts
@@ -38,7 +39,7 @@ returns-in-None-clause-puts c =
     let job = c.args.job.now in
     let none = no_blocks memory job c.args.whole c.requires.whole c.in-None.is in
     let limits = create_limits job c.job-checked.ensures.checked c.requires.operation in
-    puts_are memory job c.pages-pages.ensures.memory.whole limits [] (nothing_staged memory job none) 0 0 refl (omega arith)
+    puts_are memory job (entries_tens memory job 0 (job.size / 8) c.pages-pages.ensures.memory.whole) limits [] (nothing_staged memory job none) 0 0 refl (omega arith)
     ∙ puts_of_create memory job c.requires.operation c.job-checked.ensures.checked
 
 pub returns-in-None-clause-image : goal.returns-in-None-clause-image
@@ -57,7 +58,7 @@ returns-in-Some-clause-puts c =
     let fits : c.room_for-room.result ≡ min (length bytes / 10) (entry_room memory job) =
     c.room_for-room.ensures.value ∙ ap (λ (xs : List ℕ). min (length xs / 10) (entry_room memory job)) c.bytes.ensures.bytes in
     c.record_puts-puts.ensures
-    ∙ (puts_are memory job c.pages-pages.ensures.memory.whole limits bytes (staged_at memory job c.args.whole c.in-Some.piece c.requires.whole c.in-Some.is) (length bytes / 10) c.room_for-room.result refl fits
+    ∙ (puts_are memory job (entries_tens memory job 0 (job.size / 8) c.pages-pages.ensures.memory.whole) limits bytes (staged_at memory job c.args.whole c.in-Some.piece c.requires.whole c.in-Some.is) (length bytes / 10) c.room_for-room.result refl fits
     ∙ puts_of_create memory job c.requires.operation c.job-checked.ensures.checked)
 
 pub returns-in-Some-clause-image : goal.returns-in-Some-clause-image

@@ -1,0 +1,18 @@
+use Rattle.dml_buffers.proofs.BlankLemmas.{blank_holds, blank_whole}
+use Rattle.dml_buffers.proofs.HoldsLemmas.{held_after, held_beside, held_sub}
+use Rattle.dml_buffers.proofs.laws.law_of_buffers.Goals as goal
+
+pub returns-clause-over : goal.returns-clause-over
+returns-clause-over c = held_after
+
+pub returns-clause-beside : goal.returns-clause-beside
+returns-clause-beside c = held_beside
+
+pub returns-clause-part : goal.returns-clause-part
+returns-clause-part c = λ memory address from n bytes. held_sub memory address bytes from n
+
+pub returns-clause-some : goal.returns-clause-some
+returns-clause-some c = blank_holds
+
+pub returns-clause-whole : goal.returns-clause-whole
+returns-clause-whole c = blank_whole

@@ -109,7 +109,6 @@ module _ (memory : Memory) (job : Job) (block : ℕ) (place : ℕ) where
     finished_whole none =
         ap (λ (b : Bool). let outcome = cond b 0 1 in ended (judged job (expects job outcome)) outcome job.size (10 * entries)) (no_bytes entries)
         ∙ sym (ap (λ (b : Bool). cond b (ended (judged job (expects job outcome_of)) outcome_of job.size (10 * entries)) (faulted (block_fault memory job readable) 0 (8 * readable) (10 * entries))) (eq-eqb readable (job.size / 8) (all_readable none)))
-
       where
         no_bytes : (n : ℕ) → eqb (10 * n) 0 ≡ eqb n 0
         no_bytes n =

@@ -21,6 +21,4 @@ pub use creating::join_create;
 pub use effects::{Effect, commit};
 pub use joining::join_found;
 pub use lending::{are_pages, submit_over, submit_straight_over};
-pub use records::{
-    by_fields, compared_record, copied_record, ended, finished_record, full_record,
-};
+pub use records::{by_fields, compared_record, copied_record, ended, finished_record, full_record};

@@ -1,4 +1,4 @@
-use Rattle.std.proofs.Common.{◌≡◌, ℕ, ◌-◌, List, length, take, sym, ◌∙◌, ap, arith}
+use Rattle.std.proofs.Common.{ℕ, ◌-◌, List, length, take, sym, ◌∙◌, ap, arith}
 use Rattle.dml_types.specs.Memory.{overwrite}
 use Rattle.dml_direct.specs.Buffers.{drawn}
 use Rattle.dml_direct.proofs.CreateLaws.{entries_long}

@@ -1,5 +1,5 @@
 -- Where the scan of a chunk of a compare ends, by the parts of pages that it reads.
-use Rattle.std.specs.Prelude.{◌==◌, slice_index_or}
+use Rattle.std.specs.Prelude.{◌==◌, slice_index_or, slice_range}
 use Rattle.std.proofs.Common.{◌≡◌, ℕ, ◌+◌, ◌-◌, ◌/◌, ◌%◌, ◌<◌, ◌≤◌, min, true, false, not, ◌&&◌, List, [], length, get_or, take, drop, cond, refl, sym, ◌∙◌, ap, ap₂, subst, arith, rules, ⊎_elim}
 use Rattle.std.proofs.lemmas.Bool.{cases_lt, eq-eqb}
 use Rattle.std.proofs.lemmas.List.{places, drop-drop, drop-take, get_or-take, length-drop, length-take, take_all}
@@ -14,22 +14,18 @@ use Rattle.dml_types.specs.Bytewise.{operation_direction, faults_at, passes, pat
 use Rattle.dml_types.specs.Chunk.{scan_done, scan_found, scan_offset}
 use Rattle.dml_types.proofs.FirstLemmas.{first_le, first_is}
 use Rattle.dml_types.proofs.MemoryLemmas.{has_all_at, has_all_from}
-use Rattle.dml_scan.specs.Parts.{IsPart, IsPartWithin}
+use Rattle.dml_buffers.specs.Holds.{Holds}
+use Rattle.dml_scan.specs.Parts.{IsPartWithin}
+use Rattle.dml_buffers.proofs.HoldsLemmas.{held_byte, held_present, held_sub}
 use Rattle.dml_scan.specs.Lanes.{first_difference, first_unlike}
 use Rattle.dml_scan.proofs.LaneLemmas.{unequal, equal_before, unequal_here}
 use Rattle.dml_scan.proofs.ReachLemmas.{found_all, found_differs, found_fault, one_fault, two_faults}
 
 -- parts, byte by byte
-pub part_present : (memory : Memory) (address : ℕ) (bytes : List ℕ) → IsPart memory address bytes → (i : ℕ) → i < length bytes → has memory (address + i) ≡ true
-part_present memory address bytes part i below = has_all_at memory address (length bytes) i part.present below
+pub part_byte : (memory : Memory) (address : ℕ) (bytes : List ℕ) → Holds memory address bytes → (i : ℕ) → i < length bytes → get_or bytes i 0 ≡ byte_at memory (address + i)
+part_byte memory address bytes part i below = sym (held_byte memory address bytes i part below)
 
-pub part_byte : (memory : Memory) (address : ℕ) (bytes : List ℕ) → IsPart memory address bytes → (i : ℕ) → i < length bytes → get_or bytes i 0 ≡ byte_at memory (address + i)
-part_byte memory address bytes part i below = ap (λ xs. get_or xs i 0) part.content ∙ read (length bytes) i below
-  where
-    read : (n i : ℕ) → i < n → get_or (bytes_at memory address n) i 0 ≡ byte_at memory (address + i)
-    read n i h = search (rules, places)
-
-pub part_none : (memory : Memory) (address : ℕ) → IsPart memory address []
+pub part_none : (memory : Memory) (address : ℕ) → Holds memory address []
 part_none memory address = record { present = has_all_from memory address 0 (λ i h. absurd (omega arith)); content = search (rules, places) }
 
 -- the rest of a page from a present byte on
@@ -39,37 +35,30 @@ part_of_page memory address len bytes here some is long = record {
     present = has_all_from memory address (length bytes) (λ i h.
         let page : (address + i) / 4096 ≡ address / 4096 = omega (arith, long) in
         ap (λ n. slice_index_or memory.present n false) page ∙ here);
-    content = is;
+    content = sym is;
   };
   some = omega (arith, long);
   within = omega (arith, long);
 }
 
 -- the rest of a part
-pub part_drop : (memory : Memory) (address n : ℕ) (bytes : List ℕ) → n ≤ length bytes → IsPart memory address bytes → IsPart memory (address + n) (drop n bytes)
-part_drop memory address n bytes within part = record {
-  present = has_all_from memory (address + n) (length (drop n bytes)) (λ i h.
-      let at : address + n + i ≡ address + (n + i) = omega arith in
-      ap (has memory) at ∙ part_present memory address bytes part (n + i) (search (rules, places)));
-  content = ap (drop n) part.content ∙ behind (length bytes) within (length (drop n bytes)) (search (rules, places));
-}
+pub part_drop : (memory : Memory) (address n : ℕ) (bytes : List ℕ) → n ≤ length bytes → Holds memory address bytes → Holds memory (address + n) (drop n bytes)
+part_drop memory address n bytes within part =
+    let left = length bytes - n in
+    subst (Holds memory (address + n)) (rest n bytes left refl) (held_sub memory address bytes n left part (omega arith))
   where
-    behind : (m : ℕ) → n ≤ m → (k : ℕ) → k ≡ m - n → drop n (bytes_at memory address m) ≡ bytes_at memory (address + n) k
-    behind m h k is =
-        let whole : address + m - address ≡ n + k = omega (arith, is) in
-        let short : k ≡ address + n + k - (address + n) = omega arith in
-        ap (λ j. drop n (take j (drop address memory.bytes))) whole
-        ∙ (drop-take n k (drop address memory.bytes)
-        ∙ (ap (take k) (drop-drop n address memory.bytes)
-        ∙ ap (λ j. take j (drop (address + n) memory.bytes)) short))
+    rest : (n : ℕ) (bytes : List ℕ) (k : ℕ) → k ≡ length bytes - n → slice_range bytes n (n + k) ≡ drop n bytes
+    rest n bytes k is =
+        let left : n + k - n ≡ k = omega arith in
+        ap (λ j. take j (drop n bytes)) left ∙ take_all k (drop n bytes) (omega (arith, is, length-drop n bytes))
 
 -- what a slice of the rest of a part is, by the place that it begins at
-pub part_next : (memory : Memory) (base at n same : ℕ) (bytes : List ℕ) → IsPart memory (base + at) bytes → n ≤ length bytes → same ≡ n → IsPart memory (base + (at + same)) (take (length bytes - n) (drop n bytes))
+pub part_next : (memory : Memory) (base at n same : ℕ) (bytes : List ℕ) → Holds memory (base + at) bytes → n ≤ length bytes → same ≡ n → Holds memory (base + (at + same)) (take (length bytes - n) (drop n bytes))
 part_next memory base at n same bytes part within is =
     let place : base + at + n ≡ base + (at + same) = omega (arith, is) in
     let whole : drop n bytes ≡ take (length bytes - n) (drop n bytes) = sym (take_all (length bytes - n) (drop n bytes) (omega (arith, length-drop n bytes))) in
-    subst (IsPart memory (base + (at + same))) whole
-    (subst (λ address. IsPart memory address (drop n bytes)) place (part_drop memory (base + at) n bytes within part))
+    subst (Holds memory (base + (at + same))) whole
+    (subst (λ address. Holds memory address (drop n bytes)) place (part_drop memory (base + at) n bytes within part))
 
 pub next_within : (to at n same : ℕ) (bytes : List ℕ) → length bytes ≤ to - at → n ≤ length bytes → same ≡ n → length (take (length bytes - n) (drop n bytes)) ≤ to - (at + same)
 next_within to at n same bytes within some is =
@@ -149,11 +138,11 @@ second_absent memory job from to at source place n bytes order below passed at_s
     let here : source + 0 ≡ source = omega arith in
     ap (λ a. Faults (at - from) a false) is
     ∙ compare_reads_second memory job from to at order below passed
-    (ap (has memory) (sym at_source ∙ sym here) ∙ part_present memory source bytes part.part 0 part.some)
+    (ap (has memory) (sym at_source ∙ sym here) ∙ held_present memory source bytes 0 part.part part.some)
     (ap (has memory) (sym is) ∙ gone)
 
 -- the places of two parts that are alike pass, and the next one does not
-pub compare_passes : (memory : Memory) (job : Job) (at n : ℕ) (left right : List ℕ) → IsPart memory (job.source + at) left → IsPart memory (job.target + at) right → n ≤ length left → n ≤ length right → (i : ℕ) → i < first_difference (take n left) (take n right) → passes Compare memory job (at + i) ≡ true
+pub compare_passes : (memory : Memory) (job : Job) (at n : ℕ) (left right : List ℕ) → Holds memory (job.source + at) left → Holds memory (job.target + at) right → n ≤ length left → n ≤ length right → (i : ℕ) → i < first_difference (take n left) (take n right) → passes Compare memory job (at + i) ≡ true
 compare_passes memory job at n left right one other within_left within_right i below =
     let short : i < n = omega (arith, first_le (length (take n left)) (unequal (λ j. get_or (take n left) j 0) (λ j. get_or (take n right) j 0)), length-take n left) in
     let source : job.source + at + i ≡ job.source + (at + i) = omega arith in
@@ -162,10 +151,10 @@ compare_passes memory job at n left right one other within_left within_right i b
     let source_byte : get_or (take n left) i 0 ≡ byte_at memory (job.source + (at + i)) = get_or-take n left i 0 short ∙ (part_byte memory (job.source + at) left one i (omega arith) ∙ ap (byte_at memory) source) in
     let target_byte : get_or (take n right) i 0 ≡ byte_at memory (job.target + (at + i)) = get_or-take n right i 0 short ∙ (part_byte memory (job.target + at) right other i (omega arith) ∙ ap (byte_at memory) target) in
     ap₂ (λ a b. a && b)
-    (ap₂ (λ a b. a && (b && true)) (ap (has memory) (sym source) ∙ part_present memory (job.source + at) left one i (omega arith)) (ap (has memory) (sym target) ∙ part_present memory (job.target + at) right other i (omega arith)))
+    (ap₂ (λ a b. a && (b && true)) (ap (has memory) (sym source) ∙ held_present memory (job.source + at) left i one (omega arith)) (ap (has memory) (sym target) ∙ held_present memory (job.target + at) right i other (omega arith)))
     (eq-eqb _ _ (sym source_byte ∙ (same ∙ target_byte)))
 
-pub compare_stops : (memory : Memory) (job : Job) (from to at n : ℕ) (left right : List ℕ) → from ≤ at → at + n ≤ to → Passed Compare memory job from at → IsPart memory (job.source + at) left → IsPart memory (job.target + at) right → n ≤ length left → n ≤ length right → (k : ℕ) → k ≡ first_difference (take n left) (take n right) → k < n → Differs (at + k - from) ≡ scan_found Compare memory job from to
+pub compare_stops : (memory : Memory) (job : Job) (from to at n : ℕ) (left right : List ℕ) → from ≤ at → at + n ≤ to → Passed Compare memory job from at → Holds memory (job.source + at) left → Holds memory (job.target + at) right → n ≤ length left → n ≤ length right → (k : ℕ) → k ≡ first_difference (take n left) (take n right) → k < n → Differs (at + k - from) ≡ scan_found Compare memory job from to
 compare_stops memory job from to at n left right order within passed one other within_left within_right k is below =
     let source : job.source + at + k ≡ job.source + (at + k) = omega arith in
     let target : job.target + at + k ≡ job.target + (at + k) = omega arith in
@@ -177,8 +166,8 @@ compare_stops memory job from to at n left right order within passed one other w
     let target_byte : g k ≡ byte_at memory (job.target + (at + k)) = get_or-take n right k 0 below ∙ (part_byte memory (job.target + at) right other k (omega arith) ∙ ap (byte_at memory) target) in
     compare_differs memory job from to (at + k) (omega arith) (omega arith)
     (passed_more Compare memory job from at k passed (λ i low. compare_passes memory job at n left right one other within_left within_right i (omega (arith, is))))
-    (ap (has memory) (sym source) ∙ part_present memory (job.source + at) left one k (omega arith))
-    (ap (has memory) (sym target) ∙ part_present memory (job.target + at) right other k (omega arith))
+    (ap (has memory) (sym source) ∙ held_present memory (job.source + at) left k one (omega arith))
+    (ap (has memory) (sym target) ∙ held_present memory (job.target + at) right k other (omega arith))
     (ap₂ (λ a b. a == b) (sym source_byte) (sym target_byte) ∙ differ)
 
 -- Compares with a pattern.
@@ -202,7 +191,7 @@ pattern_absent memory job from to at place order below passed is absent =
     (ap (λ k. first_fault memory (faults_at ComparePattern job k)) here ∙ one_fault memory (read_fault (job.source + at)) clear)
 
 -- the places of a part that repeats the pattern pass, and the next one does not
-pub pattern_passes : (memory : Memory) (job : Job) (at : ℕ) (bytes : List ℕ) → IsPart memory (job.source + at) bytes → (i : ℕ) → i < first_unlike bytes job.target at → passes ComparePattern memory job (at + i) ≡ true
+pub pattern_passes : (memory : Memory) (job : Job) (at : ℕ) (bytes : List ℕ) → Holds memory (job.source + at) bytes → (i : ℕ) → i < first_unlike bytes job.target at → passes ComparePattern memory job (at + i) ≡ true
 pattern_passes memory job at bytes part i below =
     let f : ℕ → ℕ = λ j. get_or bytes j 0 in
     let g : ℕ → ℕ = λ j. pattern_byte job.target (at + j) in
@@ -210,10 +199,10 @@ pattern_passes memory job at bytes part i below =
     let source : job.source + at + i ≡ job.source + (at + i) = omega arith in
     let byte : f i ≡ byte_at memory (job.source + (at + i)) = part_byte memory (job.source + at) bytes part i short ∙ ap (byte_at memory) source in
     ap₂ (λ a b. a && b)
-    (ap (λ a. a && true) (ap (has memory) (sym source) ∙ part_present memory (job.source + at) bytes part i short))
+    (ap (λ a. a && true) (ap (has memory) (sym source) ∙ held_present memory (job.source + at) bytes i part short))
     (eq-eqb _ _ (sym byte ∙ equal_before (length bytes) f g i below))
 
-pub pattern_stops : (memory : Memory) (job : Job) (from to at : ℕ) (bytes : List ℕ) → from ≤ at → at + length bytes ≤ to → Passed ComparePattern memory job from at → IsPart memory (job.source + at) bytes → (k : ℕ) → k ≡ first_unlike bytes job.target at → k < length bytes → Differs (at + k - from) ≡ scan_found ComparePattern memory job from to
+pub pattern_stops : (memory : Memory) (job : Job) (from to at : ℕ) (bytes : List ℕ) → from ≤ at → at + length bytes ≤ to → Passed ComparePattern memory job from at → Holds memory (job.source + at) bytes → (k : ℕ) → k ≡ first_unlike bytes job.target at → k < length bytes → Differs (at + k - from) ≡ scan_found ComparePattern memory job from to
 pattern_stops memory job from to at bytes order within passed part k is below =
     let f : ℕ → ℕ = λ j. get_or bytes j 0 in
     let g : ℕ → ℕ = λ j. pattern_byte job.target (at + j) in
@@ -221,7 +210,7 @@ pattern_stops memory job from to at bytes order within passed part k is below =
     let here : from + (at + k - from) ≡ at + k = omega arith in
     let differ : (f k == g k) ≡ false = ap (λ j. f j == g j) is ∙ unequal_here (length bytes) f g (omega (arith, is)) in
     let byte : f k ≡ byte_at memory (job.source + (at + k)) = part_byte memory (job.source + at) bytes part k below ∙ ap (byte_at memory) source in
-    let clear : (has memory (job.source + (at + k)) && true) ≡ true = ap (λ a. a && true) (ap (has memory) (sym source) ∙ part_present memory (job.source + at) bytes part k below) in
+    let clear : (has memory (job.source + (at + k)) && true) ≡ true = ap (λ a. a && true) (ap (has memory) (sym source) ∙ held_present memory (job.source + at) bytes k part below) in
     let unlike : (byte_at memory (job.source + (at + k)) == pattern_byte job.target (at + k)) ≡ false = ap (λ a. a == g k) (sym byte) ∙ differ in
     let before = passed_more ComparePattern memory job from at k passed (λ i low. pattern_passes memory job at bytes part i (omega (arith, is))) in
     found_differs ComparePattern memory job from to (at + k - from)

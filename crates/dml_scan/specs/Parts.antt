@@ -1,14 +1,10 @@
 -- Parts of pages that a scan reads.
-use Rattle.std.specs.Prelude.{◌≡◌, ℕ, ◌<◌, ◌≤◌, List, length, IsTrue}
-use Rattle.dml_types.specs.Memory.{Memory, has_all, bytes_at}
+use Rattle.std.specs.Prelude.{ℕ, ◌<◌, ◌≤◌, List, length}
+use Rattle.dml_types.specs.Memory.{Memory}
+use Rattle.dml_buffers.specs.Holds.{Holds}
 
--- the bytes are those from an address on, and all are present
-pub record IsPart (memory : Memory) (address : ℕ) (bytes : List ℕ) : Type 0 where
-  pub present : IsTrue (has_all memory address (length bytes))
-  pub content : bytes ≡ bytes_at memory address (length bytes)
-
--- there is some such byte, and at most n
+-- the memory holds the bytes, and there is some such byte, and at most n
 pub record IsPartWithin (memory : Memory) (address n : ℕ) (bytes : List ℕ) : Type 0 where
-  pub part : IsPart memory address bytes
+  pub part : Holds memory address bytes
   pub some : 0 < length bytes
   pub within : length bytes ≤ n

@@ -5,7 +5,8 @@ ghost use Rattle.dml_types.specs.declared.operations.Op.TheVariants.{Compare, Co
 ghost use Rattle.dml_types.specs.Job.{op_of};
 ghost use Rattle.dml_types.specs.Memory.{has};
 ghost use Rattle.dml_types.specs.Chunk.{scan_found};
-ghost use Rattle.dml_scan.specs.Parts.{IsPart, IsPartWithin};
+ghost use Rattle.dml_buffers.specs.Holds.{Holds};
+ghost use Rattle.dml_scan.specs.Parts.{IsPartWithin};
 
 use crate::lanes::{first_difference, first_unlike};
 use crate::reach::read_fault;
@@ -18,7 +19,7 @@ use dml_types::Found;
 #[tactic(auto, using(crate::proofs::CompareLemmas::part_of_page))]
 fn next_part<'a>(image: &'a Image, rest: &'a [u8], addr: u64, len: u32) -> Option<&'a [u8]>
     requires some { 0 < len }
-    requires part { IsPart image.now addr rest.now }
+    requires part { Holds image.now addr rest.now }
     requires within { length rest.now ≤ len }
     ensures { MatchOption result (has image.now addr ≡ false) (λ part. IsPartWithin image.now addr len part.now) }
 {

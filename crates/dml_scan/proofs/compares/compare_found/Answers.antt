@@ -3,7 +3,7 @@ use Rattle.std.proofs.lemmas.List.{length-take}
 use Rattle.dml_types.specs.declared.jobs.Job.{Job}
 use Rattle.dml_types.specs.declared.operations.Op.TheVariants.{Compare}
 use Rattle.dml_types.specs.Chunk.{scan_found}
-use Rattle.dml_scan.specs.Parts.{IsPart}
+use Rattle.dml_buffers.specs.Holds.{Holds}
 use Rattle.dml_scan.proofs.CompareLemmas.{compare_all, compare_passes, compare_stops, next_within, part_next, passed_more, second_absent}
 use Rattle.dml_scan.proofs.compares.compare_found.Goals as goal
 
@@ -38,8 +38,8 @@ returns-then-same-count c =
     let left = c.in-Some.ensures in
     let right = c.in-Some-next_part.ensures in
     compare_stops memory job c.args.from c.args.to c.loop-at.at c.min-count.result one other inv.order (omega (arith, c.min-count.ensures, left.within, c.loop-at-test.true)) inv.passed
-    (subst (λ n. IsPart memory (job.source + n) one) c.from.ensures left.part)
-    (subst (λ n. IsPart memory (job.target + n) other) c.from-in-loop-at.ensures right.part)
+    (subst (λ n. Holds memory (job.source + n) one) c.from.ensures left.part)
+    (subst (λ n. Holds memory (job.target + n) other) c.from-in-loop-at.ensures right.part)
     (omega (arith, c.min-count.ensures)) (omega (arith, c.min-count.ensures)) _ c.first_difference-same.ensures.value c.if-same-count.true
     ∙ ap (λ (j : Job). scan_found Compare memory j c.args.from c.args.to) c.job-job.ensures.job
 
@@ -53,8 +53,8 @@ loop-at-preserved c =
     let other = c.in-Some-next_part.other.now in
     let count = c.min-count.result in
     let same = c.first_difference-same.result in
-    let left : IsPart memory (job.source + at) one = subst (λ n. IsPart memory (job.source + n) one) c.from.ensures c.in-Some.ensures.part in
-    let right : IsPart memory (job.target + at) other = subst (λ n. IsPart memory (job.target + n) other) c.from-in-loop-at.ensures c.in-Some-next_part.ensures.part in
+    let left : Holds memory (job.source + at) one = subst (λ n. Holds memory (job.source + n) one) c.from.ensures c.in-Some.ensures.part in
+    let right : Holds memory (job.target + at) other = subst (λ n. Holds memory (job.target + n) other) c.from-in-loop-at.ensures c.in-Some-next_part.ensures.part in
     let left_within : length one ≤ c.args.to - at = c.in-Some.ensures.within in
     let right_within : length other ≤ c.args.to - at = c.in-Some-next_part.ensures.within in
     let in_left : count ≤ length one = omega (arith, c.min-count.ensures) in

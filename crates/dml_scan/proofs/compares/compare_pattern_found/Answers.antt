@@ -2,7 +2,7 @@ use Rattle.std.proofs.Common.{ℕ, ◌+◌, ◌∙◌, ap, subst, arith}
 use Rattle.dml_types.specs.declared.jobs.Job.{Job}
 use Rattle.dml_types.specs.declared.operations.Op.TheVariants.{ComparePattern}
 use Rattle.dml_types.specs.Chunk.{scan_found}
-use Rattle.dml_scan.specs.Parts.{IsPart}
+use Rattle.dml_buffers.specs.Holds.{Holds}
 use Rattle.dml_scan.proofs.CompareLemmas.{passed_more, pattern_absent, pattern_all, pattern_passes, pattern_stops}
 use Rattle.dml_scan.proofs.compares.compare_pattern_found.Goals as goal
 
@@ -21,7 +21,7 @@ returns-then-same-part c =
     let job = c.job-job.result.now in
     let part = c.in-Some.ensures in
     pattern_stops memory job c.args.from c.args.to c.loop-at.at c.in-Some.part.now inv.order (omega (arith, part.within, c.loop-at-test.true)) inv.passed
-    (subst (λ n. IsPart memory (job.source + n) c.in-Some.part.now) c.from.ensures part.part) _ c.first_unlike-same.ensures.value c.if-same-part.true
+    (subst (λ n. Holds memory (job.source + n) c.in-Some.part.now) c.from.ensures part.part) _ c.first_unlike-same.ensures.value c.if-same-part.true
     ∙ ap (λ (j : Job). scan_found ComparePattern memory j c.args.from c.args.to) c.job-job.ensures.job
 
 pub loop-at-preserved : goal.loop-at-preserved
@@ -35,7 +35,7 @@ loop-at-preserved c =
       within = omega (arith, c.first_unlike-same.ensures.within, part.within, c.loop-at-test.true);
       passed =
           passed_more ComparePattern memory job c.args.from c.loop-at.at c.first_unlike-same.result inv.passed
-          (λ i below. pattern_passes memory job c.loop-at.at c.in-Some.part.now (subst (λ n. IsPart memory (job.source + n) c.in-Some.part.now) c.from.ensures part.part) i (omega (arith, c.first_unlike-same.ensures.value)));
+          (λ i below. pattern_passes memory job c.loop-at.at c.in-Some.part.now (subst (λ n. Holds memory (job.source + n) c.in-Some.part.now) c.from.ensures part.part) i (omega (arith, c.first_unlike-same.ensures.value)));
     }
 
 pub returns : goal.returns

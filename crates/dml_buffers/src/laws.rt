@@ -3,9 +3,9 @@ ghost use Rattle.std.specs.Prelude.{◌≡◌, ℕ, ◌+◌, ◌≤◌, ◌⊎�
 ghost use Rattle.dml_types.specs.Memory.{IsWhole, Memory, Put, put, puts_made};
 ghost use Rattle.dml_buffers.specs.Holds.{Holds, HoldsEach, LieWithin, ShareNoByte, blank};
 
-/// What a memory holds: what was put over a buffer of its length, what lies beside a put, and each part of what it holds.
-/// Buffers that share no byte are all held by some memory: by one of zeros into which they were put, one after another,
-/// and that one is whole.
+/// What a memory holds: what was put over a buffer of its length, what lies beside a put, and each part of what it
+/// holds. Buffers that share no byte are all held by some memory: by one of zeros into which they were put, one after
+/// another, and that one is whole.
 pub fn law_of_buffers()
     ensures over { (memory : Memory) (address : ℕ) (old new : List ℕ) → Holds memory address old →
         length new ≡ length old → Holds (put memory address new) address new }

@@ -8,7 +8,8 @@ use std::marker::Model;
 /// How many bytes of entries are gathered.
 const ROOM: usize = 640;
 
-/// Entries on their way to a region or to a record, at most 640 bytes of them, gathered so that many are written at once.
+/// Entries on their way to a region or to a record, at most 640 bytes of them, gathered so that many are written at
+/// once.
 #[derive(Drop)]
 pub struct Entries {
     bytes: [u8; ROOM],

@@ -39,8 +39,8 @@ pub fn add_differing(
     add_marked(entries, marks, other, number + 8 * groups as u32, room);
 }
 
-/// Adds the entries of those of up to 64 blocks that differ; the first has a number, and an entry the bytes of the second
-/// slice. None is gathered before.
+/// Adds the entries of those of up to 64 blocks that differ; the first has a number, and an entry the bytes of the
+/// second slice. None is gathered before.
 pub fn add_blocks(entries: &mut Entries, one: &[u8], other: &[u8], number: u32)
     requires empty { entries.old ≡ [] }
     requires lengths { length other.now ≡ length one.now }

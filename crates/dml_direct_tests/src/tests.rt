@@ -157,8 +157,8 @@ fn stops_at_a_bad_entry(rt: HostRuntime) {
     assert_eq!(rt; target, [7, 7, 7, 7, 7, 7, 7, 7, 5, 5, 5, 5, 5, 5, 5, 5]);
 }
 
-/// Buffers that no memory holds at the job's addresses, since these overlap where the bytes differ: the answer is by the
-/// bytes all the same.
+/// Buffers that no memory holds at the job's addresses, since these overlap where the bytes differ: the answer is by
+/// the bytes all the same.
 #[test]
 fn buffers_contradict_each_other(rt: HostRuntime) {
     let (one, other) = ([1, 2, 3, 4], [1, 2, 3, 5]);

@@ -2,7 +2,7 @@
 use Rattle.std.specs.Prelude.{◌==◌, slice_index_or, slice_range}
 use Rattle.std.proofs.Common.{◌≡◌, ℕ, ◌+◌, ◌-◌, ◌/◌, ◌%◌, ◌<◌, ◌≤◌, min, true, false, not, ◌&&◌, List, [], length, get_or, take, drop, cond, refl, sym, ◌∙◌, ap, ap₂, subst, arith, rules, ⊎_elim}
 use Rattle.std.proofs.lemmas.Bool.{cases_lt, eq-eqb}
-use Rattle.std.proofs.lemmas.List.{places, drop-drop, drop-take, get_or-take, length-drop, length-take, take_all}
+use Rattle.std.proofs.lemmas.List.{places, get_or-take, length-drop, length-take, take_all}
 use Rattle.dml_types.specs.declared.findings.Found.TheVariants.{All, Differs, Fault as Faults}
 use Rattle.dml_types.specs.declared.jobs.Job.{Job}
 use Rattle.dml_types.specs.declared.operations.Direction.TheVariants.{Forward}
@@ -13,7 +13,7 @@ use Rattle.dml_types.specs.Effect.{first_fault, is_clear, read_fault}
 use Rattle.dml_types.specs.Bytewise.{operation_direction, faults_at, passes, pattern_byte}
 use Rattle.dml_types.specs.Chunk.{scan_done, scan_found, scan_offset}
 use Rattle.dml_types.proofs.FirstLemmas.{first_le, first_is}
-use Rattle.dml_types.proofs.MemoryLemmas.{has_all_at, has_all_from}
+use Rattle.dml_types.proofs.MemoryLemmas.{has_all_from}
 use Rattle.dml_buffers.specs.Holds.{Holds}
 use Rattle.dml_scan.specs.Parts.{IsPartWithin}
 use Rattle.dml_buffers.proofs.HoldsLemmas.{held_byte, held_present, held_sub}

@@ -1,5 +1,5 @@
-//! Jobs straight over a program's own buffers: what changed between two versions of some bytes becomes a delta record, and
-//! is applied to a copy of the older version. A list of such jobs is a loop of calls.
+//! Jobs straight over a program's own buffers: what changed between two versions of some bytes becomes a delta record,
+//! and is applied to a copy of the older version. A list of such jobs is a loop of calls.
 #![tactic(auto)]
 
 ghost use Rattle.std.specs.Prelude.{◌≡◌, IfOk, Some};

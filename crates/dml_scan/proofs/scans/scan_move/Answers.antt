@@ -1,10 +1,9 @@
-use Rattle.std.proofs.Common.{◌≡◌, ℕ, ◌+◌, ◌-◌, ◌≤◌, ◌++◌, List, sym, ◌∙◌, ap, ap₂, arith, refl, subst}
+use Rattle.std.proofs.Common.{◌≡◌, ℕ, ◌+◌, ◌-◌, ◌++◌, List, sym, ◌∙◌, ap, ap₂, arith, refl}
 use Rattle.dml_types.specs.declared.operations.Op.TheVariants.{Move}
 use Rattle.dml_types.specs.declared.jobs.Job.{Job}
 use Rattle.dml_types.specs.Memory.{bytes_at, has_all}
 use Rattle.dml_types.specs.Bytewise.{operation_direction, lowest_done}
 use Rattle.dml_types.specs.Chunk.{scan_staged}
-use Rattle.dml_scan.specs.Found.{done_count}
 use Rattle.dml_scan.proofs.ReachLemmas.{scan_done_within, done_told}
 use Rattle.dml_scan.proofs.StageLemmas.{move_source_present}
 use Rattle.dml_scan.proofs.scans.scan_move.Goals as goal

@@ -1,6 +1,6 @@
 /*
- * Kazovuni: the jobs of Intel's data streaming accelerator in software, over the caller's own memory or over an image
- * of its own behind a handle.
+ * Kazovuni: the jobs of Intel's data streaming accelerator in software, straight over the caller's own buffers, over
+ * whole pages of the caller's, or over an image of its own behind a handle.
  *
  * A job is a descriptor of 64 bytes and answers a completion record of 32, both laid out as linux/idxd.h has them; all
  * numbers are little-endian. No function has a precondition but that its pointers are valid for the bytes named, and
@@ -9,14 +9,15 @@
  * may be wrong with the call itself; what is wrong with a job stands in its completion record. docs/C.md says all of
  * it.
  *
- * Threads: all of the bytes of a call, its records and its handle count as written for its whole length, whatever the
- * job touches, and no other thread, process or device may touch any of them meanwhile. Descriptors, and whatever else
- * is const, may be shared as long as nobody writes them. A descriptor in memory that others can write is to be copied
- * first: a list reads its descriptors twice. A handle stays on its thread: all calls with it are made by the thread
- * that called kazovuni_create.
+ * Threads: what a call is passed as const may be read by any number of calls and threads at once, as long as nobody
+ * writes it; all else that it is passed, its record and its handle too, counts as written for its whole length,
+ * whatever the job touches, and no other thread, process or device may touch any of it meanwhile. Over buffers of the
+ * caller's that is a job's own written ranges alone; over whole pages it is all of their bytes, which have to be
+ * writable, for a compare too. A descriptor in memory that others can write is to be copied first: some calls read it
+ * twice. A handle stays on its thread: all calls with it are made by the thread that called kazovuni_create.
  *
- * Descriptors, records and the bytes that jobs work on need no alignment; those bytes have to be writable, for a
- * compare too. The completion address of a descriptor is read past: its record goes where the call is told.
+ * Descriptors, records and the bytes that jobs work on need no alignment but what a job's rules ask of its addresses.
+ * The completion address of a descriptor is read past: its record goes where the call is told.
  */
 #ifndef KAZOVUNI_H
 #define KAZOVUNI_H
@@ -24,6 +25,7 @@
 #include <stdbool.h>
 #include <stddef.h>
 #include <stdint.h>
+#include <string.h>
 
 #ifdef __cplusplus
 extern "C" {
@@ -33,7 +35,7 @@ extern "C" {
  * This header's version: the major number in the upper 16 bits, the minor one in the lower. A library fits where its
  * kazovuni_version() has the same major number, and is no less.
  */
-#define KAZOVUNI_VERSION UINT32_C(0x00010000)
+#define KAZOVUNI_VERSION UINT32_C(0x00010001)
 
 #define KAZOVUNI_DESCRIPTOR_BYTES 64
 #define KAZOVUNI_RECORD_BYTES 32
@@ -53,7 +55,9 @@ enum {
     KAZOVUNI_BAD_PAGES = 6,    /* an engine has 1 to 4,096 pages */
     KAZOVUNI_BAD_SETTINGS = 7, /* an engine has at most 16,777,216 bytes of staging */
     KAZOVUNI_NO_SUCH_PAGE = 8, /* the engine has no page of this number */
-    KAZOVUNI_ABSENT = 9        /* a byte of the range is absent */
+    KAZOVUNI_ABSENT = 9,       /* a byte of the range is absent */
+    KAZOVUNI_OTHER_OPERATION = 10, /* the descriptor's operation is another one than the call's */
+    KAZOVUNI_OTHER_LENGTH = 11     /* a buffer has another length than the job's range */
 };
 
 /* The statuses of a completion record that are this library's own; the others are those of linux/idxd.h. */
@@ -125,6 +129,52 @@ bool kazovuni_record_decode(const uint8_t record[32], kazovuni_record *fields);
 bool kazovuni_rest(const uint8_t descriptor[64], const uint8_t record[32], uint8_t left[64]);
 
 /*
+ * Jobs straight over the caller's own buffers. Each call carries out the job of a descriptor over the buffers that are
+ * the ranges of its operation, and writes its completion record. A buffer may lie anywhere in the process, and is just
+ * as long as its range: so no page fault comes up, nothing is staged, and no memory is asked for. One of no byte may
+ * be NULL.
+ *
+ * What the descriptor has as addresses is judged by the rules and never followed: let them be those of the buffers, or
+ * let kazovuni_execute, at the end of this header, take them from there. No buffer that is written may share a byte
+ * with another one of the call, in a call whose job is refused neither; those that are read may be the same or overlap.
+ *
+ * A refused job is answered KAZOVUNI_OK, with its record, whatever the buffers are. Else: KAZOVUNI_OTHER_OPERATION,
+ * for a no-op too, or KAZOVUNI_OTHER_LENGTH, tested in this order; nothing is changed then, and no record is written.
+ */
+uint8_t kazovuni_compare(
+    const uint8_t descriptor[64], const uint8_t *one, size_t one_length, const uint8_t *other, size_t other_length,
+    uint8_t record[32]);
+
+uint8_t kazovuni_compare_pattern(
+    const uint8_t descriptor[64], const uint8_t *bytes, size_t length, uint8_t record[32]);
+
+uint8_t kazovuni_fill(const uint8_t descriptor[64], uint8_t *target, size_t length, uint8_t record[32]);
+
+uint8_t kazovuni_move(
+    const uint8_t descriptor[64], const uint8_t *source, size_t source_length, uint8_t *target, size_t target_length,
+    uint8_t record[32]);
+
+/*
+ * A move whose ranges may overlap: both lie in these bytes, which begin at the address `start`. Else
+ * KAZOVUNI_OTHER_LENGTH.
+ */
+uint8_t kazovuni_move_within(
+    const uint8_t descriptor[64], uint64_t start, uint8_t *bytes, size_t length, uint8_t record[32]);
+
+uint8_t kazovuni_dualcast(
+    const uint8_t descriptor[64], const uint8_t *source, size_t source_length, uint8_t *target, size_t target_length,
+    uint8_t *second, size_t second_length, uint8_t record[32]);
+
+/* `delta_length` is the descriptor's greatest size of a delta record; all of these bytes count as written. */
+uint8_t kazovuni_create_delta(
+    const uint8_t descriptor[64], const uint8_t *one, size_t one_length, const uint8_t *other, size_t other_length,
+    uint8_t *delta, size_t delta_length, uint8_t record[32]);
+
+uint8_t kazovuni_apply_delta(
+    const uint8_t descriptor[64], const uint8_t *delta, size_t delta_length, uint8_t *target, size_t target_length,
+    uint8_t record[32]);
+
+/*
  * Carries out a job over the caller's bytes and writes its completion record. The descriptor's addresses are offsets:
  * the bytes begin at address 0, all of their pages are present, and no other page is. A refused job changes no byte.
  * `staging` is the most that a job may need (kazovuni_need): above it the job is refused with
@@ -185,6 +235,82 @@ uint8_t kazovuni_submit(kazovuni_engine *engine, const uint8_t descriptor[64], u
  */
 uint8_t kazovuni_submit_list(
     kazovuni_engine *engine, const uint8_t *descriptors, size_t jobs, uint8_t *records, size_t answers);
+
+/* What stands in a descriptor at a place: a number, an address, and the pointer that it is. x86-64 has them so too. */
+static inline uint32_t kazovuni_number_at(const uint8_t *place)
+{
+    uint32_t number;
+    memcpy(&number, place, sizeof number);
+    return number;
+}
+
+static inline uint64_t kazovuni_address_at(const uint8_t *place)
+{
+    uint64_t address;
+    memcpy(&address, place, sizeof address);
+    return address;
+}
+
+static inline uint8_t *kazovuni_pointer_at(const uint8_t *place)
+{
+    uint8_t *pointer;
+    memcpy(&pointer, place, sizeof pointer);
+    return pointer;
+}
+
+/* A move by the descriptor's own addresses: where the ranges overlap, inside the buffer that both of them make up. */
+static inline uint8_t kazovuni_execute_move(const uint8_t descriptor[64], uint8_t record[32])
+{
+    const uint8_t *from = descriptor + 16, *to = descriptor + 24, *lower;
+    uint64_t source = kazovuni_address_at(from), target = kazovuni_address_at(to);
+    uint64_t apart = source < target ? target - source : source - target;
+    size_t size = kazovuni_number_at(descriptor + 32);
+    if (apart >= size)
+        return kazovuni_move(descriptor, kazovuni_pointer_at(from), size, kazovuni_pointer_at(to), size, record);
+    lower = source < target ? from : to;
+    return kazovuni_move_within(
+        descriptor, kazovuni_address_at(lower), kazovuni_pointer_at(lower), apart + size, record);
+}
+
+/*
+ * Carries out the job of a descriptor over the memory that its own addresses name, as a device does, and writes its
+ * completion record. It answers KAZOVUNI_OK. The job is checked first, and no range of a refused one is touched: so
+ * ranges that are written may be refused for sharing a byte with others, and those of a move may overlap. The ranges
+ * of an accepted job have to be memory of the caller's: one that is not mapped is the process's own fault signal.
+ * Neither the descriptor nor the record may lie in a range that is written, nor the record in any range.
+ */
+static inline uint8_t kazovuni_execute(const uint8_t descriptor[64], uint8_t record[32])
+{
+    const uint8_t *d = descriptor;
+    size_t size = kazovuni_number_at(d + 32);
+    if (kazovuni_check(d, UINT32_C(1048576)) != 0) /* a mebibyte of staging is enough for every job */
+        return kazovuni_fill(d, NULL, 0, record); /* as any call, it answers the record of a refused job */
+    switch (d[7]) {
+    case 0x03:
+        return kazovuni_execute_move(d, record);
+    case 0x04:
+        return kazovuni_fill(d, kazovuni_pointer_at(d + 24), size, record);
+    case 0x05:
+        return kazovuni_compare(d, kazovuni_pointer_at(d + 16), size, kazovuni_pointer_at(d + 24), size, record);
+    case 0x06:
+        return kazovuni_compare_pattern(d, kazovuni_pointer_at(d + 16), size, record);
+    case 0x07:
+        return kazovuni_create_delta(
+            d, kazovuni_pointer_at(d + 16), size, kazovuni_pointer_at(d + 24), size, kazovuni_pointer_at(d + 40),
+            kazovuni_number_at(d + 48), record);
+    case 0x08:
+        return kazovuni_apply_delta(
+            d, kazovuni_pointer_at(d + 16), kazovuni_number_at(d + 40), kazovuni_pointer_at(d + 24), size, record);
+    case 0x09:
+        return kazovuni_dualcast(
+            d, kazovuni_pointer_at(d + 16), size, kazovuni_pointer_at(d + 24), size, kazovuni_pointer_at(d + 40), size,
+            record);
+    default: /* the no-op, which is a success */
+        memset(record, 0, KAZOVUNI_RECORD_BYTES);
+        record[0] = 0x01;
+        return KAZOVUNI_OK;
+    }
+}
 
 #ifdef __cplusplus
 }

@@ -3,12 +3,14 @@
 The shared library is the file that the variable KAZOVUNI names, or else the one that the system finds. A call through
 ctypes takes a microsecond or two: for many small jobs there are the calls that take a list of descriptors.
 """
+import contextlib
 import ctypes
 import ctypes.util
 import os
 
 PAGE = 4096
-MOVE, COMPARE, CREATE_DELTA, APPLY_DELTA = 0x03, 0x05, 0x07, 0x08
+MOVE, FILL, COMPARE, CREATE_DELTA, APPLY_DELTA = 0x03, 0x04, 0x05, 0x07, 0x08
+CHECK_RESULT = 0x80  # the flag of a job whose result is checked
 
 Descriptor = ctypes.c_uint8 * 64
 RecordBytes = ctypes.c_uint8 * 32
@@ -45,6 +47,11 @@ def _load():
             ("encode", truth, to(Job), to(Descriptor)),
             ("record_decode", truth, to(RecordBytes), to(Record)),
             ("rest", truth, to(Descriptor), to(RecordBytes), to(Descriptor)),
+            ("fill", byte, to(Descriptor), ctypes.c_void_p, size, to(RecordBytes)),
+            ("move", byte, to(Descriptor), *2 * (ctypes.c_void_p, size), to(RecordBytes)),
+            ("compare", byte, to(Descriptor), *2 * (ctypes.c_void_p, size), to(RecordBytes)),
+            ("create_delta", byte, to(Descriptor), *3 * (ctypes.c_void_p, size), to(RecordBytes)),
+            ("apply_delta", byte, to(Descriptor), *2 * (ctypes.c_void_p, size), to(RecordBytes)),
             ("submit_over", byte, ctypes.c_void_p, size, to(Descriptor), word, to(RecordBytes)),
             ("create", byte, to(Handle), word, word),
             ("free", None, to(Handle)),
@@ -84,6 +91,89 @@ def rest(descriptor, record_bytes):
     """What is left of a job after a page fault; None where nothing is."""
     left = Descriptor()
     return left if _library.kazovuni_rest(descriptor, record_bytes, left) else None
+
+
+class _Buffer(ctypes.Structure):
+    """Py_buffer, of which a call wants the address and the length"""
+    _fields_ = [
+        ("address", ctypes.c_void_p), ("owner", ctypes.py_object), ("length", ctypes.c_ssize_t),
+        ("rest", ctypes.c_ssize_t * 8)]
+
+
+@contextlib.contextmanager
+def _lent(holder, is_written=False):
+    """The bytes of whatever has the buffer protocol, where they lie: nothing is copied."""
+    buffer, to = _Buffer(), ctypes.byref
+    ctypes.pythonapi.PyObject_GetBuffer(ctypes.py_object(holder), to(buffer), int(is_written))
+    try:
+        yield buffer
+    finally:
+        ctypes.pythonapi.PyBuffer_Release(to(buffer))
+
+
+# Where the buffers of a job lie, as far as its descriptor says. The rules judge these addresses, and no call follows
+# them: so each buffer has one that is aligned and shares no byte with another, wherever it is.
+_SECOND, _THIRD = 1 << 40, 2 << 40
+
+
+def _carried_out(call, job, read, written=None):
+    """The record of a call over buffers of which the last one is written, and may share no byte with another."""
+    words = []
+    for buffer in [*read, written] if written else read:
+        start, end = buffer.address or 0, (buffer.address or 0) + buffer.length
+        if written and buffer is not written and start < written.address + written.length and written.address < end:
+            raise ValueError("the buffer that is written shares bytes with another one")
+        words += [buffer.address, buffer.length]
+    record_bytes = RecordBytes()
+    _expect(call(encode(job), *words, record_bytes))
+    return record_of(record_bytes)
+
+
+def _size_of(buffer):
+    """A length as a descriptor has it; one that does not fit is too long for any job, and so is what stands for it."""
+    return min(buffer.length, 2**32 - 1)
+
+
+def move(source, target):
+    """Copies a buffer over another one of the same length."""
+    with _lent(source) as one, _lent(target, True) as other:
+        job = Job(opcode=MOVE, target=_SECOND, size=_size_of(one))
+        return _carried_out(_library.kazovuni_move, job, [one], other)
+
+
+def fill(pattern, target):
+    """Fills a buffer with 8 bytes over and over, the lowest of the number first."""
+    with _lent(target, True) as target:
+        job = Job(opcode=FILL, source=pattern, size=_size_of(target))
+        return _carried_out(_library.kazovuni_fill, job, [], target)
+
+
+def compare(one, other, flags=0):
+    """Finds the first byte in which two buffers of the same length differ: result 1, and `completed` is its place."""
+    with _lent(one) as one, _lent(other) as other:
+        job = Job(opcode=COMPARE, flags=flags, target=_SECOND, size=_size_of(one))
+        return _carried_out(_library.kazovuni_compare, job, [one, other])
+
+
+def compare_alike(one, other):
+    """The same with status 01 only where they are alike, and else 02."""
+    return compare(one, other, CHECK_RESULT)
+
+
+def create_delta(one, other, delta):
+    """Writes how a buffer differs from another one of the same length: 10 bytes for each differing block of 8, in at
+    most the bytes of `delta`, a multiple of 10."""
+    with _lent(one) as one, _lent(other) as other, _lent(delta, True) as delta:
+        sizes = {"size": _size_of(one), "delta_size": _size_of(delta)}
+        job = Job(opcode=CREATE_DELTA, target=_SECOND, extra=_THIRD, **sizes)
+        return _carried_out(_library.kazovuni_create_delta, job, [one, other], delta)
+
+
+def apply_delta(delta, target):
+    """Writes what a delta record says over a buffer of the length that it was made of."""
+    with _lent(delta) as delta, _lent(target, True) as target:
+        job = Job(opcode=APPLY_DELTA, target=_SECOND, size=_size_of(target), delta_size=_size_of(delta))
+        return _carried_out(_library.kazovuni_apply_delta, job, [delta], target)
 
 
 def submit_over(memory, descriptor):

@@ -1,5 +1,6 @@
 pub mod AsBox
 pub mod BaseLemmas
+pub mod DirectLemmas
 pub mod PageLemmas
 pub mod Steps
 pub mod Walks

@@ -1,4 +1,5 @@
 pub mod Bases
+pub mod Direct
 pub mod Held
 pub mod Needs
 pub mod State

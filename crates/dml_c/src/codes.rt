@@ -29,3 +29,9 @@ pub const NO_SUCH_PAGE: u8 = 8;
 
 /// A byte of the range is absent.
 pub const ABSENT: u8 = 9;
+
+/// The descriptor's operation is another one than the call's.
+pub const OTHER_OPERATION: u8 = 10;
+
+/// A buffer has another length than the job's range.
+pub const OTHER_LENGTH: u8 = 11;

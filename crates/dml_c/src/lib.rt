@@ -6,6 +6,7 @@
 
 mod bases;
 mod codes;
+mod direct;
 mod engines;
 mod handles;
 mod holding;
@@ -15,6 +16,10 @@ mod parts;
 mod values;
 
 pub use bases::law_of_bases;
+pub use direct::{
+    kazovuni_apply_delta, kazovuni_compare, kazovuni_compare_pattern, kazovuni_create_delta,
+    kazovuni_dualcast, kazovuni_fill, kazovuni_move, kazovuni_move_within,
+};
 pub use handles::CEngine;
 pub use holding::{
     kazovuni_bring, kazovuni_create, kazovuni_free, kazovuni_read, kazovuni_submit,

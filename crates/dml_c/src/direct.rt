@@ -1,0 +1,414 @@
+//! Jobs over the caller's own buffers, wherever these lie. Each export takes the ranges of a descriptor's job as slices of
+//! just these bytes; what the descriptor has as addresses is judged by the rules, and never followed.
+ghost use Rattle.std.specs.Prelude.{◌≡◌, ◌≢◌, ◌↔◌, ◌⊎◌, ◌/◌, IfErr, IfOk, IsTrue, None, Some, length, take};
+ghost use Rattle.dml_types.specs.declared.operations.Op.TheVariants.{ApplyDelta, Compare, ComparePattern, CreateDelta};
+ghost use Rattle.dml_types.specs.declared.operations.Op.TheVariants.{Dualcast, Fill, Move};
+ghost use Rattle.dml_types.specs.declared.statuses.Status.{Status};
+ghost use Rattle.dml_types.specs.Effect.{ended};
+ghost use Rattle.dml_types.specs.Job.{op_of};
+ghost use Rattle.dml_types.specs.Memory.{IsWhole, Memory, overwrite, put};
+ghost use Rattle.dml_desc.specs.Descriptor.{bytes_of_record, decoded};
+ghost use Rattle.dml_scan.specs.Lanes.{first_difference};
+ghost use Rattle.dml_effect.specs.Joined.{compared_record};
+ghost use Rattle.dml_direct.specs.Buffers.{Holds, applied_bytes, applied_record, cause_in, created_answer, ended_at};
+ghost use Rattle.dml_direct.specs.Buffers.{entries_of, good_in};
+ghost use Rattle.dml_c.specs.Direct.{LiesIn, refusal_of, step_of};
+
+use crate::codes::{DONE, OTHER_LENGTH, OTHER_OPERATION};
+use dml_desc::{Checked, record_bytes};
+use dml_direct::{
+    apply_delta, compare, compare_pattern, create_delta, dualcast, fill, move_bytes, move_within,
+};
+use dml_types::{Job, Op, Record, Status};
+
+// A mebibyte, the staging that is enough for every job. Nothing is staged here.
+const ENOUGH: u32 = 1_048_576;
+
+/// The job of a descriptor, where it breaks no rule, and else the status of the first rule that it breaks. It stands
+/// apart, so that the rules are not in the library once for each export.
+#[inline(never)]
+fn checked(descriptor: &[u8; 64]) -> Result<Checked, Status>
+    ensures same { IfOk result (λ job. job ≡ decoded descriptor.now) }
+    ensures accepted { IfOk result (λ _. refusal_of descriptor.now ≡ None) }
+    ensures refused { IfErr result (λ status. refusal_of descriptor.now ≡ Some status) }
+{
+    dml_desc::check(&dml_desc::decode(descriptor), ENOUGH)
+}
+
+/// Compares two buffers, which are the ranges of a descriptor's compare, and writes its completion record. The buffers
+/// may be the same, or overlap.
+#[unsafe(no_mangle)]
+pub extern "C" fn kazovuni_compare(
+    descriptor: &[u8; 64],
+    one: &[u8],
+    other: &[u8],
+    answer: &mut [u8; 32],
+) -> u8
+    ensures codes { (result ≡ 0) ⊎ (result ≡ 10) ⊎ (result ≡ 11) }
+    ensures refused { (status : Status) → refusal_of descriptor.now ≡ Some status →
+        (result ≡ 0) × (answer.new ≡ bytes_of_record (ended status 0 0 0)) }
+    ensures other_operation { refusal_of descriptor.now ≡ None →
+        ((result ≢ 10) ↔ (op_of (decoded descriptor.now) ≡ Some Compare)) }
+    ensures other_length { refusal_of descriptor.now ≡ None → op_of (decoded descriptor.now) ≡ Some Compare →
+        ((result ≢ 11) ↔ ((length one.now ≡ (decoded descriptor.now).size) × (length other.now ≡ (decoded descriptor.now).size))) }
+    ensures record { result ≡ 0 → (memory : Memory) → Holds memory (decoded descriptor.now).source one.now →
+        Holds memory (decoded descriptor.now).target other.now →
+        answer.new ≡ bytes_of_record (step_of memory descriptor.now).1 }
+    ensures content { result ≡ 0 → (memory : Memory) → Holds memory (decoded descriptor.now).source one.now →
+        Holds memory (decoded descriptor.now).target other.now →
+        (step_of memory descriptor.now).0 ≡ memory }
+    ensures told { result ≡ 0 → refusal_of descriptor.now ≡ None →
+        answer.new ≡ bytes_of_record (compared_record (decoded descriptor.now)
+        (ended_at (decoded descriptor.now).size (first_difference one.now other.now))) }
+    ensures unchanged { result ≢ 0 → (answer.new ≡ answer.old) }
+{
+    match checked(descriptor) {
+        Err(status) => {
+            *answer = record_bytes(&Record::refused(status));
+            DONE
+        }
+        Ok(job) => {
+            if job.op() != Op::Compare {
+                return OTHER_OPERATION;
+            }
+            let size = job.job().size as usize;
+            if one.len() != size || other.len() != size {
+                return OTHER_LENGTH;
+            }
+            *answer = record_bytes(&compare(&job, one, other));
+            DONE
+        }
+    }
+}
+
+/// Compares a buffer, which is the range of a descriptor's compare with its pattern, and writes its completion record.
+#[unsafe(no_mangle)]
+pub extern "C" fn kazovuni_compare_pattern(
+    descriptor: &[u8; 64],
+    bytes: &[u8],
+    answer: &mut [u8; 32],
+) -> u8
+    ensures codes { (result ≡ 0) ⊎ (result ≡ 10) ⊎ (result ≡ 11) }
+    ensures refused { (status : Status) → refusal_of descriptor.now ≡ Some status →
+        (result ≡ 0) × (answer.new ≡ bytes_of_record (ended status 0 0 0)) }
+    ensures other_operation { refusal_of descriptor.now ≡ None →
+        ((result ≢ 10) ↔ (op_of (decoded descriptor.now) ≡ Some ComparePattern)) }
+    ensures other_length { refusal_of descriptor.now ≡ None → op_of (decoded descriptor.now) ≡ Some ComparePattern →
+        ((result ≢ 11) ↔ (length bytes.now ≡ (decoded descriptor.now).size)) }
+    ensures record { result ≡ 0 → (memory : Memory) → Holds memory (decoded descriptor.now).source bytes.now →
+        answer.new ≡ bytes_of_record (step_of memory descriptor.now).1 }
+    ensures content { result ≡ 0 → (memory : Memory) → Holds memory (decoded descriptor.now).source bytes.now →
+        (step_of memory descriptor.now).0 ≡ memory }
+    ensures unchanged { result ≢ 0 → (answer.new ≡ answer.old) }
+{
+    match checked(descriptor) {
+        Err(status) => {
+            *answer = record_bytes(&Record::refused(status));
+            DONE
+        }
+        Ok(job) => {
+            if job.op() != Op::ComparePattern {
+                return OTHER_OPERATION;
+            }
+            let size = job.job().size as usize;
+            if bytes.len() != size {
+                return OTHER_LENGTH;
+            }
+            *answer = record_bytes(&compare_pattern(&job, bytes));
+            DONE
+        }
+    }
+}
+
+/// Fills a buffer, which is the range of a descriptor's fill, and writes its completion record.
+#[unsafe(no_mangle)]
+pub extern "C" fn kazovuni_fill(
+    descriptor: &[u8; 64],
+    target: &mut [u8],
+    answer: &mut [u8; 32],
+) -> u8
+    ensures codes { (result ≡ 0) ⊎ (result ≡ 10) ⊎ (result ≡ 11) }
+    ensures refused { (status : Status) → refusal_of descriptor.now ≡ Some status →
+        (result ≡ 0) × (answer.new ≡ bytes_of_record (ended status 0 0 0)) × (target.new ≡ target.old) }
+    ensures other_operation { refusal_of descriptor.now ≡ None →
+        ((result ≢ 10) ↔ (op_of (decoded descriptor.now) ≡ Some Fill)) }
+    ensures other_length { refusal_of descriptor.now ≡ None → op_of (decoded descriptor.now) ≡ Some Fill →
+        ((result ≢ 11) ↔ (length target.old ≡ (decoded descriptor.now).size)) }
+    ensures record { result ≡ 0 → (memory : Memory) → Holds memory (decoded descriptor.now).target target.old →
+        answer.new ≡ bytes_of_record (step_of memory descriptor.now).1 }
+    ensures content { result ≡ 0 → (memory : Memory) → Holds memory (decoded descriptor.now).target target.old →
+        (step_of memory descriptor.now).0 ≡ put memory (decoded descriptor.now).target target.new }
+    ensures unchanged { result ≢ 0 → (target.new ≡ target.old) × (answer.new ≡ answer.old) }
+{
+    match checked(descriptor) {
+        Err(status) => {
+            *answer = record_bytes(&Record::refused(status));
+            DONE
+        }
+        Ok(job) => {
+            if job.op() != Op::Fill {
+                return OTHER_OPERATION;
+            }
+            let size = job.job().size as usize;
+            if target.len() != size {
+                return OTHER_LENGTH;
+            }
+            *answer = record_bytes(&fill(&job, target));
+            DONE
+        }
+    }
+}
+
+/// Copies a buffer over another one, which are the ranges of a descriptor's move, and writes its completion record.
+#[unsafe(no_mangle)]
+pub extern "C" fn kazovuni_move(
+    descriptor: &[u8; 64],
+    source: &[u8],
+    target: &mut [u8],
+    answer: &mut [u8; 32],
+) -> u8
+    ensures codes { (result ≡ 0) ⊎ (result ≡ 10) ⊎ (result ≡ 11) }
+    ensures refused { (status : Status) → refusal_of descriptor.now ≡ Some status →
+        (result ≡ 0) × (answer.new ≡ bytes_of_record (ended status 0 0 0)) × (target.new ≡ target.old) }
+    ensures other_operation { refusal_of descriptor.now ≡ None →
+        ((result ≢ 10) ↔ (op_of (decoded descriptor.now) ≡ Some Move)) }
+    ensures other_length { refusal_of descriptor.now ≡ None → op_of (decoded descriptor.now) ≡ Some Move →
+        ((result ≢ 11) ↔ ((length source.now ≡ (decoded descriptor.now).size) × (length target.old ≡ (decoded descriptor.now).size))) }
+    ensures record { result ≡ 0 → (memory : Memory) → Holds memory (decoded descriptor.now).source source.now →
+        Holds memory (decoded descriptor.now).target target.old →
+        answer.new ≡ bytes_of_record (step_of memory descriptor.now).1 }
+    ensures content { result ≡ 0 → (memory : Memory) → Holds memory (decoded descriptor.now).source source.now →
+        Holds memory (decoded descriptor.now).target target.old →
+        (step_of memory descriptor.now).0 ≡ put memory (decoded descriptor.now).target target.new }
+    ensures copied { result ≡ 0 → refusal_of descriptor.now ≡ None →
+        target.new ≡ source.now }
+    ensures unchanged { result ≢ 0 → (target.new ≡ target.old) × (answer.new ≡ answer.old) }
+{
+    match checked(descriptor) {
+        Err(status) => {
+            *answer = record_bytes(&Record::refused(status));
+            DONE
+        }
+        Ok(job) => {
+            if job.op() != Op::Move {
+                return OTHER_OPERATION;
+            }
+            let size = job.job().size as usize;
+            if source.len() != size || target.len() != size {
+                return OTHER_LENGTH;
+            }
+            *answer = record_bytes(&move_bytes(&job, source, target));
+            DONE
+        }
+    }
+}
+
+/// Moves bytes inside a buffer that begins at an address and has both ranges of a descriptor's move, however these
+/// overlap, and writes its completion record.
+#[unsafe(no_mangle)]
+pub extern "C" fn kazovuni_move_within(
+    descriptor: &[u8; 64],
+    start: u64,
+    bytes: &mut [u8],
+    answer: &mut [u8; 32],
+) -> u8
+    ensures codes { (result ≡ 0) ⊎ (result ≡ 10) ⊎ (result ≡ 11) }
+    ensures refused { (status : Status) → refusal_of descriptor.now ≡ Some status →
+        (result ≡ 0) × (answer.new ≡ bytes_of_record (ended status 0 0 0)) × (bytes.new ≡ bytes.old) }
+    ensures other_operation { refusal_of descriptor.now ≡ None →
+        ((result ≢ 10) ↔ (op_of (decoded descriptor.now) ≡ Some Move)) }
+    ensures other_length { refusal_of descriptor.now ≡ None → op_of (decoded descriptor.now) ≡ Some Move →
+        ((result ≢ 11) ↔ LiesIn start (length bytes.old) (decoded descriptor.now)) }
+    ensures record { result ≡ 0 → (memory : Memory) → Holds memory start bytes.old →
+        answer.new ≡ bytes_of_record (step_of memory descriptor.now).1 }
+    ensures content { result ≡ 0 → (memory : Memory) → Holds memory start bytes.old →
+        (step_of memory descriptor.now).0 ≡ put memory start bytes.new }
+    ensures unchanged { result ≢ 0 → (bytes.new ≡ bytes.old) × (answer.new ≡ answer.old) }
+{
+    match checked(descriptor) {
+        Err(status) => {
+            *answer = record_bytes(&Record::refused(status));
+            DONE
+        }
+        Ok(job) => {
+            if job.op() != Op::Move {
+                return OTHER_OPERATION;
+            }
+            if !lies_in(start, bytes.len() as u64, job.job()) {
+                return OTHER_LENGTH;
+            }
+            *answer = record_bytes(&move_within(&job, start, bytes));
+            DONE
+        }
+    }
+}
+
+/// Whether both ranges of a move lie in so many bytes from an address on.
+fn lies_in(start: u64, len: u64, job: &Job) -> bool
+    ensures { IsTrue result ↔ LiesIn start len job.now }
+{
+    let size = u64::from(job.size);
+    start <= job.source
+        && start <= job.target
+        && size <= len
+        && job.source - start <= len - size
+        && job.target - start <= len - size
+}
+
+/// Copies a buffer over two others, which are the ranges of a descriptor's dualcast, and writes its completion record.
+#[unsafe(no_mangle)]
+pub extern "C" fn kazovuni_dualcast(
+    descriptor: &[u8; 64],
+    source: &[u8],
+    target: &mut [u8],
+    second: &mut [u8],
+    answer: &mut [u8; 32],
+) -> u8
+    ensures codes { (result ≡ 0) ⊎ (result ≡ 10) ⊎ (result ≡ 11) }
+    ensures refused { (status : Status) → refusal_of descriptor.now ≡ Some status →
+        (result ≡ 0) × (answer.new ≡ bytes_of_record (ended status 0 0 0)) × (target.new ≡ target.old) × (second.new ≡ second.old) }
+    ensures other_operation { refusal_of descriptor.now ≡ None →
+        ((result ≢ 10) ↔ (op_of (decoded descriptor.now) ≡ Some Dualcast)) }
+    ensures other_length { refusal_of descriptor.now ≡ None → op_of (decoded descriptor.now) ≡ Some Dualcast →
+        ((result ≢ 11) ↔ ((length source.now ≡ (decoded descriptor.now).size)
+        × (length target.old ≡ (decoded descriptor.now).size) × (length second.old ≡ (decoded descriptor.now).size))) }
+    ensures record { result ≡ 0 → (memory : Memory) → Holds memory (decoded descriptor.now).source source.now →
+        Holds memory (decoded descriptor.now).target target.old → Holds memory (decoded descriptor.now).extra second.old →
+        answer.new ≡ bytes_of_record (step_of memory descriptor.now).1 }
+    ensures content { result ≡ 0 → (memory : Memory) → Holds memory (decoded descriptor.now).source source.now →
+        Holds memory (decoded descriptor.now).target target.old → Holds memory (decoded descriptor.now).extra second.old →
+        (step_of memory descriptor.now).0 ≡ put (put memory (decoded descriptor.now).target target.new)
+        (decoded descriptor.now).extra second.new }
+    ensures copied { result ≡ 0 → refusal_of descriptor.now ≡ None →
+        (target.new ≡ source.now) × (second.new ≡ source.now) }
+    ensures unchanged { result ≢ 0 → (target.new ≡ target.old) × (second.new ≡ second.old) × (answer.new ≡ answer.old) }
+{
+    match checked(descriptor) {
+        Err(status) => {
+            *answer = record_bytes(&Record::refused(status));
+            DONE
+        }
+        Ok(job) => {
+            if job.op() != Op::Dualcast {
+                return OTHER_OPERATION;
+            }
+            let size = job.job().size as usize;
+            if source.len() != size || target.len() != size || second.len() != size {
+                return OTHER_LENGTH;
+            }
+            *answer = record_bytes(&dualcast(&job, source, target, second));
+            DONE
+        }
+    }
+}
+
+/// Writes the delta record of two buffers into a third, which are the ranges of a descriptor's create, and writes its
+/// completion record. The first two may be the same, or overlap.
+#[unsafe(no_mangle)]
+pub extern "C" fn kazovuni_create_delta(
+    descriptor: &[u8; 64],
+    one: &[u8],
+    other: &[u8],
+    delta: &mut [u8],
+    answer: &mut [u8; 32],
+) -> u8
+    ensures codes { (result ≡ 0) ⊎ (result ≡ 10) ⊎ (result ≡ 11) }
+    ensures refused { (status : Status) → refusal_of descriptor.now ≡ Some status →
+        (result ≡ 0) × (answer.new ≡ bytes_of_record (ended status 0 0 0)) × (delta.new ≡ delta.old) }
+    ensures other_operation { refusal_of descriptor.now ≡ None →
+        ((result ≢ 10) ↔ (op_of (decoded descriptor.now) ≡ Some CreateDelta)) }
+    ensures other_length { refusal_of descriptor.now ≡ None → op_of (decoded descriptor.now) ≡ Some CreateDelta →
+        ((result ≢ 11) ↔ ((length one.now ≡ (decoded descriptor.now).size)
+        × (length other.now ≡ (decoded descriptor.now).size) × (length delta.old ≡ (decoded descriptor.now).delta_size))) }
+    ensures record { result ≡ 0 → (memory : Memory) → IsWhole memory →
+        Holds memory (decoded descriptor.now).source one.now → Holds memory (decoded descriptor.now).target other.now →
+        Holds memory (decoded descriptor.now).extra delta.old →
+        answer.new ≡ bytes_of_record (step_of memory descriptor.now).1 }
+    ensures content { result ≡ 0 → (memory : Memory) → IsWhole memory →
+        Holds memory (decoded descriptor.now).source one.now → Holds memory (decoded descriptor.now).target other.now →
+        Holds memory (decoded descriptor.now).extra delta.old →
+        (step_of memory descriptor.now).0 ≡ put memory (decoded descriptor.now).extra delta.new }
+    ensures told { result ≡ 0 → refusal_of descriptor.now ≡ None →
+        answer.new ≡ bytes_of_record (created_answer (decoded descriptor.now) (entries_of 0 one.now other.now)) }
+    ensures entries { result ≡ 0 → refusal_of descriptor.now ≡ None →
+        delta.new ≡ overwrite delta.old 0 (take (length delta.old) (entries_of 0 one.now other.now)) }
+    ensures unchanged { result ≢ 0 → (delta.new ≡ delta.old) × (answer.new ≡ answer.old) }
+{
+    match checked(descriptor) {
+        Err(status) => {
+            *answer = record_bytes(&Record::refused(status));
+            DONE
+        }
+        Ok(job) => {
+            if job.op() != Op::CreateDelta {
+                return OTHER_OPERATION;
+            }
+            let &Job {
+                size,
+                delta_size,
+                ..
+            } = job.job();
+            if one.len() != size as usize
+                || other.len() != size as usize
+                || delta.len() != delta_size as usize
+            {
+                return OTHER_LENGTH;
+            }
+            *answer = record_bytes(&create_delta(&job, one, other, delta));
+            DONE
+        }
+    }
+}
+
+/// Writes the blocks of a delta record over a buffer, which are the ranges of a descriptor's apply, and writes its
+/// completion record.
+#[unsafe(no_mangle)]
+pub extern "C" fn kazovuni_apply_delta(
+    descriptor: &[u8; 64],
+    delta: &[u8],
+    target: &mut [u8],
+    answer: &mut [u8; 32],
+) -> u8
+    ensures codes { (result ≡ 0) ⊎ (result ≡ 10) ⊎ (result ≡ 11) }
+    ensures refused { (status : Status) → refusal_of descriptor.now ≡ Some status →
+        (result ≡ 0) × (answer.new ≡ bytes_of_record (ended status 0 0 0)) × (target.new ≡ target.old) }
+    ensures other_operation { refusal_of descriptor.now ≡ None →
+        ((result ≢ 10) ↔ (op_of (decoded descriptor.now) ≡ Some ApplyDelta)) }
+    ensures other_length { refusal_of descriptor.now ≡ None → op_of (decoded descriptor.now) ≡ Some ApplyDelta →
+        ((result ≢ 11) ↔ ((length delta.now ≡ (decoded descriptor.now).delta_size)
+        × (length target.old ≡ (decoded descriptor.now).size))) }
+    ensures record { result ≡ 0 → (memory : Memory) → Holds memory (decoded descriptor.now).source delta.now →
+        Holds memory (decoded descriptor.now).target target.old →
+        answer.new ≡ bytes_of_record (step_of memory descriptor.now).1 }
+    ensures content { result ≡ 0 → (memory : Memory) → Holds memory (decoded descriptor.now).source delta.now →
+        Holds memory (decoded descriptor.now).target target.old →
+        (step_of memory descriptor.now).0 ≡ put memory (decoded descriptor.now).target target.new }
+    ensures told { result ≡ 0 → refusal_of descriptor.now ≡ None →
+        answer.new ≡ bytes_of_record (applied_record (good_in delta.now ((decoded descriptor.now).size / 8))
+        (cause_in delta.now ((decoded descriptor.now).size / 8))) }
+    ensures blocks { result ≡ 0 → refusal_of descriptor.now ≡ None →
+        target.new ≡ applied_bytes delta.now (good_in delta.now ((decoded descriptor.now).size / 8)) target.old }
+    ensures unchanged { result ≢ 0 → (target.new ≡ target.old) × (answer.new ≡ answer.old) }
+{
+    match checked(descriptor) {
+        Err(status) => {
+            *answer = record_bytes(&Record::refused(status));
+            DONE
+        }
+        Ok(job) => {
+            if job.op() != Op::ApplyDelta {
+                return OTHER_OPERATION;
+            }
+            let &Job {
+                size,
+                delta_size,
+                ..
+            } = job.job();
+            if delta.len() != delta_size as usize || target.len() != size as usize {
+                return OTHER_LENGTH;
+            }
+            *answer = record_bytes(&apply_delta(&job, delta, target));
+            DONE
+        }
+    }
+}

@@ -1,0 +1,195 @@
+/*
+ * Kazovuni for C++20: jobs straight over the caller's own buffers, as spans of bytes, each with a result in place of a
+ * completion record. What kazovuni.h says of kazovuni_execute holds of each call: a buffer that is written shares no
+ * byte with another one of the call, or the job is refused, but in mem_move; buffers that are only read may be shared
+ * by any number of threads; nothing is allocated, and nothing is thrown.
+ *
+ * A program that was written for Intel's C++ interface changes its names:
+ *
+ *     dml::execute<dml::software>(dml::mem_move, dml::make_view(source), dml::make_view(target))
+ *     kazovuni::mem_move(kazovuni::make_view(source), kazovuni::make_view(target))
+ */
+#ifndef KAZOVUNI_HPP
+#define KAZOVUNI_HPP
+
+#include "kazovuni.h"
+
+#include <algorithm>
+#include <cstddef>
+#include <cstdint>
+#include <limits>
+#include <optional>
+#include <ranges>
+#include <span>
+#include <type_traits>
+
+namespace kazovuni {
+
+using view = std::span<std::uint8_t>;
+using const_view = std::span<const std::uint8_t>;
+
+/* How a job ended: the statuses of completion records that come up over buffers. From bad_size on it was refused. */
+enum class status_code : std::uint8_t {
+    inconsistent_size = 0x00,    /* no job was made: its buffers have different lengths */
+    ok = 0x01,
+    false_predicate = 0x02,      /* the job is done, with another result than was expected */
+    not_rising = 0x07,           /* apply_delta: an offset of the record is not above the one before it */
+    offset_range = 0x08,         /* apply_delta: an offset of the record lies behind the target */
+    bad_size = 0x13,             /* above 1,048,576; of a delta above 524,288, or no multiple of 8 */
+    bad_delta_size = 0x15,       /* a delta record has 10 bytes for each entry, at most 655,360 */
+    buffers_overlapping = 0x16,  /* a buffer that is written shares a byte with another one */
+    dualcast_bad_padding = 0x17, /* the low 12 bits of the two targets' addresses differ */
+    bad_alignment = 0x1c         /* a delta's sources and targets stand at multiples of 8 */
+};
+
+/* What a compare or a create found; overflow: the delta record has no room for all differences. */
+enum class comparison_result : std::uint8_t { equal = 0, not_equal = 1, overflow = 2 };
+
+struct job_result {
+    status_code status;
+    comparison_result result;      /* of compare, compare_pattern and create_delta */
+    std::size_t bytes_processed;   /* of a compare that found a difference: its offset */
+    std::size_t delta_record_size; /* of create_delta */
+};
+
+/* The bytes of a vector, an array or whatever else lies in one piece. */
+template <std::ranges::contiguous_range Range>
+    requires std::ranges::sized_range<Range> && std::is_trivially_copyable_v<std::ranges::range_value_t<Range>>
+auto make_view(Range &&range) noexcept
+{
+    using element = std::remove_reference_t<std::ranges::range_reference_t<Range>>;
+    using byte = std::conditional_t<std::is_const_v<element>, const std::uint8_t, std::uint8_t>;
+    std::size_t length = std::ranges::size(range) * sizeof(element);
+    return std::span<byte>(reinterpret_cast<byte *>(std::ranges::data(range)), length);
+}
+
+namespace detail {
+
+enum : std::uint8_t { move = 0x03, fill, compare, compare_pattern, create_delta, apply_delta, dualcast };
+constexpr std::uint32_t check_result = 0x80;
+constexpr std::size_t entry = 10, most_delta = 655360;
+
+inline std::uint64_t address_of(const_view bytes) noexcept
+{
+    return reinterpret_cast<std::uintptr_t>(bytes.data());
+}
+
+/* A length as a descriptor has it; one that does not fit is too long for any job, and so is what is answered for it. */
+inline std::uint32_t size_of(std::size_t length) noexcept
+{
+    return static_cast<std::uint32_t>(std::min<std::size_t>(length, std::numeric_limits<std::uint32_t>::max()));
+}
+
+inline job_result execute(const kazovuni_job &job) noexcept
+{
+    std::uint8_t descriptor[KAZOVUNI_DESCRIPTOR_BYTES], record[KAZOVUNI_RECORD_BYTES];
+    kazovuni_record fields{};
+    if (!kazovuni_encode(&job, descriptor) || kazovuni_execute(descriptor, record) != KAZOVUNI_OK ||
+        !kazovuni_record_decode(record, &fields))
+        return {};
+    bool has_result = job.opcode >= compare && job.opcode <= create_delta;
+    auto result = has_result ? comparison_result{fields.result} : comparison_result::equal;
+    return {status_code{fields.status}, result, fields.completed, fields.delta_size};
+}
+
+/* The job, checked for a result where one is expected: a compare's whole byte, a create's mask of results. */
+inline job_result execute(kazovuni_job job, std::optional<comparison_result> expected) noexcept
+{
+    if (expected) {
+        auto result = static_cast<std::uint8_t>(*expected);
+        job.flags = check_result;
+        job.expected = job.opcode == create_delta ? static_cast<std::uint8_t>(1u << result) : result;
+    }
+    return execute(job);
+}
+
+inline kazovuni_job job_of(std::uint8_t opcode, std::uint64_t source, std::uint64_t target, std::size_t length) noexcept
+{
+    kazovuni_job job{};
+    job.opcode = opcode;
+    job.source = source;
+    job.target = target;
+    job.size = size_of(length);
+    return job;
+}
+
+} // namespace detail
+
+/* Copies a buffer over another one of the same length. The two may overlap: the bytes come as they stood before. */
+inline job_result mem_move(const_view source, view target) noexcept
+{
+    if (source.size() != target.size())
+        return {};
+    return detail::execute(
+        detail::job_of(detail::move, detail::address_of(source), detail::address_of(target), source.size()));
+}
+
+/* Fills a buffer with 8 bytes over and over, the lowest of the number first. */
+inline job_result fill(std::uint64_t pattern, view target) noexcept
+{
+    return detail::execute(detail::job_of(detail::fill, pattern, detail::address_of(target), target.size()));
+}
+
+/* Copies a buffer over two others of the same length, whose addresses have the same low 12 bits. */
+inline job_result dualcast(const_view source, view target, view second) noexcept
+{
+    if (source.size() != target.size() || source.size() != second.size())
+        return {};
+    auto job =
+        detail::job_of(detail::dualcast, detail::address_of(source), detail::address_of(target), source.size());
+    job.extra = detail::address_of(second);
+    return detail::execute(job);
+}
+
+/* Finds the first byte in which two buffers of the same length differ. */
+inline job_result compare(
+    const_view one, const_view other, std::optional<comparison_result> expected = std::nullopt) noexcept
+{
+    if (one.size() != other.size())
+        return {};
+    return detail::execute(
+        detail::job_of(detail::compare, detail::address_of(one), detail::address_of(other), one.size()), expected);
+}
+
+/* The same with 8 bytes over and over, the lowest of the number first. */
+inline job_result compare_pattern(
+    std::uint64_t pattern, const_view bytes, std::optional<comparison_result> expected = std::nullopt) noexcept
+{
+    return detail::execute(
+        detail::job_of(detail::compare_pattern, detail::address_of(bytes), pattern, bytes.size()), expected);
+}
+
+/*
+ * Writes how the second buffer differs from the first: an entry of 10 bytes for each differing block of 8, as many as
+ * the third buffer has room for.
+ */
+inline job_result create_delta(
+    const_view one, const_view other, view delta, std::optional<comparison_result> expected = std::nullopt) noexcept
+{
+    if (one.size() != other.size())
+        return {};
+    auto job =
+        detail::job_of(detail::create_delta, detail::address_of(one), detail::address_of(other), one.size());
+    job.extra = detail::address_of(delta);
+    job.delta_size = detail::size_of(std::min(delta.size() - delta.size() % detail::entry, detail::most_delta));
+    return detail::execute(job, expected);
+}
+
+/* Writes what a delta record says over a buffer of the length that it was made of. */
+inline job_result apply_delta(const_view delta, view target) noexcept
+{
+    auto job =
+        detail::job_of(detail::apply_delta, detail::address_of(delta), detail::address_of(target), target.size());
+    job.delta_size = detail::size_of(delta.size());
+    return detail::execute(job);
+}
+
+/* The same with the buffer in which a create left its record, and the create's result. */
+inline job_result apply_delta(const_view delta, view target, const job_result &created) noexcept
+{
+    return apply_delta(delta.first(std::min(delta.size(), created.delta_record_size)), target);
+}
+
+} // namespace kazovuni
+
+#endif

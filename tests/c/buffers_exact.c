@@ -1,0 +1,275 @@
+/*
+ * Jobs over buffers of exact length, each between two pages that are not mapped: every alignment from 0 to 63 of each
+ * buffer, every length from 0 to 130, and the greatest ones. Each job is that of the evaluator of tests/fuzz, whose
+ * image has its ranges somewhere else: no byte of an answer depends on where the buffers lie. A buffer stands as near
+ * to one of the pages as its alignment lets it; the bytes between keep what they had, and under valgrind's memcheck may
+ * not be touched at all.
+ *
+ * Usage: buffers_exact [STEP]   only each STEP-th alignment of the second buffer, 1 where nothing is said
+ */
+#define _GNU_SOURCE
+#include "buffers.h"
+
+#include <sys/mman.h>
+
+#if defined(__has_include)
+#if __has_include(<valgrind/memcheck.h>)
+#include <valgrind/memcheck.h>
+#endif
+#endif
+#ifndef RUNNING_ON_VALGRIND
+#define RUNNING_ON_VALGRIND 0
+#define VALGRIND_MAKE_MEM_NOACCESS(bytes, length) ((void)(bytes), (void)(length))
+#define VALGRIND_MAKE_MEM_DEFINED(bytes, length) ((void)(bytes), (void)(length))
+#endif
+
+enum { AREA = 2 * ENOUGH, BESIDE = 128, BLANK = 0xc7, ALIGNMENTS = 64, MOST_LENGTH = 130 };
+enum place { BEHIND_A_PAGE, BEFORE_A_PAGE, PLACES };
+
+static uint8_t *areas[RANGES]; /* AREA bytes each, between pages that are not mapped */
+static struct image image;
+static uint64_t jobs;
+
+static uint8_t *area(void)
+{
+    uint8_t *pages = mmap(NULL, AREA + 2 * PAGE, PROT_NONE, MAP_PRIVATE | MAP_ANONYMOUS, -1, 0);
+    if (pages == MAP_FAILED || mprotect(pages + PAGE, AREA, PROT_READ | PROT_WRITE) != 0)
+        exit(2);
+    memset(pages + PAGE, BLANK, AREA);
+    return pages + PAGE;
+}
+
+static void fail(const struct job *job, const char *what, const struct buffer ranges[RANGES])
+{
+    fprintf(stderr, "buffers_exact: opcode %02x, size %u, delta size %u: %s\n", job->opcode, job->size,
+            job->delta_size, what);
+    for (int i = 0; i < RANGES; i++)
+        fprintf(stderr, "  %p %zu\n", (void *)ranges[i].bytes, ranges[i].length);
+    exit(1);
+}
+
+/* ---- buffers */
+
+/* The part of an area that is near a buffer, and a check of it: all but the buffer is blank. */
+static void near(int i, const struct buffer *buffer, uint8_t **from, uint8_t **to)
+{
+    uint8_t *end = areas[i] + AREA;
+    *from = buffer->bytes - areas[i] < BESIDE ? areas[i] : buffer->bytes - BESIDE;
+    *to = end - (buffer->bytes + buffer->length) < BESIDE ? end : buffer->bytes + buffer->length + BESIDE;
+}
+
+static bool are_blank(const uint8_t *from, const uint8_t *to)
+{
+    while (from < to)
+        if (*from++ != BLANK)
+            return false;
+    return true;
+}
+
+/* Lays a buffer down with an alignment, behind the first page that is not mapped or before the second. */
+static void lay(int i, struct buffer *buffer, size_t alignment, enum place place, const uint8_t *bytes)
+{
+    uint8_t *end = areas[i] + AREA - buffer->length, *from, *to;
+    size_t beside = ((uintptr_t)end - alignment) % ALIGNMENTS;
+    buffer->bytes = place == BEHIND_A_PAGE ? areas[i] + alignment : end - beside;
+    near(i, buffer, &from, &to);
+    VALGRIND_MAKE_MEM_NOACCESS(from, to - from);
+    VALGRIND_MAKE_MEM_DEFINED(buffer->bytes, buffer->length);
+    memcpy(buffer->bytes, bytes, buffer->length);
+}
+
+/* Takes a buffer away again: it has to hold these bytes, and nothing beside it may be changed. */
+static void take(const struct job *job, int i, const struct buffer ranges[RANGES], const uint8_t *wanted)
+{
+    const struct buffer *buffer = &ranges[i];
+    uint8_t *from, *to;
+    near(i, buffer, &from, &to);
+    if (memcmp(buffer->bytes, wanted, buffer->length) != 0)
+        fail(job, "other bytes are left", ranges);
+    VALGRIND_MAKE_MEM_DEFINED(from, to - from);
+    if (!are_blank(from, buffer->bytes) || !are_blank(buffer->bytes + buffer->length, to))
+        fail(job, "bytes beside a buffer are changed", ranges);
+    memset(buffer->bytes, BLANK, buffer->length);
+}
+
+/* ---- jobs */
+
+static uint8_t *before; /* the bytes of a job's ranges in the image as they stood before it */
+
+struct answer {
+    uint8_t descriptor[64], record[32];
+};
+
+/* The job on the image. */
+static struct answer evaluate(const struct job *job)
+{
+    struct buffer ranges[RANGES];
+    struct answer answer;
+    ranges_of(job, ranges);
+    for (int i = 0; i < RANGES; i++)
+        if (ranges[i].is_there)
+            memcpy(before + ranges[i].address, image.bytes + ranges[i].address, ranges[i].length);
+    write_descriptor(job, answer.descriptor);
+    struct record record = step(&image, job, ENOUGH, false);
+    write_record(&record, answer.record);
+    return answer;
+}
+
+/* The same job over buffers with these alignments. */
+static void try_at(
+    const struct job *job, const struct answer *answer, const size_t alignments[RANGES], enum place place)
+{
+    struct buffer ranges[RANGES];
+    uint8_t record[32];
+    ranges_of(job, ranges);
+    for (int i = 0; i < RANGES; i++)
+        if (ranges[i].is_there)
+            lay(i, &ranges[i], alignments[i], place, before + ranges[i].address);
+    memset(record, NO_STATUS, 32);
+    if (call(job->opcode, answer->descriptor, ranges, record) != KAZOVUNI_OK ||
+        memcmp(record, answer->record, 32) != 0)
+        fail(job, "another record", ranges);
+    for (int i = 0; i < RANGES; i++)
+        if (ranges[i].is_there)
+            take(job, i, ranges, (ranges[i].is_written ? image.bytes : before) + ranges[i].address);
+    jobs++;
+}
+
+/* The same with both ranges of a move in one buffer, `apart` bytes from one another. */
+static void try_within(uint32_t size, uint32_t apart, size_t alignment, bool is_upwards)
+{
+    struct job job = {.opcode = MOVE, .source = is_upwards ? 0 : apart, .target = is_upwards ? apart : 0, .size = size};
+    struct buffer whole = {0, (size_t)size + apart, true, true, NULL};
+    for (uint32_t i = 0; i < size + apart; i++)
+        image.bytes[i] = (uint8_t)any();
+    memcpy(before, image.bytes, whole.length);
+    struct answer answer = evaluate(&job);
+    for (enum place place = 0; place < PLACES; place++) {
+        uint8_t record[32];
+        struct buffer ranges[RANGES] = {whole};
+        lay(0, &ranges[0], alignment, place, before);
+        memset(record, NO_STATUS, 32);
+        if (kazovuni_move_within(answer.descriptor, 0, ranges[0].bytes, ranges[0].length, record) != KAZOVUNI_OK ||
+            memcmp(record, answer.record, 32) != 0)
+            fail(&job, "another record of a move within a buffer", ranges);
+        take(&job, 0, ranges, image.bytes);
+        jobs++;
+    }
+}
+
+/* Bytes of the image: few values, two sources that are alike but for some bytes, a delta record whose offsets rise. */
+static void fill_image(const struct job *job)
+{
+    struct buffer ranges[RANGES];
+    ranges_of(job, ranges);
+    for (int i = 0; i < RANGES; i++)
+        for (size_t k = 0; ranges[i].is_there && k < ranges[i].length; k++)
+            image.bytes[ranges[i].address + k] = (uint8_t)below(4);
+    if (job->opcode == COMPARE || job->opcode == CREATE) {
+        memcpy(image.bytes + job->target, image.bytes + job->source, job->size);
+        for (uint32_t i = job->opcode == COMPARE ? 0 : job->size / 16; job->size > 0 && one_in(2) && i < 3; i++)
+            image.bytes[job->target + below(job->size)] ^= 0x40;
+    }
+    if (job->opcode == COMPARE_PATTERN) {
+        for (uint32_t k = 0; k < job->size; k++)
+            image.bytes[job->source + k] = (uint8_t)(job->target >> 8 * (k % 8));
+        if (job->size > 0 && one_in(2))
+            image.bytes[job->source + below(job->size)] ^= 0x40;
+    }
+    if (job->opcode == APPLY)
+        for (uint32_t x = 0; x < job->delta_size / 10; x++)
+            put_number(image.bytes + job->source + 10 * (uint64_t)x, x * (job->size / 8) / (job->delta_size / 10), 2);
+}
+
+/* A job whose ranges stand in the image one behind the other, whatever their alignment is elsewhere. */
+static struct job job_of(uint8_t opcode, uint32_t size, uint32_t delta_size)
+{
+    struct job job = {.opcode = opcode, .flags = 0x08, .size = size, .delta_size = delta_size};
+    uint64_t room = ENOUGH;
+    job.source = opcode == FILL ? 0x8877665544332211 : 0;
+    job.target = opcode == COMPARE_PATTERN ? 0x1817161514131211 : room;
+    job.extra = opcode == CREATE || opcode == DUALCAST ? 2 * room : 0;
+    return job;
+}
+
+static void try_alignments(const struct job *job, size_t step)
+{
+    fill_image(job);
+    struct answer answer = evaluate(job);
+    bool has_one = job->opcode == FILL || job->opcode == COMPARE_PATTERN;
+    for (size_t first = 0; first < ALIGNMENTS; first++)
+        for (size_t second = has_one ? first : first % step; second < ALIGNMENTS; second += step) {
+            const size_t alignments[RANGES] = {first, second, (first + 5 * second) % ALIGNMENTS};
+            for (enum place place = 0; place < PLACES; place++)
+                try_at(job, &answer, alignments, place);
+            if (has_one)
+                break;
+        }
+}
+
+static void try_lengths(size_t step)
+{
+    image.pages = 3 * ENOUGH / PAGE;
+    for (uint8_t opcode = MOVE; opcode <= DUALCAST; opcode++)
+        for (uint32_t size = 0; size <= MOST_LENGTH; size++) {
+            bool is_delta = opcode == CREATE || opcode == APPLY;
+            if (is_delta && size % 8 != 0)
+                continue;
+            uint32_t entries = is_delta ? (opcode == CREATE) + (uint32_t)below(size / 8 + 1) : 0;
+            struct job job = job_of(opcode, size, 10 * entries);
+            try_alignments(&job, step);
+        }
+    for (uint32_t size = 0; size <= MOST_LENGTH; size++)
+        for (size_t alignment = 0; alignment < ALIGNMENTS; alignment += step)
+            for (int way = 0; way < 2; way++)
+                try_within(size, (uint32_t)below(size + 2), alignment, way == 0);
+}
+
+/* The greatest lengths, and one more, which is refused whatever the buffers. */
+static void try_limits(void)
+{
+    static const struct buffer none[RANGES];
+    for (uint8_t opcode = MOVE; opcode <= DUALCAST; opcode++) {
+        bool is_delta = opcode == CREATE || opcode == APPLY;
+        uint32_t most = is_delta ? ENOUGH / 2 : ENOUGH;
+        for (int round = 0; round < 4; round++) {
+            uint32_t delta_size = !is_delta ? 0 : round == 0 ? 655360 : 10 * (1 + (uint32_t)below(65536));
+            struct job job = job_of(opcode, most, delta_size);
+            fill_image(&job);
+            if (opcode == CREATE && round < 2)
+                for (uint32_t i = 0; i < most; i += 8)
+                    image.bytes[job.target + i] ^= 0x20; /* every block differs */
+            struct answer answer = evaluate(&job);
+            for (enum place place = 0; place < PLACES; place++)
+                try_at(&job, &answer, (const size_t[RANGES]){below(64), below(64), below(64)}, place);
+        }
+        struct job job = job_of(opcode, most + 8, is_delta ? 10 : 0);
+        uint8_t descriptor[64], record[32];
+        write_descriptor(&job, descriptor);
+        if (call(opcode, descriptor, none, record) != KAZOVUNI_OK || record[0] != 0x13)
+            fail(&job, "a size above the greatest one is not refused", none);
+        job = job_of(opcode, most, 655370);
+        write_descriptor(&job, descriptor);
+        if (is_delta && (call(opcode, descriptor, none, record) != KAZOVUNI_OK || record[0] != 0x15))
+            fail(&job, "a record above the greatest size is not refused", none);
+    }
+    for (uint32_t apart = 0; apart < 3000; apart += 999)
+        try_within(ENOUGH, apart, apart % 64, apart % 2 == 0);
+}
+
+int main(int argc, char **argv)
+{
+    size_t step = argc > 1 ? strtoull(argv[1], NULL, 10) : 1;
+    for (int i = 0; i < RANGES; i++)
+        areas[i] = area();
+    image.bytes = calloc(3, ENOUGH);
+    before = calloc(3, ENOUGH);
+    if (image.bytes == NULL || before == NULL)
+        return 2;
+    memset(image.present, true, sizeof image.present);
+    try_lengths(step == 0 ? 1 : step);
+    try_limits();
+    printf("buffers_exact: %llu jobs agree%s\n", (unsigned long long)jobs,
+           RUNNING_ON_VALGRIND ? ", and no byte beside a buffer is touched" : "");
+    return 0;
+}

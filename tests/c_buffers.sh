@@ -1,0 +1,85 @@
+#!/bin/sh
+# Jobs straight over the caller's own buffers, through the C library as both of the kit's compilers make it:
+# random ones against kazovuni_submit_pointers and the evaluator of tests/fuzz (tests/c/buffers_random.c), buffers of
+# exact length between pages that are not mapped (buffers_exact.c), both as gcc and as clang compile them, under the
+# address, leak and undefined-behaviour sanitizers; the second one under valgrind's memcheck too, where no byte beside a
+# buffer may be touched; and eight threads over parts of one allocation with shared sources (buffers_threads.c), under
+# helgrind and drd, each of which has to report the race that is planted then. `check` calls it.
+#
+# Usage, from anywhere: sh tests/c_buffers.sh [SEED [COUNT]]   seed 1 and 100,000 random jobs, where nothing else is said
+# Wants rt, gcc or clang, and valgrind; where one of these is not there, a line says so.
+cd "$(dirname "$0")/.." || exit 2
+work=$(mktemp -d) || exit 2
+trap 'rm -rf "$work"' EXIT
+trap 'exit 2' HUP INT TERM
+failed=0
+seed=${1:-1}
+count=${2:-100000}
+strict='-std=c11 -Wall -Wextra -Werror -pedantic -g'
+sanitized="-O1 -fsanitize=address,undefined -fno-sanitize-recover=all"
+
+complain() {
+    printf 'c_buffers: %s\n' "$*" >&2
+    failed=1
+}
+
+# has COMMAND: whether it is there and runs
+has() {
+    "$1" --version >/dev/null 2>&1 && return
+    echo "c_buffers: no $1 here: what it would build or run is left out"
+    return 1
+}
+
+# passes WHAT COMMAND..: a command that ends with status 0
+passes() {
+    what=$1
+    shift
+    "$@" >"$work/out" 2>&1 && return
+    complain "$what: status $?"
+    cat "$work/out" >&2
+    return 1
+}
+
+# compiled NAME WORD..: compiles tests/c/buffers_NAME.c by the words, with the library of $kit
+compiled() {
+    name=$1
+    shift
+    passes "$name is compiled by $1" "$@" $strict -I"$work/$kit/include" -o "$work/$name" "tests/c/buffers_$name.c" \
+        tests/fuzz/jobs.c "$work/$kit/lib/libkazovuni.a" -pthread
+}
+
+# reports TOOL: the planted race is reported, and without it nothing is
+reports() {
+    passes "$1 over the threads" valgrind --tool="$1" --error-exitcode=9 "$work/threads" 2 1024
+    valgrind --tool="$1" --error-exitcode=9 "$work/threads" 2 1024 race >"$work/out" 2>&1
+    status=$?
+    [ "$status" = 9 ] || complain "$1 does not report the planted race: status $status"
+}
+
+for kit in llvm rattle; do
+    passes "the library of $kit" tools/install_library.sh "$work/$kit" --backend "$kit" || exit 1
+done
+tried=
+for compiler in gcc clang; do
+    has "$compiler" || continue
+    tried="$tried $compiler"
+    for kit in llvm rattle; do
+        what="by $compiler on the library of $kit"
+        compiled random "$compiler" $sanitized && passes "random jobs $what" "$work/random" "$seed" "$count"
+        compiled exact "$compiler" $sanitized && passes "exact buffers $what" "$work/exact" 7
+        compiled threads "$compiler" $sanitized && passes "threads $what" "$work/threads" 200 4096
+    done
+done
+[ -n "$tried" ] || complain "neither gcc nor clang is here"
+for kit in llvm rattle; do
+    compiled exact ${tried##* } -O2 || continue
+    passes "exact buffers, all alignments, on the library of $kit" "$work/exact"
+    compiled threads ${tried##* } -O2
+    has valgrind || continue
+    passes "exact buffers under memcheck, on the library of $kit" \
+        valgrind --error-exitcode=9 "$work/exact" 61
+    reports helgrind
+    reports drd
+done
+[ "$failed" = 0 ] && echo "c_buffers: passed"
+exit "$failed"

@@ -68,7 +68,7 @@ try_rows() {
 try_examples() {
     suffix=$1
     shift
-    for example in move delta fault; do
+    for example in buffers gather move delta fault; do
         compiled "$example" "$@" "examples/c/$example.$suffix" &&
             prints "$example.$suffix by $1 on the library of $kit" "examples/c/$example.answer" "$work/$example"
     done

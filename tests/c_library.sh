@@ -17,8 +17,10 @@ complain() {
 
 "$cc" -O2 -Wall -Wextra -Werror -shared -fPIC -o "$work/refuse.so" tests/refuse.c || exit 1
 
-# The names that the header declares, and those that the library has.
-grep -o '\bkazovuni_[a-z_]*(' include/kazovuni.h | tr -d '(' | sort -u >"$work/declared"
+# The names that the header declares, and those that the library has; its own inline functions are in no library.
+grep -o '\bkazovuni_[a-z_]*(' include/kazovuni.h | tr -d '(' | sort -u >"$work/named"
+sed -n 's/^static inline .*\(kazovuni_[a-z_]*\)(.*/\1/p' include/kazovuni.h | sort -u >"$work/inline"
+comm -23 "$work/named" "$work/inline" >"$work/declared"
 
 # The functions that it may take from outside: docs/C.md names them.
 printf '%s\n' free malloc memcpy memmove memset realloc >"$work/allowed"
@@ -30,6 +32,10 @@ static uint8_t page[KAZOVUNI_PAGE_BYTES], descriptors[2][KAZOVUNI_DESCRIPTOR_BYT
 int main(void)
 {
     kazovuni_engine engine = {NULL, false};
+    if (kazovuni_execute(descriptors[0], records[0]) != KAZOVUNI_OK || records[0][0] != 0x01)
+        return 1;
+    if (kazovuni_fill(descriptors[0], page, sizeof page, records[1]) != KAZOVUNI_OTHER_OPERATION)
+        return 1;
     uint8_t code = kazovuni_submit_list_over(page, sizeof page, descriptors[0], 2, 0, records[0], 2);
     if (code != KAZOVUNI_OK || kazovuni_version() != KAZOVUNI_VERSION || kazovuni_check(descriptors[1], 0) != 0)
         return 1;
@@ -84,6 +90,12 @@ if command -v c++ >/dev/null; then
             "$work/llvm/lib/libkazovuni.a" && "$work/plus" || complain "a strict caller in $standard"
     done
 fi
+for compiler in g++ clang++; do
+    command -v $compiler >/dev/null || continue
+    $compiler -std=c++20 $strict -Wold-style-cast -Wshadow -O1 -g -fsanitize=address,undefined \
+        -fno-sanitize-recover=all -I"$work/llvm/include" -o "$work/spans" tests/c/spans.cpp \
+        "$work/llvm/lib/libkazovuni.a" && "$work/spans" || complain "the spans by $compiler: status $?"
+done
 if command -v python3 >/dev/null; then
     python3 - "$work/llvm/lib/libkazovuni.so" <<'END' || complain "Python"
 import ctypes, sys

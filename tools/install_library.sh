@@ -1,6 +1,6 @@
 #!/bin/sh
 # Proves and builds the C library, and installs it under a prefix: lib/libkazovuni.a, lib/libkazovuni.so,
-# include/kazovuni.h and lib/pkgconfig/kazovuni.pc.
+# include/kazovuni.h, include/kazovuni.hpp and lib/pkgconfig/kazovuni.pc.
 #
 # Usage: tools/install_library.sh PREFIX [WORD..]   the further words go to rt lib, as --backend rattle
 # Wants rt, ar, a C compiler as $CC or cc; $DESTDIR stands before the prefix where it is set.
@@ -25,7 +25,7 @@ mkdir -p "$root/lib/pkgconfig" "$root/include" || exit 1
 rm -f "$root/lib/libkazovuni.a"
 ar rcs "$root/lib/libkazovuni.a" "$work"/*.o || exit 1
 "${CC:-cc}" -shared -Wl,-soname,libkazovuni.so -o "$root/lib/libkazovuni.so" "$work"/*.o || exit 1
-cp "$top/include/kazovuni.h" "$root/include/" || exit 1
+cp "$top/include/kazovuni.h" "$top/include/kazovuni.hpp" "$root/include/" || exit 1
 cat >"$root/lib/pkgconfig/kazovuni.pc" <<END
 prefix=$prefix
 libdir=\${prefix}/lib

@@ -1,16 +1,20 @@
 //! Jobs over the caller's own buffers, wherever these lie. Each export takes the ranges of a descriptor's job as slices of
 //! just these bytes; what the descriptor has as addresses is judged by the rules, and never followed.
-ghost use Rattle.std.specs.Prelude.{◌≡◌, ◌≢◌, ◌↔◌, ◌⊎◌, ◌/◌, IfErr, IfOk, IsTrue, None, Some, length, take};
+ghost use Rattle.std.specs.Prelude.{◌≡◌, ◌≢◌, ◌↔◌, ◌⊎◌, ◌+◌, ◌-◌, ◌/◌, IfErr, IfOk, IsTrue, None, Some, length};
+ghost use Rattle.std.specs.Prelude.{slice_range, take};
 ghost use Rattle.dml_types.specs.declared.operations.Op.TheVariants.{ApplyDelta, Compare, ComparePattern, CreateDelta};
 ghost use Rattle.dml_types.specs.declared.operations.Op.TheVariants.{Dualcast, Fill, Move};
 ghost use Rattle.dml_types.specs.declared.statuses.Status.{Status};
+ghost use Rattle.dml_types.specs.declared.statuses.Status.TheVariants.{Success};
+ghost use Rattle.dml_types.specs.Bytewise.{operation_direction, pattern_bytes, result_of};
 ghost use Rattle.dml_types.specs.Effect.{ended};
 ghost use Rattle.dml_types.specs.Job.{op_of};
-ghost use Rattle.dml_types.specs.Memory.{IsWhole, Memory, overwrite, put};
+ghost use Rattle.dml_types.specs.Memory.{Memory, overwrite, put};
+ghost use Rattle.dml_buffers.specs.Holds.{Holds};
 ghost use Rattle.dml_desc.specs.Descriptor.{bytes_of_record, decoded};
-ghost use Rattle.dml_scan.specs.Lanes.{first_difference};
+ghost use Rattle.dml_scan.specs.Lanes.{first_difference, first_unlike};
 ghost use Rattle.dml_effect.specs.Joined.{compared_record};
-ghost use Rattle.dml_direct.specs.Buffers.{Holds, applied_bytes, applied_record, cause_in, created_answer, ended_at};
+ghost use Rattle.dml_direct.specs.Buffers.{applied_bytes, applied_record, cause_in, created_answer, ended_at};
 ghost use Rattle.dml_direct.specs.Buffers.{entries_of, good_in};
 ghost use Rattle.dml_c.specs.Direct.{LiesIn, refusal_of, step_of};
 
@@ -99,6 +103,9 @@ pub extern "C" fn kazovuni_compare_pattern(
         answer.new ≡ bytes_of_record (step_of memory descriptor.now).1 }
     ensures content { result ≡ 0 → (memory : Memory) → Holds memory (decoded descriptor.now).source bytes.now →
         (step_of memory descriptor.now).0 ≡ memory }
+    ensures told { result ≡ 0 → refusal_of descriptor.now ≡ None →
+        answer.new ≡ bytes_of_record (compared_record (decoded descriptor.now)
+        (ended_at (decoded descriptor.now).size (first_unlike bytes.now (decoded descriptor.now).target 0))) }
     ensures unchanged { result ≢ 0 → (answer.new ≡ answer.old) }
 {
     match checked(descriptor) {
@@ -138,6 +145,10 @@ pub extern "C" fn kazovuni_fill(
         answer.new ≡ bytes_of_record (step_of memory descriptor.now).1 }
     ensures content { result ≡ 0 → (memory : Memory) → Holds memory (decoded descriptor.now).target target.old →
         (step_of memory descriptor.now).0 ≡ put memory (decoded descriptor.now).target target.new }
+    ensures told { result ≡ 0 → refusal_of descriptor.now ≡ None →
+        answer.new ≡ bytes_of_record (ended Success 0 (decoded descriptor.now).size 0) }
+    ensures filled { result ≡ 0 → refusal_of descriptor.now ≡ None →
+        target.new ≡ pattern_bytes (decoded descriptor.now).source (decoded descriptor.now).size }
     ensures unchanged { result ≢ 0 → (target.new ≡ target.old) × (answer.new ≡ answer.old) }
 {
     match checked(descriptor) {
@@ -180,6 +191,9 @@ pub extern "C" fn kazovuni_move(
     ensures content { result ≡ 0 → (memory : Memory) → Holds memory (decoded descriptor.now).source source.now →
         Holds memory (decoded descriptor.now).target target.old →
         (step_of memory descriptor.now).0 ≡ put memory (decoded descriptor.now).target target.new }
+    ensures told { result ≡ 0 → refusal_of descriptor.now ≡ None →
+        answer.new ≡ bytes_of_record (ended Success (result_of (operation_direction Move (decoded descriptor.now)))
+        (decoded descriptor.now).size 0) }
     ensures copied { result ≡ 0 → refusal_of descriptor.now ≡ None →
         target.new ≡ source.now }
     ensures unchanged { result ≢ 0 → (target.new ≡ target.old) × (answer.new ≡ answer.old) }
@@ -223,6 +237,13 @@ pub extern "C" fn kazovuni_move_within(
         answer.new ≡ bytes_of_record (step_of memory descriptor.now).1 }
     ensures content { result ≡ 0 → (memory : Memory) → Holds memory start bytes.old →
         (step_of memory descriptor.now).0 ≡ put memory start bytes.new }
+    ensures told { result ≡ 0 → refusal_of descriptor.now ≡ None →
+        answer.new ≡ bytes_of_record (ended Success (result_of (operation_direction Move (decoded descriptor.now)))
+        (decoded descriptor.now).size 0) }
+    ensures moved { result ≡ 0 → refusal_of descriptor.now ≡ None →
+        (let source = (decoded descriptor.now).source - start in
+        bytes.new ≡ overwrite bytes.old ((decoded descriptor.now).target - start)
+        (slice_range bytes.old source (source + (decoded descriptor.now).size))) }
     ensures unchanged { result ≢ 0 → (bytes.new ≡ bytes.old) × (answer.new ≡ answer.old) }
 {
     match checked(descriptor) {
@@ -279,6 +300,8 @@ pub extern "C" fn kazovuni_dualcast(
         Holds memory (decoded descriptor.now).target target.old → Holds memory (decoded descriptor.now).extra second.old →
         (step_of memory descriptor.now).0 ≡ put (put memory (decoded descriptor.now).target target.new)
         (decoded descriptor.now).extra second.new }
+    ensures told { result ≡ 0 → refusal_of descriptor.now ≡ None →
+        answer.new ≡ bytes_of_record (ended Success 0 (decoded descriptor.now).size 0) }
     ensures copied { result ≡ 0 → refusal_of descriptor.now ≡ None →
         (target.new ≡ source.now) × (second.new ≡ source.now) }
     ensures unchanged { result ≢ 0 → (target.new ≡ target.old) × (second.new ≡ second.old) × (answer.new ≡ answer.old) }
@@ -320,12 +343,10 @@ pub extern "C" fn kazovuni_create_delta(
     ensures other_length { refusal_of descriptor.now ≡ None → op_of (decoded descriptor.now) ≡ Some CreateDelta →
         ((result ≢ 11) ↔ ((length one.now ≡ (decoded descriptor.now).size)
         × (length other.now ≡ (decoded descriptor.now).size) × (length delta.old ≡ (decoded descriptor.now).delta_size))) }
-    ensures record { result ≡ 0 → (memory : Memory) → IsWhole memory →
-        Holds memory (decoded descriptor.now).source one.now → Holds memory (decoded descriptor.now).target other.now →
+    ensures record { result ≡ 0 → (memory : Memory) → Holds memory (decoded descriptor.now).source one.now → Holds memory (decoded descriptor.now).target other.now →
         Holds memory (decoded descriptor.now).extra delta.old →
         answer.new ≡ bytes_of_record (step_of memory descriptor.now).1 }
-    ensures content { result ≡ 0 → (memory : Memory) → IsWhole memory →
-        Holds memory (decoded descriptor.now).source one.now → Holds memory (decoded descriptor.now).target other.now →
+    ensures content { result ≡ 0 → (memory : Memory) → Holds memory (decoded descriptor.now).source one.now → Holds memory (decoded descriptor.now).target other.now →
         Holds memory (decoded descriptor.now).extra delta.old →
         (step_of memory descriptor.now).0 ≡ put memory (decoded descriptor.now).extra delta.new }
     ensures told { result ≡ 0 → refusal_of descriptor.now ≡ None →

@@ -1,7 +1,7 @@
 use Rattle.std.proofs.Common.{◌≡◌, sym, ◌∙◌, ap, subst}
 use Rattle.dml_types.specs.declared.jobs.Job.{Job}
 use Rattle.dml_desc.specs.Descriptor.{bytes_of_record}
-use Rattle.dml_direct.specs.Buffers.{Holds}
+use Rattle.dml_buffers.specs.Holds.{Holds}
 use Rattle.dml_c.proofs.DirectLemmas.{carried_memory, carried_record, refused_memory, refused_record}
 use Rattle.dml_c.proofs.direct.kazovuni_compare_pattern.Goals as goal
 

@@ -1,7 +1,7 @@
 use Rattle.std.proofs.Common.{◌≡◌, ◌∙◌, ap}
 use Rattle.dml_types.specs.Memory.{put}
 use Rattle.dml_desc.specs.Descriptor.{bytes_of_record}
-use Rattle.dml_direct.proofs.HoldsLemmas.{put_held}
+use Rattle.dml_buffers.proofs.HoldsLemmas.{put_held}
 use Rattle.dml_c.proofs.DirectLemmas.{carried_memory, carried_record, refused_memory, refused_record}
 use Rattle.dml_c.proofs.direct.kazovuni_move_within.Goals as goal
 

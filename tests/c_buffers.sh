@@ -15,7 +15,7 @@ trap 'exit 2' HUP INT TERM
 failed=0
 seed=${1:-1}
 count=${2:-100000}
-strict='-std=c11 -Wall -Wextra -Werror -pedantic -g'
+strict='-std=c11 -Wall -Wextra -Werror -pedantic -gdwarf-4'
 sanitized="-O1 -fsanitize=address,undefined -fno-sanitize-recover=all"
 
 complain() {
@@ -64,10 +64,10 @@ for compiler in gcc clang; do
     has "$compiler" || continue
     tried="$tried $compiler"
     for kit in llvm rattle; do
-        what="by $compiler on the library of $kit"
-        compiled random "$compiler" $sanitized && passes "random jobs $what" "$work/random" "$seed" "$count"
-        compiled exact "$compiler" $sanitized && passes "exact buffers $what" "$work/exact" 7
-        compiled threads "$compiler" $sanitized && passes "threads $what" "$work/threads" 200 4096
+        by="by $compiler on the library of $kit"
+        compiled random "$compiler" $sanitized && passes "random jobs $by" "$work/random" "$seed" "$count"
+        compiled exact "$compiler" $sanitized && passes "exact buffers $by" "$work/exact" 7
+        compiled threads "$compiler" $sanitized && passes "threads $by" "$work/threads" 200 4096
     done
 done
 [ -n "$tried" ] || complain "neither gcc nor clang is here"

@@ -114,8 +114,14 @@ static void write_entries(uint8_t *record, size_t length)
     uint64_t offset = below(3);
     for (size_t at = 0; at + 10 <= length; at += 10) {
         put_number(record + at, offset, 2);
-        offset += one_in(60) ? below(70000) : 1 + below(3);
+        offset += one_in(60) ? below(70000) : one_in(40) ? 0 : 1 + below(3);
     }
+}
+
+/* The byte of the memory that has an address. */
+static uint8_t *at(uint64_t address)
+{
+    return memory + (address - (uintptr_t)memory);
 }
 
 /* Bytes in which the job finds something to do, as ranges that are alike but for a byte or none. */
@@ -125,16 +131,15 @@ static void prepare(const struct job *job)
         memory[below(LENGTH)] = (uint8_t)below(2);
     if (!lie_in_memory(job))
         return;
-    uint8_t *source = memory + (job->source - (uintptr_t)memory), *target = memory + (job->target - (uintptr_t)memory);
     if (job->opcode == APPLY)
-        write_entries(source, job->delta_size);
+        write_entries(at(job->source), job->delta_size);
     if ((job->opcode == COMPARE || job->opcode == CREATE) && one_in(2))
-        memmove(target, source, job->size);
+        memmove(at(job->target), at(job->source), job->size);
     if ((job->opcode == COMPARE || job->opcode == CREATE) && job->size > 0 && one_in(2))
-        target[below(job->size)] ^= 1;
+        at(job->target)[below(job->size)] ^= 1;
     if (job->opcode == COMPARE_PATTERN && one_in(2))
         for (uint32_t i = 0; i < job->size; i++)
-            source[i] = (uint8_t)(job->target >> 8 * (i % 8));
+            at(job->source)[i] = (uint8_t)(job->target >> 8 * (i % 8));
 }
 
 /* ---- the ways */
@@ -256,8 +261,9 @@ static void try_call(const struct job *job, const uint8_t descriptor[64], const 
     if (call(job->opcode, descriptor, ranges, record) != KAZOVUNI_OK || memcmp(record, wanted, 32) != 0)
         differ("the operation's call has another record", descriptor, record, wanted);
     for (int i = 0; i < RANGES; i++) {
-        const uint8_t *bytes = (ranges[i].is_written ? image.bytes : before) + (ranges[i].address - (uintptr_t)memory);
-        if (ranges[i].bytes != NULL && memcmp(ranges[i].bytes, bytes, ranges[i].length) != 0)
+        const uint8_t *bytes = ranges[i].is_written ? image.bytes : before;
+        if (ranges[i].bytes != NULL &&
+            memcmp(ranges[i].bytes, bytes + (ranges[i].address - (uintptr_t)memory), ranges[i].length) != 0)
             differ("the operation's call leaves other bytes", descriptor, record, wanted);
         free(ranges[i].bytes);
     }

@@ -18,10 +18,12 @@ module _ (memory : Memory) (descriptor : List ℕ) where
   module _ (status : Status) (broken : refusal_of descriptor ≡ Some status) where
     pub refused_record : bytes_of_record (ended status 0 0 0) ≡ bytes_of_record (step_of memory descriptor).1
     refused_record =
-        sym (ap (λ (done : Memory × Record). bytes_of_record done.1) (step_refused memory (decoded descriptor) 1048576 status broken))
+        sym (ap (λ (done : Memory × Record). bytes_of_record done.1)
+        (step_refused memory (decoded descriptor) 1048576 status broken))
 
     pub refused_memory : (step_of memory descriptor).0 ≡ memory
-    refused_memory = ap (λ (done : Memory × Record). done.0) (step_refused memory (decoded descriptor) 1048576 status broken)
+    refused_memory =
+        ap (λ (done : Memory × Record). done.0) (step_refused memory (decoded descriptor) 1048576 status broken)
 
   -- an accepted one: what the checked job does
   module _ (job : Job) (same : job ≡ decoded descriptor) (accepted : refusal_of descriptor ≡ None) where

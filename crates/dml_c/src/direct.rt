@@ -1,5 +1,5 @@
-//! Jobs over the caller's own buffers, wherever these lie. Each export takes the ranges of a descriptor's job as slices of
-//! just these bytes; what the descriptor has as addresses is judged by the rules, and never followed.
+//! Jobs over the caller's own buffers, wherever these lie. Each export takes the ranges of a descriptor's job as slices
+//! of just these bytes; what the descriptor has as addresses is judged by the rules, and never followed.
 ghost use Rattle.std.specs.Prelude.{◌≡◌, ◌≢◌, ◌↔◌, ◌⊎◌, ◌+◌, ◌-◌, ◌/◌, IfErr, IfOk, IsTrue, None, Some, length};
 ghost use Rattle.std.specs.Prelude.{slice_range, take};
 ghost use Rattle.dml_types.specs.declared.operations.Op.TheVariants.{ApplyDelta, Compare, ComparePattern, CreateDelta};
@@ -39,8 +39,8 @@ fn checked(descriptor: &[u8; 64]) -> Result<Checked, Status>
     dml_desc::check(&dml_desc::decode(descriptor), ENOUGH)
 }
 
-/// Compares two buffers, which are the ranges of a descriptor's compare, and writes its completion record. The buffers
-/// may be the same, or overlap.
+/// Compares two buffers, the ranges of a descriptor's compare, and writes its completion record. They may be the same,
+/// or overlap.
 #[unsafe(no_mangle)]
 pub extern "C" fn kazovuni_compare(
     descriptor: &[u8; 64],
@@ -53,18 +53,19 @@ pub extern "C" fn kazovuni_compare(
         (result ≡ 0) × (answer.new ≡ bytes_of_record (ended status 0 0 0)) }
     ensures other_operation { refusal_of descriptor.now ≡ None →
         ((result ≢ 10) ↔ (op_of (decoded descriptor.now) ≡ Some Compare)) }
-    ensures other_length { refusal_of descriptor.now ≡ None → op_of (decoded descriptor.now) ≡ Some Compare →
-        ((result ≢ 11) ↔ ((length one.now ≡ (decoded descriptor.now).size) × (length other.now ≡ (decoded descriptor.now).size))) }
-    ensures record { result ≡ 0 → (memory : Memory) → Holds memory (decoded descriptor.now).source one.now →
-        Holds memory (decoded descriptor.now).target other.now →
+    ensures other_length { let job = decoded descriptor.now in
+        refusal_of descriptor.now ≡ None → op_of job ≡ Some Compare →
+        ((result ≢ 11) ↔ ((length one.now ≡ job.size) × (length other.now ≡ job.size))) }
+    ensures record { let job = decoded descriptor.now in
+        result ≡ 0 → (memory : Memory) → Holds memory job.source one.now → Holds memory job.target other.now →
         answer.new ≡ bytes_of_record (step_of memory descriptor.now).1 }
-    ensures content { result ≡ 0 → (memory : Memory) → Holds memory (decoded descriptor.now).source one.now →
-        Holds memory (decoded descriptor.now).target other.now →
+    ensures content { let job = decoded descriptor.now in
+        result ≡ 0 → (memory : Memory) → Holds memory job.source one.now → Holds memory job.target other.now →
         (step_of memory descriptor.now).0 ≡ memory }
-    ensures told { result ≡ 0 → refusal_of descriptor.now ≡ None →
-        answer.new ≡ bytes_of_record (compared_record (decoded descriptor.now)
-        (ended_at (decoded descriptor.now).size (first_difference one.now other.now))) }
-    ensures unchanged { result ≢ 0 → (answer.new ≡ answer.old) }
+    ensures told { let job = decoded descriptor.now in
+        result ≡ 0 → refusal_of descriptor.now ≡ None →
+        answer.new ≡ bytes_of_record (compared_record job (ended_at job.size (first_difference one.now other.now))) }
+    ensures unchanged { result ≢ 0 → answer.new ≡ answer.old }
 {
     match checked(descriptor) {
         Err(status) => {
@@ -85,7 +86,7 @@ pub extern "C" fn kazovuni_compare(
     }
 }
 
-/// Compares a buffer, which is the range of a descriptor's compare with its pattern, and writes its completion record.
+/// Compares a buffer, the range of a descriptor's compare with its pattern, and writes its completion record.
 #[unsafe(no_mangle)]
 pub extern "C" fn kazovuni_compare_pattern(
     descriptor: &[u8; 64],
@@ -97,16 +98,19 @@ pub extern "C" fn kazovuni_compare_pattern(
         (result ≡ 0) × (answer.new ≡ bytes_of_record (ended status 0 0 0)) }
     ensures other_operation { refusal_of descriptor.now ≡ None →
         ((result ≢ 10) ↔ (op_of (decoded descriptor.now) ≡ Some ComparePattern)) }
-    ensures other_length { refusal_of descriptor.now ≡ None → op_of (decoded descriptor.now) ≡ Some ComparePattern →
-        ((result ≢ 11) ↔ (length bytes.now ≡ (decoded descriptor.now).size)) }
-    ensures record { result ≡ 0 → (memory : Memory) → Holds memory (decoded descriptor.now).source bytes.now →
+    ensures other_length { let job = decoded descriptor.now in
+        refusal_of descriptor.now ≡ None → op_of job ≡ Some ComparePattern →
+        ((result ≢ 11) ↔ (length bytes.now ≡ job.size)) }
+    ensures record { let job = decoded descriptor.now in
+        result ≡ 0 → (memory : Memory) → Holds memory job.source bytes.now →
         answer.new ≡ bytes_of_record (step_of memory descriptor.now).1 }
-    ensures content { result ≡ 0 → (memory : Memory) → Holds memory (decoded descriptor.now).source bytes.now →
+    ensures content { let job = decoded descriptor.now in
+        result ≡ 0 → (memory : Memory) → Holds memory job.source bytes.now →
         (step_of memory descriptor.now).0 ≡ memory }
-    ensures told { result ≡ 0 → refusal_of descriptor.now ≡ None →
-        answer.new ≡ bytes_of_record (compared_record (decoded descriptor.now)
-        (ended_at (decoded descriptor.now).size (first_unlike bytes.now (decoded descriptor.now).target 0))) }
-    ensures unchanged { result ≢ 0 → (answer.new ≡ answer.old) }
+    ensures told { let job = decoded descriptor.now in
+        result ≡ 0 → refusal_of descriptor.now ≡ None →
+        answer.new ≡ bytes_of_record (compared_record job (ended_at job.size (first_unlike bytes.now job.target 0))) }
+    ensures unchanged { result ≢ 0 → answer.new ≡ answer.old }
 {
     match checked(descriptor) {
         Err(status) => {
@@ -127,7 +131,7 @@ pub extern "C" fn kazovuni_compare_pattern(
     }
 }
 
-/// Fills a buffer, which is the range of a descriptor's fill, and writes its completion record.
+/// Fills a buffer, the range of a descriptor's fill, and writes its completion record.
 #[unsafe(no_mangle)]
 pub extern "C" fn kazovuni_fill(
     descriptor: &[u8; 64],
@@ -136,19 +140,24 @@ pub extern "C" fn kazovuni_fill(
 ) -> u8
     ensures codes { (result ≡ 0) ⊎ (result ≡ 10) ⊎ (result ≡ 11) }
     ensures refused { (status : Status) → refusal_of descriptor.now ≡ Some status →
-        (result ≡ 0) × (answer.new ≡ bytes_of_record (ended status 0 0 0)) × (target.new ≡ target.old) }
+        (result ≡ 0) × (target.new ≡ target.old) × (answer.new ≡ bytes_of_record (ended status 0 0 0)) }
     ensures other_operation { refusal_of descriptor.now ≡ None →
         ((result ≢ 10) ↔ (op_of (decoded descriptor.now) ≡ Some Fill)) }
-    ensures other_length { refusal_of descriptor.now ≡ None → op_of (decoded descriptor.now) ≡ Some Fill →
-        ((result ≢ 11) ↔ (length target.old ≡ (decoded descriptor.now).size)) }
-    ensures record { result ≡ 0 → (memory : Memory) → Holds memory (decoded descriptor.now).target target.old →
+    ensures other_length { let job = decoded descriptor.now in
+        refusal_of descriptor.now ≡ None → op_of job ≡ Some Fill →
+        ((result ≢ 11) ↔ (length target.old ≡ job.size)) }
+    ensures record { let job = decoded descriptor.now in
+        result ≡ 0 → (memory : Memory) → Holds memory job.target target.old →
         answer.new ≡ bytes_of_record (step_of memory descriptor.now).1 }
-    ensures content { result ≡ 0 → (memory : Memory) → Holds memory (decoded descriptor.now).target target.old →
-        (step_of memory descriptor.now).0 ≡ put memory (decoded descriptor.now).target target.new }
-    ensures told { result ≡ 0 → refusal_of descriptor.now ≡ None →
-        answer.new ≡ bytes_of_record (ended Success 0 (decoded descriptor.now).size 0) }
-    ensures filled { result ≡ 0 → refusal_of descriptor.now ≡ None →
-        target.new ≡ pattern_bytes (decoded descriptor.now).source (decoded descriptor.now).size }
+    ensures content { let job = decoded descriptor.now in
+        result ≡ 0 → (memory : Memory) → Holds memory job.target target.old →
+        (step_of memory descriptor.now).0 ≡ put memory job.target target.new }
+    ensures told { let job = decoded descriptor.now in
+        result ≡ 0 → refusal_of descriptor.now ≡ None →
+        answer.new ≡ bytes_of_record (ended Success 0 job.size 0) }
+    ensures filled { let job = decoded descriptor.now in
+        result ≡ 0 → refusal_of descriptor.now ≡ None →
+        target.new ≡ pattern_bytes job.source job.size }
     ensures unchanged { result ≢ 0 → (target.new ≡ target.old) × (answer.new ≡ answer.old) }
 {
     match checked(descriptor) {
@@ -170,7 +179,7 @@ pub extern "C" fn kazovuni_fill(
     }
 }
 
-/// Copies a buffer over another one, which are the ranges of a descriptor's move, and writes its completion record.
+/// Copies a buffer over another one, the ranges of a descriptor's move, and writes its completion record.
 #[unsafe(no_mangle)]
 pub extern "C" fn kazovuni_move(
     descriptor: &[u8; 64],
@@ -180,22 +189,22 @@ pub extern "C" fn kazovuni_move(
 ) -> u8
     ensures codes { (result ≡ 0) ⊎ (result ≡ 10) ⊎ (result ≡ 11) }
     ensures refused { (status : Status) → refusal_of descriptor.now ≡ Some status →
-        (result ≡ 0) × (answer.new ≡ bytes_of_record (ended status 0 0 0)) × (target.new ≡ target.old) }
+        (result ≡ 0) × (target.new ≡ target.old) × (answer.new ≡ bytes_of_record (ended status 0 0 0)) }
     ensures other_operation { refusal_of descriptor.now ≡ None →
         ((result ≢ 10) ↔ (op_of (decoded descriptor.now) ≡ Some Move)) }
-    ensures other_length { refusal_of descriptor.now ≡ None → op_of (decoded descriptor.now) ≡ Some Move →
-        ((result ≢ 11) ↔ ((length source.now ≡ (decoded descriptor.now).size) × (length target.old ≡ (decoded descriptor.now).size))) }
-    ensures record { result ≡ 0 → (memory : Memory) → Holds memory (decoded descriptor.now).source source.now →
-        Holds memory (decoded descriptor.now).target target.old →
+    ensures other_length { let job = decoded descriptor.now in
+        refusal_of descriptor.now ≡ None → op_of job ≡ Some Move →
+        ((result ≢ 11) ↔ ((length source.now ≡ job.size) × (length target.old ≡ job.size))) }
+    ensures record { let job = decoded descriptor.now in
+        result ≡ 0 → (memory : Memory) → Holds memory job.source source.now → Holds memory job.target target.old →
         answer.new ≡ bytes_of_record (step_of memory descriptor.now).1 }
-    ensures content { result ≡ 0 → (memory : Memory) → Holds memory (decoded descriptor.now).source source.now →
-        Holds memory (decoded descriptor.now).target target.old →
-        (step_of memory descriptor.now).0 ≡ put memory (decoded descriptor.now).target target.new }
-    ensures told { result ≡ 0 → refusal_of descriptor.now ≡ None →
-        answer.new ≡ bytes_of_record (ended Success (result_of (operation_direction Move (decoded descriptor.now)))
-        (decoded descriptor.now).size 0) }
-    ensures copied { result ≡ 0 → refusal_of descriptor.now ≡ None →
-        target.new ≡ source.now }
+    ensures content { let job = decoded descriptor.now in
+        result ≡ 0 → (memory : Memory) → Holds memory job.source source.now → Holds memory job.target target.old →
+        (step_of memory descriptor.now).0 ≡ put memory job.target target.new }
+    ensures told { let job = decoded descriptor.now in
+        result ≡ 0 → refusal_of descriptor.now ≡ None →
+        answer.new ≡ bytes_of_record (ended Success (result_of (operation_direction Move job)) job.size 0) }
+    ensures copied { result ≡ 0 → refusal_of descriptor.now ≡ None → target.new ≡ source.now }
     ensures unchanged { result ≢ 0 → (target.new ≡ target.old) × (answer.new ≡ answer.old) }
 {
     match checked(descriptor) {
@@ -228,22 +237,23 @@ pub extern "C" fn kazovuni_move_within(
 ) -> u8
     ensures codes { (result ≡ 0) ⊎ (result ≡ 10) ⊎ (result ≡ 11) }
     ensures refused { (status : Status) → refusal_of descriptor.now ≡ Some status →
-        (result ≡ 0) × (answer.new ≡ bytes_of_record (ended status 0 0 0)) × (bytes.new ≡ bytes.old) }
+        (result ≡ 0) × (bytes.new ≡ bytes.old) × (answer.new ≡ bytes_of_record (ended status 0 0 0)) }
     ensures other_operation { refusal_of descriptor.now ≡ None →
         ((result ≢ 10) ↔ (op_of (decoded descriptor.now) ≡ Some Move)) }
-    ensures other_length { refusal_of descriptor.now ≡ None → op_of (decoded descriptor.now) ≡ Some Move →
-        ((result ≢ 11) ↔ LiesIn start (length bytes.old) (decoded descriptor.now)) }
+    ensures other_length { let job = decoded descriptor.now in
+        refusal_of descriptor.now ≡ None → op_of job ≡ Some Move →
+        ((result ≢ 11) ↔ LiesIn start (length bytes.old) job) }
     ensures record { result ≡ 0 → (memory : Memory) → Holds memory start bytes.old →
         answer.new ≡ bytes_of_record (step_of memory descriptor.now).1 }
     ensures content { result ≡ 0 → (memory : Memory) → Holds memory start bytes.old →
         (step_of memory descriptor.now).0 ≡ put memory start bytes.new }
-    ensures told { result ≡ 0 → refusal_of descriptor.now ≡ None →
-        answer.new ≡ bytes_of_record (ended Success (result_of (operation_direction Move (decoded descriptor.now)))
-        (decoded descriptor.now).size 0) }
-    ensures moved { result ≡ 0 → refusal_of descriptor.now ≡ None →
-        (let source = (decoded descriptor.now).source - start in
-        bytes.new ≡ overwrite bytes.old ((decoded descriptor.now).target - start)
-        (slice_range bytes.old source (source + (decoded descriptor.now).size))) }
+    ensures told { let job = decoded descriptor.now in
+        result ≡ 0 → refusal_of descriptor.now ≡ None →
+        answer.new ≡ bytes_of_record (ended Success (result_of (operation_direction Move job)) job.size 0) }
+    ensures moved { let job = decoded descriptor.now in
+        result ≡ 0 → refusal_of descriptor.now ≡ None →
+        (let source = job.source - start in
+        bytes.new ≡ overwrite bytes.old (job.target - start) (slice_range bytes.old source (source + job.size))) }
     ensures unchanged { result ≢ 0 → (bytes.new ≡ bytes.old) × (answer.new ≡ answer.old) }
 {
     match checked(descriptor) {
@@ -276,7 +286,7 @@ fn lies_in(start: u64, len: u64, job: &Job) -> bool
         && job.target - start <= len - size
 }
 
-/// Copies a buffer over two others, which are the ranges of a descriptor's dualcast, and writes its completion record.
+/// Copies a buffer over two others, the ranges of a descriptor's dualcast, and writes its completion record.
 #[unsafe(no_mangle)]
 pub extern "C" fn kazovuni_dualcast(
     descriptor: &[u8; 64],
@@ -287,21 +297,25 @@ pub extern "C" fn kazovuni_dualcast(
 ) -> u8
     ensures codes { (result ≡ 0) ⊎ (result ≡ 10) ⊎ (result ≡ 11) }
     ensures refused { (status : Status) → refusal_of descriptor.now ≡ Some status →
-        (result ≡ 0) × (answer.new ≡ bytes_of_record (ended status 0 0 0)) × (target.new ≡ target.old) × (second.new ≡ second.old) }
+        (result ≡ 0) × (target.new ≡ target.old) × (second.new ≡ second.old)
+        × (answer.new ≡ bytes_of_record (ended status 0 0 0)) }
     ensures other_operation { refusal_of descriptor.now ≡ None →
         ((result ≢ 10) ↔ (op_of (decoded descriptor.now) ≡ Some Dualcast)) }
-    ensures other_length { refusal_of descriptor.now ≡ None → op_of (decoded descriptor.now) ≡ Some Dualcast →
-        ((result ≢ 11) ↔ ((length source.now ≡ (decoded descriptor.now).size)
-        × (length target.old ≡ (decoded descriptor.now).size) × (length second.old ≡ (decoded descriptor.now).size))) }
-    ensures record { result ≡ 0 → (memory : Memory) → Holds memory (decoded descriptor.now).source source.now →
-        Holds memory (decoded descriptor.now).target target.old → Holds memory (decoded descriptor.now).extra second.old →
+    ensures other_length { let job = decoded descriptor.now in
+        refusal_of descriptor.now ≡ None → op_of job ≡ Some Dualcast →
+        ((result ≢ 11) ↔ ((length source.now ≡ job.size) × (length target.old ≡ job.size)
+        × (length second.old ≡ job.size))) }
+    ensures record { let job = decoded descriptor.now in
+        result ≡ 0 → (memory : Memory) → Holds memory job.source source.now → Holds memory job.target target.old →
+        Holds memory job.extra second.old →
         answer.new ≡ bytes_of_record (step_of memory descriptor.now).1 }
-    ensures content { result ≡ 0 → (memory : Memory) → Holds memory (decoded descriptor.now).source source.now →
-        Holds memory (decoded descriptor.now).target target.old → Holds memory (decoded descriptor.now).extra second.old →
-        (step_of memory descriptor.now).0 ≡ put (put memory (decoded descriptor.now).target target.new)
-        (decoded descriptor.now).extra second.new }
-    ensures told { result ≡ 0 → refusal_of descriptor.now ≡ None →
-        answer.new ≡ bytes_of_record (ended Success 0 (decoded descriptor.now).size 0) }
+    ensures content { let job = decoded descriptor.now in
+        result ≡ 0 → (memory : Memory) → Holds memory job.source source.now → Holds memory job.target target.old →
+        Holds memory job.extra second.old →
+        (step_of memory descriptor.now).0 ≡ put (put memory job.target target.new) job.extra second.new }
+    ensures told { let job = decoded descriptor.now in
+        result ≡ 0 → refusal_of descriptor.now ≡ None →
+        answer.new ≡ bytes_of_record (ended Success 0 job.size 0) }
     ensures copied { result ≡ 0 → refusal_of descriptor.now ≡ None →
         (target.new ≡ source.now) × (second.new ≡ source.now) }
     ensures unchanged { result ≢ 0 → (target.new ≡ target.old) × (second.new ≡ second.old) × (answer.new ≡ answer.old) }
@@ -325,8 +339,8 @@ pub extern "C" fn kazovuni_dualcast(
     }
 }
 
-/// Writes the delta record of two buffers into a third, which are the ranges of a descriptor's create, and writes its
-/// completion record. The first two may be the same, or overlap.
+/// Writes the delta record of two buffers into a third, the ranges of a descriptor's create, and writes its completion
+/// record. The first two may be the same, or overlap.
 #[unsafe(no_mangle)]
 pub extern "C" fn kazovuni_create_delta(
     descriptor: &[u8; 64],
@@ -337,20 +351,24 @@ pub extern "C" fn kazovuni_create_delta(
 ) -> u8
     ensures codes { (result ≡ 0) ⊎ (result ≡ 10) ⊎ (result ≡ 11) }
     ensures refused { (status : Status) → refusal_of descriptor.now ≡ Some status →
-        (result ≡ 0) × (answer.new ≡ bytes_of_record (ended status 0 0 0)) × (delta.new ≡ delta.old) }
+        (result ≡ 0) × (delta.new ≡ delta.old) × (answer.new ≡ bytes_of_record (ended status 0 0 0)) }
     ensures other_operation { refusal_of descriptor.now ≡ None →
         ((result ≢ 10) ↔ (op_of (decoded descriptor.now) ≡ Some CreateDelta)) }
-    ensures other_length { refusal_of descriptor.now ≡ None → op_of (decoded descriptor.now) ≡ Some CreateDelta →
-        ((result ≢ 11) ↔ ((length one.now ≡ (decoded descriptor.now).size)
-        × (length other.now ≡ (decoded descriptor.now).size) × (length delta.old ≡ (decoded descriptor.now).delta_size))) }
-    ensures record { result ≡ 0 → (memory : Memory) → Holds memory (decoded descriptor.now).source one.now → Holds memory (decoded descriptor.now).target other.now →
-        Holds memory (decoded descriptor.now).extra delta.old →
+    ensures other_length { let job = decoded descriptor.now in
+        refusal_of descriptor.now ≡ None → op_of job ≡ Some CreateDelta →
+        ((result ≢ 11) ↔ ((length one.now ≡ job.size) × (length other.now ≡ job.size)
+        × (length delta.old ≡ job.delta_size))) }
+    ensures record { let job = decoded descriptor.now in
+        result ≡ 0 → (memory : Memory) → Holds memory job.source one.now → Holds memory job.target other.now →
+        Holds memory job.extra delta.old →
         answer.new ≡ bytes_of_record (step_of memory descriptor.now).1 }
-    ensures content { result ≡ 0 → (memory : Memory) → Holds memory (decoded descriptor.now).source one.now → Holds memory (decoded descriptor.now).target other.now →
-        Holds memory (decoded descriptor.now).extra delta.old →
-        (step_of memory descriptor.now).0 ≡ put memory (decoded descriptor.now).extra delta.new }
-    ensures told { result ≡ 0 → refusal_of descriptor.now ≡ None →
-        answer.new ≡ bytes_of_record (created_answer (decoded descriptor.now) (entries_of 0 one.now other.now)) }
+    ensures content { let job = decoded descriptor.now in
+        result ≡ 0 → (memory : Memory) → Holds memory job.source one.now → Holds memory job.target other.now →
+        Holds memory job.extra delta.old →
+        (step_of memory descriptor.now).0 ≡ put memory job.extra delta.new }
+    ensures told { let job = decoded descriptor.now in
+        result ≡ 0 → refusal_of descriptor.now ≡ None →
+        answer.new ≡ bytes_of_record (created_answer job (entries_of 0 one.now other.now)) }
     ensures entries { result ≡ 0 → refusal_of descriptor.now ≡ None →
         delta.new ≡ overwrite delta.old 0 (take (length delta.old) (entries_of 0 one.now other.now)) }
     ensures unchanged { result ≢ 0 → (delta.new ≡ delta.old) × (answer.new ≡ answer.old) }
@@ -381,8 +399,8 @@ pub extern "C" fn kazovuni_create_delta(
     }
 }
 
-/// Writes the blocks of a delta record over a buffer, which are the ranges of a descriptor's apply, and writes its
-/// completion record.
+/// Writes the blocks of a delta record over a buffer, the ranges of a descriptor's apply, and writes its completion
+/// record.
 #[unsafe(no_mangle)]
 pub extern "C" fn kazovuni_apply_delta(
     descriptor: &[u8; 64],
@@ -392,23 +410,25 @@ pub extern "C" fn kazovuni_apply_delta(
 ) -> u8
     ensures codes { (result ≡ 0) ⊎ (result ≡ 10) ⊎ (result ≡ 11) }
     ensures refused { (status : Status) → refusal_of descriptor.now ≡ Some status →
-        (result ≡ 0) × (answer.new ≡ bytes_of_record (ended status 0 0 0)) × (target.new ≡ target.old) }
+        (result ≡ 0) × (target.new ≡ target.old) × (answer.new ≡ bytes_of_record (ended status 0 0 0)) }
     ensures other_operation { refusal_of descriptor.now ≡ None →
         ((result ≢ 10) ↔ (op_of (decoded descriptor.now) ≡ Some ApplyDelta)) }
-    ensures other_length { refusal_of descriptor.now ≡ None → op_of (decoded descriptor.now) ≡ Some ApplyDelta →
-        ((result ≢ 11) ↔ ((length delta.now ≡ (decoded descriptor.now).delta_size)
-        × (length target.old ≡ (decoded descriptor.now).size))) }
-    ensures record { result ≡ 0 → (memory : Memory) → Holds memory (decoded descriptor.now).source delta.now →
-        Holds memory (decoded descriptor.now).target target.old →
+    ensures other_length { let job = decoded descriptor.now in
+        refusal_of descriptor.now ≡ None → op_of job ≡ Some ApplyDelta →
+        ((result ≢ 11) ↔ ((length delta.now ≡ job.delta_size) × (length target.old ≡ job.size))) }
+    ensures record { let job = decoded descriptor.now in
+        result ≡ 0 → (memory : Memory) → Holds memory job.source delta.now → Holds memory job.target target.old →
         answer.new ≡ bytes_of_record (step_of memory descriptor.now).1 }
-    ensures content { result ≡ 0 → (memory : Memory) → Holds memory (decoded descriptor.now).source delta.now →
-        Holds memory (decoded descriptor.now).target target.old →
-        (step_of memory descriptor.now).0 ≡ put memory (decoded descriptor.now).target target.new }
-    ensures told { result ≡ 0 → refusal_of descriptor.now ≡ None →
-        answer.new ≡ bytes_of_record (applied_record (good_in delta.now ((decoded descriptor.now).size / 8))
-        (cause_in delta.now ((decoded descriptor.now).size / 8))) }
-    ensures blocks { result ≡ 0 → refusal_of descriptor.now ≡ None →
-        target.new ≡ applied_bytes delta.now (good_in delta.now ((decoded descriptor.now).size / 8)) target.old }
+    ensures content { let job = decoded descriptor.now in
+        result ≡ 0 → (memory : Memory) → Holds memory job.source delta.now → Holds memory job.target target.old →
+        (step_of memory descriptor.now).0 ≡ put memory job.target target.new }
+    ensures told { let job = decoded descriptor.now in
+        result ≡ 0 → refusal_of descriptor.now ≡ None →
+        answer.new ≡ bytes_of_record
+        (applied_record (good_in delta.now (job.size / 8)) (cause_in delta.now (job.size / 8))) }
+    ensures blocks { let job = decoded descriptor.now in
+        result ≡ 0 → refusal_of descriptor.now ≡ None →
+        target.new ≡ applied_bytes delta.now (good_in delta.now (job.size / 8)) target.old }
     ensures unchanged { result ≢ 0 → (target.new ≡ target.old) × (answer.new ≡ answer.old) }
 {
     match checked(descriptor) {

@@ -23,7 +23,8 @@ returns-in-Err-clause-content c = λ done memory source_held target_held.
 pub returns-else-target-size-clause-record : goal.returns-else-target-size-clause-record
 returns-else-target-size-clause-record c = λ done memory source_held target_held.
     c.record_bytes-in-Ok.ensures
-    ∙ carried_record memory c.args.descriptor.now c.in-Ok.job c.in-Ok.ensures.same c.in-Ok.ensures.accepted c.apply_delta.result
+    ∙ carried_record memory c.args.descriptor.now c.in-Ok.job c.in-Ok.ensures.same c.in-Ok.ensures.accepted
+    c.apply_delta.result
     (c.apply_delta.ensures.answer memory
     (subst (λ (j : Job). Holds memory j.source c.args.delta.now) (sym c.in-Ok.ensures.same) source_held)
     (subst (λ (j : Job). Holds memory j.target c.args.target.now) (sym c.in-Ok.ensures.same) target_held))

@@ -20,7 +20,8 @@ returns-in-Err-clause-content c = λ done memory source_held target_held.
 pub returns-else-other-size-clause-record : goal.returns-else-other-size-clause-record
 returns-else-other-size-clause-record c = λ done memory source_held target_held.
     c.record_bytes-in-Ok.ensures
-    ∙ carried_record memory c.args.descriptor.now c.in-Ok.job c.in-Ok.ensures.same c.in-Ok.ensures.accepted c.compare.result
+    ∙ carried_record memory c.args.descriptor.now c.in-Ok.job c.in-Ok.ensures.same c.in-Ok.ensures.accepted
+    c.compare.result
     (c.compare.ensures.answer memory
     (subst (λ (j : Job). Holds memory j.source c.args.one.now) (sym c.in-Ok.ensures.same) source_held)
     (subst (λ (j : Job). Holds memory j.target c.args.other.now) (sym c.in-Ok.ensures.same) target_held))

@@ -20,7 +20,8 @@ returns-in-Err-clause-content c = λ done memory source_held.
 pub returns-else-bytes-size-clause-record : goal.returns-else-bytes-size-clause-record
 returns-else-bytes-size-clause-record c = λ done memory source_held.
     c.record_bytes-in-Ok.ensures
-    ∙ carried_record memory c.args.descriptor.now c.in-Ok.job c.in-Ok.ensures.same c.in-Ok.ensures.accepted c.compare_pattern.result
+    ∙ carried_record memory c.args.descriptor.now c.in-Ok.job c.in-Ok.ensures.same c.in-Ok.ensures.accepted
+    c.compare_pattern.result
     (c.compare_pattern.ensures.answer memory
     (subst (λ (j : Job). Holds memory j.source c.args.bytes.now) (sym c.in-Ok.ensures.same) source_held))
 

@@ -23,7 +23,8 @@ returns-in-Err-clause-content c = λ done memory source_held target_held extra_h
 pub returns-else-delta-delta_size-clause-record : goal.returns-else-delta-delta_size-clause-record
 returns-else-delta-delta_size-clause-record c = λ done memory source_held target_held extra_held.
     c.record_bytes-in-Ok.ensures
-    ∙ carried_record memory c.args.descriptor.now c.in-Ok.job c.in-Ok.ensures.same c.in-Ok.ensures.accepted c.create_delta.result
+    ∙ carried_record memory c.args.descriptor.now c.in-Ok.job c.in-Ok.ensures.same c.in-Ok.ensures.accepted
+    c.create_delta.result
     (c.create_delta.ensures.answer memory
     (subst (λ (j : Job). Holds memory j.source c.args.one.now) (sym c.in-Ok.ensures.same) source_held)
     (subst (λ (j : Job). Holds memory j.target c.args.other.now) (sym c.in-Ok.ensures.same) target_held)

@@ -25,7 +25,8 @@ returns-in-Err-clause-content c = λ done memory source_held target_held extra_h
 pub returns-else-second-size-clause-record : goal.returns-else-second-size-clause-record
 returns-else-second-size-clause-record c = λ done memory source_held target_held extra_held.
     c.record_bytes-in-Ok.ensures
-    ∙ carried_record memory c.args.descriptor.now c.in-Ok.job c.in-Ok.ensures.same c.in-Ok.ensures.accepted c.dualcast.result
+    ∙ carried_record memory c.args.descriptor.now c.in-Ok.job c.in-Ok.ensures.same c.in-Ok.ensures.accepted
+    c.dualcast.result
     (c.dualcast.ensures.answer memory
     (subst (λ (j : Job). Holds memory j.source c.args.source.now) (sym c.in-Ok.ensures.same) source_held)
     (subst (λ (j : Job). Holds memory j.target c.args.target.now) (sym c.in-Ok.ensures.same) target_held)
@@ -34,9 +35,11 @@ returns-else-second-size-clause-record c = λ done memory source_held target_hel
 pub returns-else-second-size-clause-content : goal.returns-else-second-size-clause-content
 returns-else-second-size-clause-content c = λ done memory source_held target_held extra_held.
     carried_memory memory c.args.descriptor.now c.in-Ok.job c.in-Ok.ensures.same c.in-Ok.ensures.accepted
-    (put (put memory (decoded c.args.descriptor.now).target c.dualcast.new.target) (decoded c.args.descriptor.now).extra c.dualcast.new.second)
+    (put (put memory (decoded c.args.descriptor.now).target c.dualcast.new.target)
+    (decoded c.args.descriptor.now).extra c.dualcast.new.second)
     (c.dualcast.ensures.content memory
     (subst (λ (j : Job). Holds memory j.source c.args.source.now) (sym c.in-Ok.ensures.same) source_held)
     (subst (λ (j : Job). Holds memory j.target c.args.target.now) (sym c.in-Ok.ensures.same) target_held)
     (subst (λ (j : Job). Holds memory j.extra c.args.second.now) (sym c.in-Ok.ensures.same) extra_held)
-    ∙ ap (λ (j : Job). put (put memory j.target c.dualcast.new.target) j.extra c.dualcast.new.second) c.in-Ok.ensures.same)
+    ∙ ap (λ (j : Job). put (put memory j.target c.dualcast.new.target) j.extra c.dualcast.new.second)
+    c.in-Ok.ensures.same)

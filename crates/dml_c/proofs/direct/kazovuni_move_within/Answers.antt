@@ -21,7 +21,8 @@ returns-in-Err-clause-content c = λ done memory held.
 pub returns-else-not-lies_in-clause-record : goal.returns-else-not-lies_in-clause-record
 returns-else-not-lies_in-clause-record c = λ done memory held.
     c.record_bytes-in-Ok.ensures
-    ∙ carried_record memory c.args.descriptor.now c.in-Ok.job c.in-Ok.ensures.same c.in-Ok.ensures.accepted c.move_within.result
+    ∙ carried_record memory c.args.descriptor.now c.in-Ok.job c.in-Ok.ensures.same c.in-Ok.ensures.accepted
+    c.move_within.result
     (c.move_within.ensures.answer memory held)
 
 pub returns-else-not-lies_in-clause-content : goal.returns-else-not-lies_in-clause-content

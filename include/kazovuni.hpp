@@ -4,10 +4,13 @@
  * byte with another one of the call, or the job is refused, but in mem_move; buffers that are only read may be shared
  * by any number of threads; nothing is allocated, and nothing is thrown.
  *
- * A program that was written for Intel's C++ interface changes its names:
+ * Operations are values that are called, or passed to execute: so a program that was written for Intel's C++ interface
+ * changes the name of the namespace. Each of these is the same call:
  *
  *     dml::execute<dml::software>(dml::mem_move, dml::make_view(source), dml::make_view(target))
- *     kazovuni::mem_move(kazovuni::make_view(source), kazovuni::make_view(target))
+ *     kazovuni::execute<kazovuni::software>(
+ *         kazovuni::mem_move, kazovuni::make_view(source), kazovuni::make_view(target))
+ *     kazovuni::mem_move(source, target)
  */
 #ifndef KAZOVUNI_HPP
 #define KAZOVUNI_HPP
@@ -22,6 +25,7 @@
 #include <ranges>
 #include <span>
 #include <type_traits>
+#include <utility>
 
 namespace kazovuni {
 
@@ -116,78 +120,122 @@ inline kazovuni_job job_of(std::uint8_t opcode, std::uint64_t source, std::uint6
 } // namespace detail
 
 /* Copies a buffer over another one of the same length. The two may overlap: the bytes come as they stood before. */
-inline job_result mem_move(const_view source, view target) noexcept
-{
-    if (source.size() != target.size())
-        return {};
-    return detail::execute(
-        detail::job_of(detail::move, detail::address_of(source), detail::address_of(target), source.size()));
-}
+struct mem_move_operation {
+    job_result operator()(const_view source, view target) const noexcept
+    {
+        if (source.size() != target.size())
+            return {};
+        return detail::execute(
+            detail::job_of(detail::move, detail::address_of(source), detail::address_of(target), source.size()));
+    }
+};
+inline constexpr mem_move_operation mem_move{};
 
 /* Fills a buffer with 8 bytes over and over, the lowest of the number first. */
-inline job_result fill(std::uint64_t pattern, view target) noexcept
-{
-    return detail::execute(detail::job_of(detail::fill, pattern, detail::address_of(target), target.size()));
-}
+struct fill_operation {
+    job_result operator()(std::uint64_t pattern, view target) const noexcept
+    {
+        return detail::execute(detail::job_of(detail::fill, pattern, detail::address_of(target), target.size()));
+    }
+};
+inline constexpr fill_operation fill{};
 
 /* Copies a buffer over two others of the same length, whose addresses have the same low 12 bits. */
-inline job_result dualcast(const_view source, view target, view second) noexcept
-{
-    if (source.size() != target.size() || source.size() != second.size())
-        return {};
-    auto job =
-        detail::job_of(detail::dualcast, detail::address_of(source), detail::address_of(target), source.size());
-    job.extra = detail::address_of(second);
-    return detail::execute(job);
-}
+struct dualcast_operation {
+    job_result operator()(const_view source, view target, view second) const noexcept
+    {
+        if (source.size() != target.size() || source.size() != second.size())
+            return {};
+        auto job =
+            detail::job_of(detail::dualcast, detail::address_of(source), detail::address_of(target), source.size());
+        job.extra = detail::address_of(second);
+        return detail::execute(job);
+    }
+};
+inline constexpr dualcast_operation dualcast{};
+
+/* What an operation with a result expects: status ok comes only with that, and else false_predicate. */
+template <typename Operation> struct expecting {
+    std::optional<comparison_result> expected = std::nullopt;
+
+    constexpr Operation expect(comparison_result result) const noexcept
+    {
+        Operation operation{};
+        operation.expected = result;
+        return operation;
+    }
+
+    constexpr Operation expect_equal() const noexcept { return expect(comparison_result::equal); }
+
+    constexpr Operation expect_not_equal() const noexcept { return expect(comparison_result::not_equal); }
+};
 
 /* Finds the first byte in which two buffers of the same length differ. */
-inline job_result compare(
-    const_view one, const_view other, std::optional<comparison_result> expected = std::nullopt) noexcept
-{
-    if (one.size() != other.size())
-        return {};
-    return detail::execute(
-        detail::job_of(detail::compare, detail::address_of(one), detail::address_of(other), one.size()), expected);
-}
+struct compare_operation : expecting<compare_operation> {
+    job_result operator()(const_view one, const_view other) const noexcept
+    {
+        if (one.size() != other.size())
+            return {};
+        return detail::execute(
+            detail::job_of(detail::compare, detail::address_of(one), detail::address_of(other), one.size()),
+            expected);
+    }
+};
+inline constexpr compare_operation compare{};
 
 /* The same with 8 bytes over and over, the lowest of the number first. */
-inline job_result compare_pattern(
-    std::uint64_t pattern, const_view bytes, std::optional<comparison_result> expected = std::nullopt) noexcept
-{
-    return detail::execute(
-        detail::job_of(detail::compare_pattern, detail::address_of(bytes), pattern, bytes.size()), expected);
-}
+struct compare_pattern_operation : expecting<compare_pattern_operation> {
+    job_result operator()(std::uint64_t pattern, const_view bytes) const noexcept
+    {
+        return detail::execute(
+            detail::job_of(detail::compare_pattern, detail::address_of(bytes), pattern, bytes.size()), expected);
+    }
+};
+inline constexpr compare_pattern_operation compare_pattern{};
 
 /*
  * Writes how the second buffer differs from the first: an entry of 10 bytes for each differing block of 8, as many as
  * the third buffer has room for.
  */
-inline job_result create_delta(
-    const_view one, const_view other, view delta, std::optional<comparison_result> expected = std::nullopt) noexcept
-{
-    if (one.size() != other.size())
-        return {};
-    auto job =
-        detail::job_of(detail::create_delta, detail::address_of(one), detail::address_of(other), one.size());
-    job.extra = detail::address_of(delta);
-    job.delta_size = detail::size_of(std::min(delta.size() - delta.size() % detail::entry, detail::most_delta));
-    return detail::execute(job, expected);
-}
+struct create_delta_operation : expecting<create_delta_operation> {
+    job_result operator()(const_view one, const_view other, view delta) const noexcept
+    {
+        if (one.size() != other.size())
+            return {};
+        auto job =
+            detail::job_of(detail::create_delta, detail::address_of(one), detail::address_of(other), one.size());
+        job.extra = detail::address_of(delta);
+        job.delta_size = detail::size_of(std::min(delta.size() - delta.size() % detail::entry, detail::most_delta));
+        return detail::execute(job, expected);
+    }
+};
+inline constexpr create_delta_operation create_delta{};
 
 /* Writes what a delta record says over a buffer of the length that it was made of. */
-inline job_result apply_delta(const_view delta, view target) noexcept
-{
-    auto job =
-        detail::job_of(detail::apply_delta, detail::address_of(delta), detail::address_of(target), target.size());
-    job.delta_size = detail::size_of(delta.size());
-    return detail::execute(job);
-}
+struct apply_delta_operation {
+    job_result operator()(const_view delta, view target) const noexcept
+    {
+        auto job =
+            detail::job_of(detail::apply_delta, detail::address_of(delta), detail::address_of(target), target.size());
+        job.delta_size = detail::size_of(delta.size());
+        return detail::execute(job);
+    }
 
-/* The same with the buffer in which a create left its record, and the create's result. */
-inline job_result apply_delta(const_view delta, view target, const job_result &created) noexcept
+    /* The same with the buffer in which a create left its record, and the create's result. */
+    job_result operator()(const_view delta, view target, const job_result &created) const noexcept
+    {
+        return (*this)(delta.first(std::min(delta.size(), created.delta_record_size)), target);
+    }
+};
+inline constexpr apply_delta_operation apply_delta{};
+
+/* An operation, called: there is one way to carry a job out. */
+struct software {};
+
+template <typename Path = software, typename Operation, typename... Buffers>
+job_result execute(const Operation &operation, Buffers &&...buffers) noexcept
 {
-    return apply_delta(delta.first(std::min(delta.size(), created.delta_record_size)), target);
+    return operation(std::forward<Buffers>(buffers)...);
 }
 
 } // namespace kazovuni

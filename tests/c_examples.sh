@@ -144,6 +144,22 @@ try_waiting() {
     wait "$device" || complain "$1: it does not end with its input"
 }
 
+# program FIRST: the lines of docs/C.md from one on, as long as they are indented
+program() {
+    sed -n "/^    $1\$/,/^[^ ]/p" docs/C.md | grep '^ ' | sed 's/^ *//'
+}
+
+# The program of docs/C.md for Intel's C++ interface is the other one there but for its names, and that stands in
+# buffers.cpp, line by line.
+try_ported() {
+    program '#include "dml.dml.hpp"' | sed 's|dml/dml|kazovuni|; s/dml::/kazovuni::/g' >"$work/intel"
+    program '#include "kazovuni.hpp"' >"$work/ported"
+    sed 's/^ *//' examples/c/buffers.cpp >"$work/lines"
+    [ "$(wc -l <"$work/ported")" -gt 15 ] || complain "docs/C.md: no program for Intel's C++ interface"
+    cmp "$work/intel" "$work/ported" >&2 || complain "docs/C.md: the two programs differ in more than names"
+    grep -vxFf "$work/lines" "$work/ported" >&2 && complain "examples/c/buffers.cpp has not these lines of docs/C.md"
+}
+
 # ---- the examples as the heads of their files say it
 
 # as_written FILE: runs the commands in the head of a file, in a copy of the folder, and what they build
@@ -182,6 +198,7 @@ for compiler in g++ clang++; do
     try_examples cpp "$compiler" -std=c++20
 done
 
+try_ported
 cp -r examples/c "$work/folder" || exit 2
 export PKG_CONFIG_PATH="$work/llvm/lib/pkgconfig" LD_LIBRARY_PATH="$work/llvm/lib${LD_LIBRARY_PATH:+:$LD_LIBRARY_PATH}"
 if ! command -v pkg-config >/dev/null; then

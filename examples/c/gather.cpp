@@ -11,7 +11,7 @@
 #include <string_view>
 #include <vector>
 
-using kazovuni::comparison_result, kazovuni::const_view, kazovuni::job_result, kazovuni::status_code, kazovuni::view;
+using kazovuni::const_view, kazovuni::job_result, kazovuni::status_code, kazovuni::view;
 
 int main()
 {
@@ -28,9 +28,9 @@ int main()
         [&] { return kazovuni::mem_move(payload, text); },
         [&] { return kazovuni::fill(0x2e2e2e2e2e2e2e2e, dots); },
         [&] { return kazovuni::mem_move(last, end); },
-        [&] { return kazovuni::compare(payload, text, comparison_result::equal); },
+        [&] { return kazovuni::compare.expect_equal()(payload, text); },
         // this one does not end well
-        [&] { return kazovuni::compare(first, whole.last(first.size()), comparison_result::equal); },
+        [&] { return kazovuni::compare.expect_equal()(first, whole.last(first.size())); },
     };
     std::size_t done = 0;
     job_result result{};

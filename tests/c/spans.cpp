@@ -21,17 +21,17 @@ int main()
         return 3;
     if (mem_move(odd, view(target).subspan(3, 64)).status != status_code::ok || target[66] != 7 || target[67] != 0)
         return 4; // over itself, from the last byte on
-    if (compare(make_view(sevens), odd, comparison_result::equal).status != status_code::ok)
+    if (compare.expect_equal()(make_view(sevens), odd).status != status_code::ok)
         return 5;
     job_result compared = compare(first, view(target).subspan(4, 64));
     if (compared.result != comparison_result::not_equal || compared.bytes_processed != 63)
         return 6;
-    if (compare_pattern(0x0707070707070707, odd, comparison_result::not_equal).status != status_code::false_predicate)
+    if (compare_pattern.expect_not_equal()(0x0707070707070707, odd).status != status_code::false_predicate)
         return 7;
     job_result made = create_delta(first, make_view(zeros), delta); // it has room for two entries of the eight
     if (made.status != status_code::ok || made.result != comparison_result::overflow || made.bytes_processed != 16)
         return 8;
-    if (create_delta(first, first, delta, comparison_result::not_equal).status != status_code::false_predicate)
+    if (create_delta.expect_not_equal()(first, first, delta).status != status_code::false_predicate)
         return 9;
     view aligned = view(target).subspan(1024, 64);
     if (fill(0x0908070605040302, aligned).status != status_code::ok || aligned[0] != 2 || aligned[15] != 9)

@@ -1,12 +1,13 @@
 #!/bin/sh
 # Builds the C library and bench/c_calls.c, runs that and dml_bench alternately, and prints the least and the median of
 # the calls' times, and the bars of calls from C: a move of 4 KiB over memmove, and each call over the same one inside
-# Rattle (`submit_over` on the caller's pages, `submit_to` on an image's own).
+# Rattle (`submit_over` on the caller's pages, `submit_to` on an image's own). Then the jobs straight over buffers, by
+# bench/c_buffers.c, beside the same ones by kazovuni_submit_pointers, with their bars as ratios.
 #
 # Usage: bench/c_calls.sh [ROUNDS]   15 rounds, where nothing else is said.
 # Wants rt, ar, a C compiler as $CC or cc, with $CFLAGS or -O2, and the program dml_bench built (rt run in
-# crates/dml_bench). Each round runs both programs, every second round in the opposite order, and a difference is taken
-# within its round. Exit status: 0 where all bars are met, 1 where one is missed, 2 where nothing was measured, or where
+# crates/dml_bench). Each round runs all programs, every second round in the opposite order, and a difference or a ratio
+# is taken within its round. Exit status: 0 where all bars are met, 1 where one is missed, 2 where nothing was measured, or where
 # the load before was higher than there are processors, by which no bar can be judged.
 here=$(cd "$(dirname "$0")" && pwd)
 rounds=${1:-15}
@@ -18,12 +19,18 @@ fi
 work=$(mktemp -d) || exit 2
 trap 'rm -rf "$work"' EXIT
 "$here/../tools/install_library.sh" "$work" >"$work/log" 2>&1 || { cat "$work/log" >&2; exit 2; }
-"${CC:-cc}" ${CFLAGS:--O2} -std=c11 -D_POSIX_C_SOURCE=200809L -I"$work/include" -o "$work/c_calls" "$here/c_calls.c" \
-    "$work/lib/libkazovuni.a" || exit 2
+for program in c_calls c_buffers; do
+    "${CC:-cc}" ${CFLAGS:--O2} -std=c11 -D_POSIX_C_SOURCE=200809L -I"$work/include" -o "$work/$program" \
+        "$here/$program.c" "$work/lib/libkazovuni.a" || exit 2
+done
 
-# Writes "ROUND NAME BYTES NANOSECONDS" for each row of both programs.
+# Writes "ROUND NAME BYTES NANOSECONDS" for each row of the programs.
 from_c() {
     "$work/c_calls" >"$work/rows" || exit 2
+    sed "s/^/$1 /" "$work/rows" >>"$work/times"
+}
+over_buffers() {
+    "$work/c_buffers" >"$work/rows" || exit 2
     sed "s/^/$1 /" "$work/rows" >>"$work/times"
 }
 in_rattle() {
@@ -39,7 +46,9 @@ while [ "$round" -le "$rounds" ]; do
     if [ $((round % 2)) -eq 1 ]; then
         from_c "$round"
         in_rattle "$round"
+        over_buffers "$round"
     else
+        over_buffers "$round"
         in_rattle "$round"
         from_c "$round"
     fi
@@ -67,13 +76,27 @@ awk -v busy="$busy" '
         }
         return median(list, rounds)
     }
+    function ratio(name, base, bytes,    r, list) {
+        for (r = 1; r <= rounds; r++) list[r] = times[r, name, bytes] / times[r, base, bytes]
+        return median(list, rounds)
+    }
+    function middle_of(name, bytes,    r, list) {
+        for (r = 1; r <= rounds; r++) list[r] = times[r, name, bytes]
+        return median(list, rounds)
+    }
+    function ratio_bar(text, value, most) {
+        if (value > most) missed++
+        bars++
+        printf("%-64s %6.2f, at most %.2f: %s\n", text, value, most, (value > most) ? "missed" : "met")
+    }
     function bar(text, value, most) {
         if (value > most) missed++
         bars++
         printf("%-64s %6.1f, at most %d: %s\n", text, value, most, (value > most) ? "missed" : "met")
     }
     { times[$1, $2, $3] = $4; if ($1 > rounds) rounds = $1 }
-    $1 == 1 { row[++rows] = $2 " " $3 }
+    $1 == 1 && $2 ~ /^buffers_/ { job[++jobs] = substr($2, 9) " " $3 }
+    $1 == 1 && $2 !~ /^(buffers|execute|pointers|libc)_/ { row[++rows] = $2 " " $3 }
     END {
         printf "%d rounds, nanoseconds of a job\n%-28s %8s %9s %9s\n", rounds, "call", "bytes", "least", "median"
         for (n = 1; n <= rows; n++) {
@@ -81,6 +104,16 @@ awk -v busy="$busy" '
             for (r = 1; r <= rounds; r++) list[r] = times[r, part[1], part[2]]
             middle = median(list, rounds)
             printf "%-28s %8d %9.1f %9.1f\n", part[1], part[2], list[1], middle
+        }
+        printf "\n%-16s %8s %11s %11s %11s %9s %9s\n", "job, medians", "bytes", "buffers", "execute", "pointers", \
+            "buffers/", "execute/"
+        for (n = 1; n <= jobs; n++) {
+            split(job[n], part, " ")
+            base = "pointers_" part[1]
+            printf "%-16s %8d %11.1f %11.1f %11.1f %9.2f %9.2f\n", part[1], part[2], \
+                middle_of("buffers_" part[1], part[2]), middle_of("execute_" part[1], part[2]), \
+                middle_of(base, part[2]), ratio("buffers_" part[1], base, part[2]), \
+                ratio("execute_" part[1], base, part[2])
         }
         printf "\n"
         if (busy) {
@@ -94,6 +127,18 @@ awk -v busy="$busy" '
             bar("kazovuni_submit (a handle) of " bytes " bytes, over submit_to in Rattle", \
                 over("kazovuni_submit", "own_move", bytes), 20)
         }
+        for (n = 1; n <= jobs; n++) {
+            split(job[n], part, " ")
+            most = part[2] >= 4096 ? 1.05 : part[2] > 64 ? 0 : part[1] == "move" ? 0.8 : \
+                part[1] ~ /^(compare|create_none|create_all|apply_all|fill)$/ ? 0.5 : 0
+            if (most > 0)
+                ratio_bar(part[1] " of " part[2] " bytes over buffers, to kazovuni_submit_pointers", \
+                    ratio("buffers_" part[1], "pointers_" part[1], part[2]), most)
+            if (part[1] == "apply_all" && part[2] >= 512)
+                ratio_bar("apply of " part[2] / 8 " entries over buffers, nanoseconds an entry", \
+                    middle_of("buffers_apply_all", part[2]) / (part[2] / 8), 2.5)
+        }
+        ratio_bar("compare of 4096 bytes over buffers, to memcmp", ratio("buffers_compare", "libc_compare", 4096), 2.5)
         printf "%d of %d bars of calls from C are missed\n", missed, bars
         exit missed > 0
     }' "$work/times"

@@ -1,7 +1,7 @@
 /*
  * Each growth of memory that the library asks for, refused in turn: the call that asked answers want of memory and
  * leaves everything as it was, so that the same call does its work right after; no other call answers it, and at the
- * end every block is given back. Jobs over an engine's own pages ask for nothing.
+ * end every block is given back. Jobs over an engine's own pages, and those over buffers, ask for nothing.
  *
  * Linked with -Wl,--wrap=malloc,--wrap=realloc,--wrap=free, so that the library's own calls come here first.
  */
@@ -149,6 +149,32 @@ static void walk_lent(enum call call, const uint8_t page[PAGE])
     expect("the staging of a call", largest == NEED && blocks == 0);
 }
 
+/* The same create over buffers of its own, by the descriptor's pointers and by lengths: it asks for nothing. */
+static void walk_buffers(const uint8_t page[PAGE])
+{
+    static _Alignas(8) uint8_t bytes[PAGE];
+    const uint64_t addresses[] = {(uintptr_t)bytes, (uintptr_t)bytes + 64, (uintptr_t)bytes + 128};
+    uint8_t by_pointers[64], record[32];
+    size_t before = growths;
+    memcpy(by_pointers, create[0], 64);
+    memcpy(by_pointers + 16, &addresses[0], 8);
+    memcpy(by_pointers + 24, &addresses[1], 8);
+    memcpy(by_pointers + 40, &addresses[2], 8);
+    for (int by_lengths = 0; by_lengths < 2; by_lengths++) {
+        memcpy(bytes, page, PAGE);
+        memset(record, 0xcc, 32);
+        if (by_lengths)
+            expect_done(
+                "create_delta",
+                kazovuni_create_delta(create[0], bytes, 32, bytes + 64, 32, bytes + 128, 20, record));
+        else
+            expect_done("execute", kazovuni_execute(by_pointers, record));
+        expect("the record over buffers", memcmp(record, created, 32) == 0);
+        expect("the delta record over buffers", memcmp(bytes + 128, delta, 20) == 0);
+    }
+    expect("a call over buffers asks for memory", growths == before && blocks == 0);
+}
+
 /* A list takes the greatest need of its jobs that stage bytes, whatever the limit is, and whatever the others need. */
 static void walk_list(void)
 {
@@ -187,6 +213,7 @@ int main(void)
         for (enum call call = OVER; call <= POINTERS; call++)
             walk_lent(call, page);
         walk_list();
+        walk_buffers(page);
     } while (growths >= refused);
     printf("table_refused:");
     for (enum call call = CREATE; call < CALLS; call++) {

@@ -1,9 +1,9 @@
 /*
  * Jobs over buffers of exact length, each between two pages that are not mapped: every alignment from 0 to 63 of each
  * buffer, every length from 0 to 130, and the greatest ones. Each job is that of the evaluator of tests/fuzz, whose
- * image has its ranges somewhere else: no byte of an answer depends on where the buffers lie. A buffer stands as near
- * to one of the pages as its alignment lets it; the bytes between keep what they had, and under valgrind's memcheck may
- * not be touched at all.
+ * image has its ranges somewhere else: no byte of an answer depends on where the buffers lie. Those that begin at a
+ * page are tried by kazovuni_execute too. A buffer stands as near to one of the pages as its alignment lets it; the
+ * bytes between keep what they had, and under valgrind's memcheck may not be touched at all.
  *
  * Usage: buffers_exact [STEP]   only each STEP-th alignment of the second buffer, 1 where nothing is said
  */
@@ -115,19 +115,32 @@ static struct answer evaluate(const struct job *job)
     return answer;
 }
 
-/* The same job over buffers with these alignments. */
+/* The same job by the pointers of the buffers. */
+static uint8_t execute(const struct job *job, const struct buffer ranges[RANGES], uint8_t record[32])
+{
+    struct job moved = *job;
+    uint8_t descriptor[64];
+    moved.source = ranges[SOURCE].is_there ? (uintptr_t)ranges[SOURCE].bytes : job->source;
+    moved.target = ranges[TARGET].is_there ? (uintptr_t)ranges[TARGET].bytes : job->target;
+    moved.extra = ranges[EXTRA].is_there ? (uintptr_t)ranges[EXTRA].bytes : job->extra;
+    write_descriptor(&moved, descriptor);
+    return kazovuni_execute(descriptor, record);
+}
+
+/* The job over buffers with these alignments, by its operation's call or, where the rules let it, by their pointers. */
 static void try_at(
-    const struct job *job, const struct answer *answer, const size_t alignments[RANGES], enum place place)
+    const struct job *job, const struct answer *answer, const size_t alignments[RANGES], enum place place,
+    bool is_by_pointers)
 {
     struct buffer ranges[RANGES];
-    uint8_t record[32];
+    uint8_t record[32], code;
     ranges_of(job, ranges);
     for (int i = 0; i < RANGES; i++)
         if (ranges[i].is_there)
             lay(i, &ranges[i], alignments[i], place, before + ranges[i].address);
     memset(record, NO_STATUS, 32);
-    if (call(job->opcode, answer->descriptor, ranges, record) != KAZOVUNI_OK ||
-        memcmp(record, answer->record, 32) != 0)
+    code = is_by_pointers ? execute(job, ranges, record) : call(job->opcode, answer->descriptor, ranges, record);
+    if (code != KAZOVUNI_OK || memcmp(record, answer->record, 32) != 0)
         fail(job, "another record", ranges);
     for (int i = 0; i < RANGES; i++)
         if (ranges[i].is_there)
@@ -201,10 +214,11 @@ static void try_alignments(const struct job *job, size_t step)
         for (size_t second = has_one ? first : first % step; second < ALIGNMENTS; second += step) {
             const size_t alignments[RANGES] = {first, second, (first + 5 * second) % ALIGNMENTS};
             for (enum place place = 0; place < PLACES; place++)
-                try_at(job, &answer, alignments, place);
+                try_at(job, &answer, alignments, place, false);
             if (has_one)
                 break;
         }
+    try_at(job, &answer, (const size_t[RANGES]){0, 0, 0}, BEHIND_A_PAGE, true);
 }
 
 static void try_lengths(size_t step)
@@ -241,7 +255,8 @@ static void try_limits(void)
                     image.bytes[job.target + i] ^= 0x20; /* every block differs */
             struct answer answer = evaluate(&job);
             for (enum place place = 0; place < PLACES; place++)
-                try_at(&job, &answer, (const size_t[RANGES]){below(64), below(64), below(64)}, place);
+                try_at(&job, &answer, (const size_t[RANGES]){below(64), below(64), below(64)}, place, false);
+            try_at(&job, &answer, (const size_t[RANGES]){0, 0, 0}, BEHIND_A_PAGE, true);
         }
         struct job job = job_of(opcode, most + 8, is_delta ? 10 : 0);
         uint8_t descriptor[64], record[32];

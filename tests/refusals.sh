@@ -304,6 +304,16 @@ limited two_rows 2000 16000 52000 131072 200000 262144 284500 300000 308500 3115
 ended 0 1599
 ended 2100 2299
 ended 2300 2300
+# From some 123,000 bytes on the list of the submits has its room beside the plan of the fetches before them, but not
+# beside what the making of this plan takes.
+limited long_row 2000 16000 32000 56000 100000 122900 123000 123500 126000 130000 400000
+ended 0 199
+ended 2047 2047
+ended 2048 2048
+limited bad_end 2000 16000 32000 56000 100000 122900 123000 123500 126000 130000 400000
+ended 0 199
+ended 200 1999
+ended 2000 2000
 
 # ---- the program
 

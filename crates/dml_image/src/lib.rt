@@ -19,7 +19,7 @@ pub use blocks::entry_block;
 pub use errors::ImageError;
 pub use images::Image;
 pub use lent::Lent;
-pub use slices::{copy_at, fill_at, write_at};
+pub use slices::{SHORT, copy_at, fill_at, write_at};
 
 /// The bytes of a page.
 pub const PAGE_SIZE: usize = 4096;

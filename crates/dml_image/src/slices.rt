@@ -3,7 +3,7 @@ ghost use Rattle.dml_types.specs.Memory.{overwrite};
 ghost use Rattle.dml_types.specs.Bytewise.{pattern_bytes};
 ghost use Rattle.dml_image.specs.Copied.{IsOneCopy};
 
-// Bytes of ranges that overlap are held here between reading and writing.
+/// The most bytes that are copied at once where two ranges overlap: they are held between reading and writing.
 pub const SHORT: usize = 256;
 
 // The bytes of a pattern.
@@ -18,7 +18,7 @@ pub fn write_at(target: &mut [u8], place: usize, bytes: &[u8])
     target[place..place + bytes.len()].copy_from_slice(bytes);
 }
 
-/// Copies `len` bytes of a slice from one place to another. Ranges that overlap are short.
+/// Copies `len` bytes of a slice from one place to another. Ranges that overlap have [`SHORT`] bytes at most.
 #[tactic(auto, using(crate::proofs::SliceLemmas::put_mid_overwrite))]
 pub fn copy_at(content: &mut [u8], from: usize, to: usize, len: usize)
     requires within { (from + len ≤ length content.old) × (to + len ≤ length content.old) }

@@ -3,14 +3,18 @@
  * buffer, every length from 0 to 130, and the greatest ones. Each job is that of the evaluator of tests/fuzz, whose
  * image has its ranges somewhere else: no byte of an answer depends on where the buffers lie. Those that begin at a
  * page are tried by kazovuni_execute too. A buffer stands as near to one of the pages as its alignment lets it; the
- * bytes between keep what they had, and under valgrind's memcheck may not be touched at all.
+ * bytes between keep what they had, and under valgrind's memcheck may not be touched at all. A range that goes on into
+ * such a page is a fault signal of the process.
  *
  * Usage: buffers_exact [STEP]   only each STEP-th alignment of the second buffer, 1 where nothing is said
  */
 #define _GNU_SOURCE
 #include "buffers.h"
 
+#include <signal.h>
 #include <sys/mman.h>
+#include <sys/wait.h>
+#include <unistd.h>
 
 #if defined(__has_include)
 #if __has_include(<valgrind/memcheck.h>)
@@ -272,6 +276,27 @@ static void try_limits(void)
         try_within(ENOUGH, apart, apart % 64, apart % 2 == 0);
 }
 
+/* A fill that goes on into a page that is not mapped: the process meets a fault signal of its own, here a child's. */
+static void try_unmapped(void)
+{
+    struct job job = {.opcode = FILL, .target = (uintptr_t)areas[0] + AREA - 64, .size = 65};
+    uint8_t descriptor[64], record[32];
+    int status = 0;
+    write_descriptor(&job, descriptor);
+    pid_t child = fork();
+    if (child == 0) {
+        signal(SIGSEGV, SIG_DFL);
+        kazovuni_execute(descriptor, record);
+        _exit(0);
+    }
+    if (child < 0 || waitpid(child, &status, 0) != child)
+        exit(2);
+    if (!WIFSIGNALED(status) || WTERMSIG(status) != SIGSEGV) {
+        fprintf(stderr, "buffers_exact: a page that is not mapped: status %d\n", status);
+        exit(1);
+    }
+}
+
 int main(int argc, char **argv)
 {
     size_t step = argc > 1 ? strtoull(argv[1], NULL, 10) : 1;
@@ -284,6 +309,7 @@ int main(int argc, char **argv)
     memset(image.present, true, sizeof image.present);
     try_lengths(step == 0 ? 1 : step);
     try_limits();
+    try_unmapped();
     printf("buffers_exact: %llu jobs agree%s\n", (unsigned long long)jobs,
            RUNNING_ON_VALGRIND ? ", and no byte beside a buffer is touched" : "");
     return 0;

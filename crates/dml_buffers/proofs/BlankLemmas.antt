@@ -8,9 +8,9 @@ use Rattle.std.specs.Prelude.{All}
 use Rattle.dml_types.specs.declared.spans.Span.{Span}
 use Rattle.dml_types.specs.Job.{shares, span}
 use Rattle.dml_types.specs.Memory.{IsWhole, Memory, Put, has_all, put, puts_made}
-use Rattle.dml_types.proofs.MemoryLemmas.{bytes_at_none, has_all_from, length_overwrite, put_nil, read_written}
+use Rattle.dml_types.proofs.MemoryLemmas.{bytes_at_none, has_all_from, length_overwrite, put_nil}
 use Rattle.dml_buffers.specs.Holds.{Holds, HoldsEach, LieWithin, ShareNoByte, blank, range_of}
-use Rattle.dml_buffers.proofs.HoldsLemmas.{held_beside, no_bytes}
+use Rattle.dml_buffers.proofs.HoldsLemmas.{held_beside, held_written, no_bytes}
 
 -- so many pages, all present
 record IsOpen (pages : ℕ) (memory : Memory) : Type 0 where
@@ -48,10 +48,7 @@ module _ (pages : ℕ) (memory : Memory) (opened : IsOpen pages memory) where
     }
 
     held_put : Holds (put memory address bytes) address bytes
-    held_put = record {
-      present = open_has address (length bytes) within;
-      content = read_written memory address bytes room_within;
-    }
+    held_put = held_written memory address bytes (open_has address (length bytes) within) room_within
 
 -- no byte is always held
 no_byte_held : (memory : Memory) (address : ℕ) (bytes : List ℕ) → length bytes ≤ 0 → Holds memory address bytes

@@ -1,6 +1,9 @@
 use Rattle.dml_buffers.proofs.BlankLemmas.{blank_holds, blank_whole}
-use Rattle.dml_buffers.proofs.HoldsLemmas.{held_after, held_beside, held_sub}
+use Rattle.dml_buffers.proofs.HoldsLemmas.{held_after, held_beside, held_sub, held_written}
 use Rattle.dml_buffers.proofs.laws.law_of_buffers.Goals as goal
+
+pub returns-clause-written : goal.returns-clause-written
+returns-clause-written c = held_written
 
 pub returns-clause-over : goal.returns-clause-over
 returns-clause-over c = held_after

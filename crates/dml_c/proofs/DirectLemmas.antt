@@ -4,9 +4,7 @@ use Rattle.dml_types.specs.declared.jobs.Job.{Job}
 use Rattle.dml_types.specs.declared.records.Record.{Record}
 use Rattle.dml_types.specs.declared.statuses.Status.{Status}
 use Rattle.dml_types.specs.Memory.{Memory, puts_made}
-use Rattle.dml_types.specs.Refusal.{refusal}
 use Rattle.dml_types.specs.Effect.{Effect, ended}
-use Rattle.dml_types.specs.Step.{step}
 use Rattle.dml_types.proofs.StepLemmas.{step_refused}
 use Rattle.dml_desc.specs.Checked.{checked_step}
 use Rattle.dml_desc.specs.Descriptor.{bytes_of_record, decoded}

@@ -1,4 +1,4 @@
-use Rattle.std.proofs.Common.{◌≡◌, ◌∙◌, ap}
+use Rattle.std.proofs.Common.{◌∙◌, ap}
 use Rattle.dml_types.specs.Memory.{put}
 use Rattle.dml_desc.specs.Descriptor.{bytes_of_record}
 use Rattle.dml_buffers.proofs.HoldsLemmas.{put_held}

@@ -7,8 +7,9 @@ ghost use Rattle.dml_buffers.specs.Holds.{Holds, HoldsEach, LieWithin, ShareNoBy
 /// each part of what it holds. Buffers that share no byte are all held by some memory: by one of zeros into which they
 /// were put, one after another, and that one is whole.
 pub fn law_of_buffers()
-    ensures written { (memory : Memory) (address : ℕ) (bytes : List ℕ) → IsTrue (has_all memory address (length bytes)) →
-        address + length bytes ≤ length memory.bytes → Holds (put memory address bytes) address bytes }
+    ensures written { (memory : Memory) (address : ℕ) (bytes : List ℕ) →
+        IsTrue (has_all memory address (length bytes)) → address + length bytes ≤ length memory.bytes →
+        Holds (put memory address bytes) address bytes }
     ensures over { (memory : Memory) (address : ℕ) (old new : List ℕ) → Holds memory address old →
         length new ≡ length old → Holds (put memory address new) address new }
     ensures beside { (memory : Memory) (address other : ℕ) (bytes more : List ℕ) → Holds memory address bytes →

@@ -78,7 +78,8 @@ repeated() {
 }
 
 # ends_of KEY: the steps at which such a test ends: those of a row whose lists grow, and then its last fetch, whose plan
-# takes several growths. The list of a client that submits one job after another from step 1 on holds 4 jobs at first,
+# takes several growths. A submit in front of a fetch that is not allowed is taken back before, and grows its list again
+# behind the plan. The list of a client that submits one job after another from step 1 on holds 4 jobs at first,
 # and then twice as many each time. A row of 2,048 steps has one plan; a fetch behind it has its own.
 ends_of() {
     doubling='0 1 5 9 17 33 65 129 257 513 1025'
@@ -86,7 +87,7 @@ ends_of() {
         dml_core:refused_row) echo 0 1 5 6 $(repeated 15 7) ;;
         dml_core:refused_longest_row) echo $doubling $(repeated 10 2047) ;;
         dml_core:refused_longer_row) echo $doubling $(repeated 10 2047) $(repeated 10 2048) ;;
-        dml_core:refused_cut_row) echo 0 2 $(repeated 10 1) ;;
+        dml_core:refused_cut_row) echo 0 2 $(repeated 10 1) 2 ;;
         *) echo none ;;
     esac
 }
@@ -314,6 +315,10 @@ limited bad_end 2000 16000 32000 56000 100000 122900 123000 123500 126000 130000
 ended 0 199
 ended 200 1999
 ended 2000 2000
+# From some 90,000 bytes on the list of the submits has its room, and would not beside the plan before the row.
+limited old_plan 2000 16000 32000 56000 80000 89000 91000 95000 98000 100000 400000
+ended 0 1024
+ended 1027 1027
 
 # ---- the program
 

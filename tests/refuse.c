@@ -6,11 +6,11 @@
 
    With REFUSE_ABOVE=BYTES it refuses each by which the program would hold more than so many bytes
    over what it held when it asked for the growth numbered REFUSE_FROM; none before that one. A line
-   is written for each. A block counts with the size that was asked for. A block that is made smaller
-   is never refused.
+   is written for each. A block counts with the size that was asked for.
 
-   A growth is a call of malloc, calloc or realloc from the program's own code. What the C library
-   asks for on its own account is neither counted nor refused. Needs the GNU C library. */
+   A growth is a call of malloc, calloc or realloc from the program's own code, but for one that makes
+   a block no larger: that is neither counted nor refused, and so is what the C library asks for on its
+   own account. Needs the GNU C library. */
 #define _GNU_SOURCE
 #include <errno.h>
 #include <fcntl.h>
@@ -36,9 +36,9 @@ static unsigned long limited_from;
 static size_t allowance;
 static size_t most_bytes = SIZE_MAX;
 
-/* The program's blocks, where there is a limit: a table by their addresses, whose free places are
-   NULL. A block stands at the first place from its own on that was free. */
-enum { PLACES = 1 << 16 };
+/* The program's blocks: a table by their addresses, whose free places are NULL. A block stands at the
+   first place from its own on that was free. */
+enum { PLACE_BITS = 18, PLACES = 1 << PLACE_BITS };
 static struct {
     void *block;
     size_t size;
@@ -94,22 +94,10 @@ static int is_of_program(void *caller)
     return place >= program_start && place < program_end;
 }
 
-static int is_refused(void *caller, size_t size)
-{
-    if (wanted == 0 || !is_of_program(caller))
-        return 0;
-    unsigned long number = __atomic_add_fetch(&growths, 1, __ATOMIC_SEQ_CST);
-    if (number != wanted)
-        return 0;
-    log_refusal(number, size, O_EXCL);
-    errno = ENOMEM;
-    return 1;
-}
-
 /* The block's place, or a free one where it is not held. */
 static size_t place_of(void *block)
 {
-    size_t place = ((uintptr_t)block >> 4) * 0x9e3779b97f4a7c15u >> 48;
+    size_t place = ((uintptr_t)block >> 4) * 0x9e3779b97f4a7c15u >> (64 - PLACE_BITS);
     while (held[place].block && held[place].block != block)
         place = (place + 1) % PLACES;
     return place;
@@ -157,18 +145,27 @@ static void leave_lock(void)
     __atomic_clear(&lock, __ATOMIC_RELEASE);
 }
 
-/* A block of this size in place of another, or of none, unless that is above the limit. */
+/* Whether the next growth is refused, by which a block gets this size in place of another one. */
+static int is_refused(size_t size, size_t before)
+{
+    growths++;
+    if (growths == limited_from)
+        most_bytes = held_bytes + allowance;
+    size_t rest = held_bytes - before;
+    int is_wanted = growths == wanted;
+    int is_above = limited_from && (rest > most_bytes || size > most_bytes - rest);
+    if (is_wanted || is_above)
+        log_refusal(growths, size, is_wanted ? O_EXCL : O_APPEND);
+    return is_wanted || is_above;
+}
+
+/* A block of this size in place of another, or of none, unless that is refused. */
 static void *held_block(void *block, size_t size)
 {
     take_lock();
     size_t before = block ? held[place_of(block)].size : 0;
-    size_t rest = held_bytes - before;
-    if (++growths == limited_from)
-        most_bytes = held_bytes + allowance;
-    int is_above = size > before && (rest > most_bytes || size > most_bytes - rest);
-    if (is_above)
-        log_refusal(growths, size, O_APPEND);
-    void *made = is_above ? NULL : __libc_realloc(block, size);
+    int grows = !block || size > before;
+    void *made = grows && is_refused(size, before) ? NULL : __libc_realloc(block, size);
     if (made && block)
         let_go(block);
     if (made)
@@ -179,36 +176,33 @@ static void *held_block(void *block, size_t size)
     return made;
 }
 
+static int is_held(void *caller)
+{
+    return (wanted || limited_from) && is_of_program(caller);
+}
+
 void *malloc(size_t size)
 {
-    void *caller = __builtin_return_address(0);
-    if (limited_from && is_of_program(caller))
-        return held_block(NULL, size);
-    return is_refused(caller, size) ? NULL : __libc_malloc(size);
+    return is_held(__builtin_return_address(0)) ? held_block(NULL, size) : __libc_malloc(size);
 }
 
 void *calloc(size_t count, size_t size)
 {
-    void *caller = __builtin_return_address(0);
-    if (limited_from && is_of_program(caller)) {
-        size_t whole;
-        void *made = __builtin_mul_overflow(count, size, &whole) ? NULL : held_block(NULL, whole);
-        return made ? memset(made, 0, whole) : NULL;
-    }
-    return is_refused(caller, count * size) ? NULL : __libc_calloc(count, size);
+    if (!is_held(__builtin_return_address(0)))
+        return __libc_calloc(count, size);
+    size_t whole;
+    void *made = __builtin_mul_overflow(count, size, &whole) ? NULL : held_block(NULL, whole);
+    return made ? memset(made, 0, whole) : NULL;
 }
 
 void *realloc(void *block, size_t size)
 {
-    void *caller = __builtin_return_address(0);
-    if (limited_from && is_of_program(caller))
-        return held_block(block, size);
-    return is_refused(caller, size) ? NULL : __libc_realloc(block, size);
+    return is_held(__builtin_return_address(0)) ? held_block(block, size) : __libc_realloc(block, size);
 }
 
 void free(void *block)
 {
-    if (limited_from && block) {
+    if ((wanted || limited_from) && block) {
         take_lock();
         let_go(block);
         leave_lock();

@@ -21,10 +21,9 @@ use std::alloc::Global;
 /// taken back, and taken again one at a time.
 const MOST_STEPS: usize = 2 * MAX_OPEN;
 
-/// How many steps were taken, and how many behind them are to be taken one at a time. Tried are the steps that were put
-/// into the lists, and one for which there was no memory. Where these are more than were taken, the last of those to be
-/// taken one at a time was tried in vain: if it is allowed, there was no memory for it. In a refused turn the step
-/// behind those taken is not allowed, and none is to be taken one at a time.
+/// How many steps were taken, and how many behind them are to be taken one at a time. Tried are those that were taken,
+/// or those up to the last to be taken one at a time, where that was tried in vain: if it is allowed, there was no
+/// memory for it. In a refused turn the step behind those taken is not allowed, and none is to be taken one at a time.
 #[derive(Clone, Copy)]
 struct Turn {
     taken: usize,
@@ -34,8 +33,8 @@ struct Turn {
 }
 
 /// How many steps made the lists longer; the first of them fetches. Where they are not all, the step behind is neither
-/// a submit nor a fetch, no fetch follows it, there was no memory for it, or it is not allowed. Only in front of one for
-/// which there was no memory, or that is not allowed, submits stand behind the last fetch.
+/// a submit nor a fetch, no fetch follows it, there was no memory for it, or it is not allowed. In front of the last
+/// two alone submits stand behind the last fetch.
 #[derive(Clone, Copy)]
 struct Row {
     count: usize,
@@ -84,7 +83,7 @@ impl World {
     }
 
     /// Takes the row at the front of some steps that begin with a fetch, as far as it can be taken: no step where the
-    /// first is not allowed.
+    /// first is not allowed. A plan that is over goes first, so that the lists do not grow beside it.
     fn gather(&mut self, alloc: Global, client: u32, steps: &[Step]) -> Turn
         requires { slice_get steps.now 0 ≡ Some (Fetch client) }
         ensures within { result.taken + result.alone ≤ length steps.now }
@@ -95,14 +94,15 @@ impl World {
         let Some(next) = self.next_fetch(client) else {
             return Turn::refused();
         };
+        self.forget_plan();
         let most = steps.len().min(MOST_STEPS);
         self.gather_row(alloc, client, &next, &steps[..most])
     }
 
     /// Takes submits and fetches, as far as they can be taken, up to the last fetch. Of the client of the first it is
-    /// known what is next. Only the plan behind the last fetch is made, since each fetch plans all open jobs anew; while
-    /// it is made, the lists hold no more than they do behind that fetch. Where the allocator has no memory left for it,
-    /// the steps are taken back, and the room that the lists grew by.
+    /// known what is next. Only the plan behind the last fetch is made, since each fetch plans all open jobs anew; by
+    /// then the lists hold no more than they do behind that fetch. Where the allocator has no memory left for it, the
+    /// steps are taken back, and the room that the lists grew by.
     fn gather_row(&mut self, alloc: Global, client: u32, next: &Next, steps: &[Step]) -> Turn
         requires some { 0 < length steps.now }
         requires fetch { FetchesAt steps.now 0 }
@@ -160,8 +160,8 @@ impl World {
 }
 
 impl Row {
-    /// So many of the row's steps were taken, up to its last fetch. The submits behind it are to be taken one at a time,
-    /// and the step for which there was no memory.
+    /// So many of the row's steps were taken, up to its last fetch. The submits behind it are to be taken one at a
+    /// time, and the step for which there was no memory.
     fn planned(&self, end: usize) -> Turn
         requires within { end ≤ self.now.count }
         requires room { self.now.count < 18446744073709551615 }
@@ -169,6 +169,7 @@ impl Row {
         ensures alone { self.now.wants_memory ≡ false → end + result.alone ≡ self.now.count }
         ensures alone_more { self.now.wants_memory ≡ true → end + result.alone ≡ self.now.count + 1 }
         ensures tried { self.now.wants_memory ≡ true → result.tried ≡ self.now.count + 1 }
+        ensures tried_taken { self.now.wants_memory ≡ false → result.tried ≡ end }
         ensures is_refused { result.is_refused ≡ true → self.now.is_refused ≡ true }
         ensures all { result.is_refused ≡ true → self.now.count ≡ end }
     {
@@ -494,7 +495,7 @@ fn end_with_fetch(
     let end = fetch_end(steps);
     if end < steps.len() {
         take_back(sent, fetched, steps, end);
-        rooms.give_back(sent, fetched);
+        rooms.give_back_sent(sent);
     }
     end
 }

@@ -72,6 +72,18 @@ pub(crate) struct Places {
     pub(crate) list: Vec<usize>,
 }
 
+impl Places {
+    ghost use Rattle.std.specs.Prelude.{◌≡◌, []};
+
+    /// Forgets the places, and gives their room back.
+    pub(crate) fn forget(&mut self)
+        ensures { self.new ≡ [] }
+    {
+        self.list.clear();
+        self.list.shrink_to(0);
+    }
+}
+
 impl Model for Places {
     ghost use Rattle.std.specs.Prelude.{ℕ, List};
 

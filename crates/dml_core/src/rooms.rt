@@ -44,9 +44,16 @@ impl Rooms {
         ensures kept { min self.now.fetched (vec_capacity fetched.old) ≤ vec_capacity fetched.new }
         ensures frees { fetched.old.items ≡ [] → self.now.fetched ≡ 0 → vec_capacity fetched.new ≡ 0 }
     {
+        self.give_back_sent(sent);
+        fetched.shrink_to(self.fetched);
+    }
+
+    /// Gives back what the lists of the clients have more than this room, as far as their jobs leave it.
+    pub(crate) fn give_back_sent(&self, sent: &mut Vec<SentJobs>)
+        ensures { sent.new.items ≡ sent.old.items }
+    {
         for i in 0..sent.len().min(COUNTED) {
             sent[i].give_back(self.sent[i]);
         }
-        fetched.shrink_to(self.fetched);
     }
 }

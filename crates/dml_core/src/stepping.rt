@@ -237,7 +237,18 @@ impl World {
         Ok(())
     }
 
-    /// The jobs of the first wave are carried out in list order.
+    /// Lets a plan go whose waves are all committed.
+    pub(crate) fn forget_plan(&mut self)
+        ensures { self.new ≡ self.old }
+    {
+        if self.committed == self.waves.len() {
+            self.waves.clear();
+            self.waves.shrink_to(0);
+            self.committed = 0;
+        }
+    }
+
+    /// The jobs of the first wave are carried out in list order. The memory of its places is given back.
     #[tactic(auto, using(crate::proofs::StepFacts::next_tasks, crate::proofs::StepFacts::waves_left))]
     fn commit(&mut self, alloc: Global) -> Result<(), Refusal>
         ensures allowed { OnOk result (is_allowed self.old Commit ≡ true) }
@@ -268,6 +279,7 @@ impl World {
             self.waves[self.committed].list.as_slice(),
             self.settings.staging,
         );
+        self.waves[self.committed].forget();
         self.committed = next;
         self.tasks = tasks;
         self.taken = 0;

@@ -38,12 +38,17 @@ fn schedule_of(alloc: Global, first: u32, second: u32, steps: Vec<Step>) -> Opti
     let mut sends = Vec::new(alloc);
     push_submits(&mut sends, 0, first)?;
     push_submits(&mut sends, 1, second)?;
+    schedule_behind(alloc, &sends, steps)
+}
+
+/// A world that took the first steps, and those that it is to take.
+fn schedule_behind(alloc: Global, first: &[Step], steps: Vec<Step>) -> Option<Schedule> {
     let mut before = Counts {
         sent: [0; 3],
         fetched: [0; 3],
     };
-    before.count_all(&sends);
-    let world = world(alloc, 3)?.replay(alloc, &sends).ok()?;
+    before.count_all(first);
+    let world = world(alloc, 3)?.replay(alloc, first).ok()?;
     Some(Schedule {
         world,
         before,
@@ -82,7 +87,7 @@ fn two_rows(alloc: Global) -> Option<Schedule> {
     schedule_of(alloc, 1000, 0, steps)
 }
 
-/// A row of as many steps as one may have, almost all of them submits between two fetches, whose list grows eleven times.
+/// A row of as many steps as one may have, almost all of them submits between two fetches, whose list grows ten times.
 fn long_row(alloc: Global) -> Option<Schedule> {
     let mut steps = Vec::new(alloc);
     push_fetches(&mut steps, 0, 200)?;
@@ -99,6 +104,19 @@ fn bad_end(alloc: Global) -> Option<Schedule> {
     push_submits(&mut steps, 1, 1800)?;
     push_fetches(&mut steps, 2, 1)?;
     schedule_of(alloc, 1000, 0, steps)
+}
+
+/// A row behind a plan of a thousand jobs, all of which are committed.
+fn old_plan(alloc: Global) -> Option<Schedule> {
+    let mut first = Vec::new(alloc);
+    push_submits(&mut first, 0, 1002)?;
+    push_fetches(&mut first, 0, 1000)?;
+    first.push(Step::Commit).ok()?;
+    let mut steps = Vec::new(alloc);
+    push_fetches(&mut steps, 0, 1)?;
+    push_submits(&mut steps, 1, 1025)?;
+    push_fetches(&mut steps, 0, 1)?;
+    schedule_behind(alloc, &first, steps)
 }
 
 /// The steps by one call, and then, where memory was wanting, the one that it names alone. The lists are as long as
@@ -257,6 +275,28 @@ fn limited_bad_end_by_one_call(rt: HostRuntime) -> Result<(), Fail> {
 #[test]
 fn limited_bad_end_alone(rt: HostRuntime) -> Result<(), Fail> {
     let schedule = bad_end(rt.alloc()).ok_or("no memory")?;
+    expect_alone(&rt, rt.alloc(), schedule).ok_or("no output")?;
+    Ok(())
+}
+
+/// What both tests of the old plan do before their calls.
+#[test]
+fn set_up_of_limited_old_plan(rt: HostRuntime) -> Result<(), Fail> {
+    let schedule = old_plan(rt.alloc()).ok_or("no memory")?;
+    expect_counts(&rt, &schedule.world, schedule.before, &[]);
+    Ok(())
+}
+
+#[test]
+fn limited_old_plan_by_one_call(rt: HostRuntime) -> Result<(), Fail> {
+    let schedule = old_plan(rt.alloc()).ok_or("no memory")?;
+    expect_whole(&rt, rt.alloc(), schedule).ok_or("no output")?;
+    Ok(())
+}
+
+#[test]
+fn limited_old_plan_alone(rt: HostRuntime) -> Result<(), Fail> {
+    let schedule = old_plan(rt.alloc()).ok_or("no memory")?;
     expect_alone(&rt, rt.alloc(), schedule).ok_or("no output")?;
     Ok(())
 }

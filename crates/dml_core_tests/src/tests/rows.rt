@@ -165,39 +165,49 @@ fn row_end(steps: &[Step], first: usize) -> usize {
 }
 
 /// How many steps are allowed behind those that were counted, and which of them want memory, in the order in which they
-/// do: the submits behind a row's last fetch want theirs behind its plan.
+/// do: the submits behind a row's last fetch want theirs behind its plan, and those in front of a fetch that is not
+/// allowed once more there, since they are taken back before.
 fn wanting(alloc: Global, before: Counts, steps: &[Step]) -> Option<(usize, Vec<Want>)> {
     let mut counts = before;
     let mut wants = Vec::new(alloc);
     let mut row = 0..0;
     let mut last_fetch = None;
+    let mut behind = Vec::new(alloc);
     let mut allowed = 0;
     for (i, step) in steps.iter().enumerate() {
         let fetches = matches!(*step, Step::Fetch { .. });
         if !row.contains(&i) {
             push_plan(&mut wants, last_fetch)?;
             last_fetch = None;
+            behind.clear();
             row = if fetches { i..row_end(steps, i) } else { 0..0 };
         }
         let Some(length) = counts.length(step) else {
             break;
         };
         if is_full(length) {
-            wants
-                .push(Want {
-                    step: i,
-                    plans: false,
-                })
-                .ok()?;
+            push_growth(&mut wants, i)?;
+            behind.push(i).ok()?;
         }
         if fetches {
             last_fetch = Some(i);
+            behind.clear();
         }
         counts.count(step);
         allowed = i.saturating_add(1);
     }
     push_plan(&mut wants, last_fetch)?;
+    if row.contains(&allowed) {
+        for &step in behind.iter() {
+            push_growth(&mut wants, step)?;
+        }
+    }
     Some((allowed, wants))
+}
+
+/// A step whose list takes more memory.
+fn push_growth(wants: &mut Vec<Want>, step: usize) -> Option<()> {
+    wants.push(Want { step, plans: false }).ok()
 }
 
 /// The plan behind a row's last fetch, if there is one.

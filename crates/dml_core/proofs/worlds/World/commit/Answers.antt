@@ -1,5 +1,5 @@
-use Rattle.std.proofs.Common.{◌≡◌, ◌<◌, ◌+◌, List, ℕ, [], length, get_or, map, drop, ap, ◌∙◌, arith}
-use Rattle.std.proofs.lemmas.List.{get_or_read}
+use Rattle.std.proofs.Common.{◌≡◌, ◌<◌, ◌+◌, List, ℕ, [], length, get_or, map, drop, set, ap, ◌∙◌, arith}
+use Rattle.std.proofs.lemmas.List.{drop-set-lt, get_or_read}
 use Rattle.dml_core.specs.Types.{Fetched, Task, Commit}
 use Rattle.dml_core.specs.Plan.{jobs_of, tasks_of}
 use Rattle.dml_core.specs.World.{World, after, kept_task}
@@ -21,7 +21,9 @@ returns-clause-ok c =
     ∙ ap (λ (list : List (List ℕ)). tasks_of (jobs_of s.fetched.items) s.settings.staging s.settings.chunk (get_or list (s.committed + 1) [])) c.as_slice-3.ensures.value) in
     let cleared =
     ap (λ (list : List Task). world s.settings image s.sent.items fetched (drop (s.committed + 1) waves) c.in-Ok.tasks.items s.hands.items (map (kept_task fetched image) list)) c.clear.ensures.items in
+    let forgotten : drop (s.committed + 1) (set waves s.committed c.forget.new.self) ≡ drop (s.committed + 1) waves = drop-set-lt (s.committed + 1) waves s.committed c.forget.new.self (omega arith) in
     let made =
     commit_view s.settings s.image s.sent.items s.fetched.items waves s.committed (drop s.taken s.tasks.items) s.hands.items (map (kept_task s.fetched.items s.image) s.finished.items) image fetched c.in-Ok.tasks.items c.as_slice-4.result.now
     c.carry_out_wave.ensures.done own tasks in
-    cleared ∙ (made ∙ ap (λ (w : World). after w Commit) c.self.view_is)
+    ap (λ (left : List (List ℕ)). world s.settings image s.sent.items fetched left c.in-Ok.tasks.items s.hands.items (map (kept_task fetched image) c.clear.new.self.items)) forgotten
+    ∙ (cleared ∙ (made ∙ ap (λ (w : World). after w Commit) c.self.view_is))

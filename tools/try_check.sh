@@ -46,13 +46,16 @@ ends 0 "$((9 + number)) passed, 0 failed" 'rt: dml_one proved' '9 passed, 0 fail
 for task in '[34]  rt ci' '[12]  tests/cli.sh'; do
     grep -q "^ *$task\$" "$room/said" || { echo "try_check: no time of: $task"; wrong=1; }
 done
-grep -q '^== the gate: [34] seconds, [01] minutes of a processor, 0 must-fail edits$' "$room/said" ||
+grep -q '^== the gate: [34] seconds, [01] minutes of a processor in this run, 0 must-fail edits$' "$room/said" ||
     { echo 'try_check: does not say what the gate took'; wrong=1; }
-! grep -q 'over the budget' "$room/said" || { echo 'try_check: a budget is passed too early'; wrong=1; }
 mkdir -p "$room/top/crates/one/must-fail"
-for edit in $(seq 260); do
+for edit in $(seq 259); do
     : >"$room/top/crates/one/must-fail/$edit.edit"
 done
+gate 0 '9 passed, 0 failed'
+ends 0 "$((9 + number)) passed, 0 failed"
+! grep -q 'over the budget' "$room/said" || { echo 'try_check: a budget is passed too early'; wrong=1; }
+: >"$room/top/crates/one/must-fail/260.edit"
 sed -i 's/^minutes_set=.*/minutes_set=0/' "$room/top/check"
 gate 0 '9 passed, 0 failed' 'seq 9000000 | tail -n 1 >/dev/null'
 ends 0 "$((9 + number)) passed, 0 failed" \

@@ -2,7 +2,8 @@
  * The time of jobs straight over buffers, beside kazovuni_submit_pointers with the same descriptors: rows of a name, a
  * number of bytes and the nanoseconds of one job. A name is WAY_JOB, where the way is `buffers` (the operation's own
  * call), `execute` (kazovuni_execute), `pointers` (kazovuni_submit_pointers) or `libc` (memmove, memset, memcmp). The
- * ways of a job take turns, and each has its least mean of nine. bench/c_calls.sh builds and runs it.
+ * ways of a job take turns, and each has its least mean of nine. Behind an apply's rows stands one named entries_JOB,
+ * with the number of its entries in place of a time. bench/c_calls.sh builds and runs it.
  */
 #include "kazovuni.h"
 #include "timing.h"
@@ -129,8 +130,10 @@ static void time_delta(const char *created, const char *applied, size_t bytes, s
     delta_size = made.delta_size;
     job = (kazovuni_job){.opcode = 0x08, .source = (uintptr_t)delta, .target = (uintptr_t)one,
                          .size = (uint32_t)bytes, .delta_size = made.delta_size};
-    if (made.delta_size > 0)
-        print_rows(applied);
+    if (made.delta_size == 0)
+        return;
+    print_rows(applied);
+    printf("entries_%s %zu %u\n", applied, size, made.delta_size / 10);
 }
 
 int main(void)

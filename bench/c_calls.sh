@@ -2,13 +2,14 @@
 # Builds the C library and bench/c_calls.c, runs that and dml_bench alternately, and prints the least and the median of
 # the calls' times, and the bars of calls from C: a move of 4 KiB over memmove, and each call over the same one inside
 # Rattle (`submit_over` on the caller's pages, `submit_to` on an image's own). Then the jobs straight over buffers, by
-# bench/c_buffers.c, beside the same ones by kazovuni_submit_pointers, with their bars as ratios.
+# bench/c_buffers.c, beside the same ones by kazovuni_submit_pointers, with their bars as ratios: of the operation's own
+# call (`buffers`) and of kazovuni_execute (`execute`), which checks the job twice.
 #
 # Usage: bench/c_calls.sh [ROUNDS]   15 rounds, where nothing else is said.
 # Wants rt, ar, a C compiler as $CC or cc, with $CFLAGS or -O2, and the program dml_bench built (rt run in
 # crates/dml_bench). Each round runs all programs, every second round in the opposite order, and a difference or a ratio
-# is taken within its round. Exit status: 0 where all bars are met, 1 where one is missed, 2 where nothing was measured, or where
-# the load before was higher than there are processors, by which no bar can be judged.
+# is taken within its round. Exit status: 0 where all bars are met, 1 where one is missed, 2 where nothing was measured,
+# or where the load before was higher than there are processors, by which no bar can be judged.
 here=$(cd "$(dirname "$0")" && pwd)
 rounds=${1:-15}
 proved=$here/../crates/dml_bench/out/dml_bench
@@ -56,6 +57,7 @@ while [ "$round" -le "$rounds" ]; do
 done
 
 awk -v busy="$busy" '
+    BEGIN { split("buffers execute", ways, " ") }
     function sort(list, count,    i, j, t) {
         for (i = 2; i <= count; i++)
             for (j = i; j > 1 && list[j - 1] > list[j]; j--) {
@@ -87,16 +89,16 @@ awk -v busy="$busy" '
     function ratio_bar(text, value, most) {
         if (value > most) missed++
         bars++
-        printf("%-64s %6.2f, at most %.2f: %s\n", text, value, most, (value > most) ? "missed" : "met")
+        printf("%-68s %6.2f, at most %.2f: %s\n", text, value, most, (value > most) ? "missed" : "met")
     }
     function bar(text, value, most) {
         if (value > most) missed++
         bars++
-        printf("%-64s %6.1f, at most %d: %s\n", text, value, most, (value > most) ? "missed" : "met")
+        printf("%-68s %6.1f, at most %d: %s\n", text, value, most, (value > most) ? "missed" : "met")
     }
     { times[$1, $2, $3] = $4; if ($1 > rounds) rounds = $1 }
     $1 == 1 && $2 ~ /^buffers_/ { job[++jobs] = substr($2, 9) " " $3 }
-    $1 == 1 && $2 !~ /^(buffers|execute|pointers|libc)_/ { row[++rows] = $2 " " $3 }
+    $1 == 1 && $2 !~ /^(buffers|execute|pointers|libc|entries)_/ { row[++rows] = $2 " " $3 }
     END {
         printf "%d rounds, nanoseconds of a job\n%-28s %8s %9s %9s\n", rounds, "call", "bytes", "least", "median"
         for (n = 1; n <= rows; n++) {
@@ -132,13 +134,18 @@ awk -v busy="$busy" '
             most = part[2] >= 4096 ? 1.05 : part[2] > 64 ? 0 : part[1] == "move" ? 0.8 : \
                 part[1] ~ /^(compare|create_none|create_all|apply_all|fill)$/ ? 0.5 : 0
             if (most > 0)
-                ratio_bar(part[1] " of " part[2] " bytes over buffers, to kazovuni_submit_pointers", \
-                    ratio("buffers_" part[1], "pointers_" part[1], part[2]), most)
-            if (part[1] == "apply_all" && part[2] >= 512)
-                ratio_bar("apply of " part[2] / 8 " entries over buffers, nanoseconds an entry", \
-                    middle_of("buffers_apply_all", part[2]) / (part[2] / 8), 2.5)
+                for (way = 1; way <= 2; way++)
+                    ratio_bar(part[1] " of " part[2] " bytes by " ways[way] ", to kazovuni_submit_pointers", \
+                        ratio(ways[way] "_" part[1], "pointers_" part[1], part[2]), most)
+            entries = part[1] ~ /^apply_/ ? times[1, "entries_" part[1], part[2]] : 0
+            if (entries >= 64)
+                for (way = 1; way <= 2; way++)
+                    ratio_bar(part[1] " of " entries " entries by " ways[way] ", nanoseconds an entry", \
+                        middle_of(ways[way] "_" part[1], part[2]) / entries, 2.5)
         }
-        ratio_bar("compare of 4096 bytes over buffers, to memcmp", ratio("buffers_compare", "libc_compare", 4096), 2.5)
+        for (way = 1; way <= 2; way++)
+            ratio_bar("compare of 4096 bytes by " ways[way] ", to memcmp", \
+                ratio(ways[way] "_compare", "libc_compare", 4096), 2.5)
         printf "%d of %d bars of calls from C are missed\n", missed, bars
         exit missed > 0
     }' "$work/times"

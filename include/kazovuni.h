@@ -44,6 +44,13 @@ extern "C" {
 
 #define KAZOVUNI_MOST_STAGING UINT32_C(16777216)
 
+/* How this header's own functions are declared: a C++ program has each of them once, however many files include it. */
+#ifdef __cplusplus
+#define KAZOVUNI_INLINE inline
+#else
+#define KAZOVUNI_INLINE static inline
+#endif
+
 /* What a call answers. Whatever is not KAZOVUNI_OK, nothing was changed. */
 enum {
     KAZOVUNI_OK = 0,
@@ -237,29 +244,31 @@ uint8_t kazovuni_submit_list(
     kazovuni_engine *engine, const uint8_t *descriptors, size_t jobs, uint8_t *records, size_t answers);
 
 /* What stands in a descriptor at a place: a number, an address, and the pointer that it is. x86-64 has them so too. */
-static inline uint32_t kazovuni_number_at(const uint8_t *place)
+KAZOVUNI_INLINE uint32_t kazovuni_number_at(const uint8_t *place)
 {
     uint32_t number;
     memcpy(&number, place, sizeof number);
     return number;
 }
 
-static inline uint64_t kazovuni_address_at(const uint8_t *place)
+KAZOVUNI_INLINE uint64_t kazovuni_address_at(const uint8_t *place)
 {
     uint64_t address;
     memcpy(&address, place, sizeof address);
     return address;
 }
 
-static inline uint8_t *kazovuni_pointer_at(const uint8_t *place)
+KAZOVUNI_INLINE uint8_t *kazovuni_pointer_at(const uint8_t *place)
 {
-    uint8_t *pointer;
-    memcpy(&pointer, place, sizeof pointer);
-    return pointer;
+#ifdef __cplusplus
+    return reinterpret_cast<uint8_t *>(static_cast<uintptr_t>(kazovuni_address_at(place)));
+#else
+    return (uint8_t *)(uintptr_t)kazovuni_address_at(place);
+#endif
 }
 
 /* A move by the descriptor's own addresses: where the ranges overlap, inside the buffer that both of them make up. */
-static inline uint8_t kazovuni_execute_move(const uint8_t descriptor[64], uint8_t record[32])
+KAZOVUNI_INLINE uint8_t kazovuni_execute_move(const uint8_t descriptor[64], uint8_t record[32])
 {
     const uint8_t *from = descriptor + 16, *to = descriptor + 24, *lower;
     uint64_t source = kazovuni_address_at(from), target = kazovuni_address_at(to);
@@ -277,13 +286,14 @@ static inline uint8_t kazovuni_execute_move(const uint8_t descriptor[64], uint8_
  * completion record. It answers KAZOVUNI_OK. The job is checked first, and no range of a refused one is touched: so
  * ranges that are written may be refused for sharing a byte with others, and those of a move may overlap. The ranges
  * of an accepted job have to be memory of the caller's: one that is not mapped is the process's own fault signal.
- * Neither the descriptor nor the record may lie in a range that is written, nor the record in any range.
+ * Neither the descriptor nor the record may lie in a range that is written, nor the record in any range; and whether
+ * the job is refused or not, the two may not share a byte with each other.
  */
-static inline uint8_t kazovuni_execute(const uint8_t descriptor[64], uint8_t record[32])
+KAZOVUNI_INLINE uint8_t kazovuni_execute(const uint8_t descriptor[64], uint8_t record[32])
 {
     const uint8_t *d = descriptor;
     size_t size = kazovuni_number_at(d + 32);
-    if (kazovuni_check(d, UINT32_C(1048576)) != 0) /* a mebibyte of staging is enough for every job */
+    if (kazovuni_check(d, 1048576u) != 0) /* a mebibyte of staging is enough for every job */
         return kazovuni_fill(d, NULL, 0, record); /* as any call, it answers the record of a refused job */
     switch (d[7]) {
     case 0x03:

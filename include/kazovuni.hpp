@@ -4,8 +4,8 @@
  * byte with another one of the call, or the job is refused, but in mem_move; buffers that are only read may be shared
  * by any number of threads; nothing is allocated, and nothing is thrown.
  *
- * Operations are values that are called, or passed to execute: so a program that was written for Intel's C++ interface
- * changes the name of the namespace. Each of these is the same call:
+ * Operations are values that are called, or passed to execute, by the names of Intel's C++ interface: most of a program
+ * that was written for it changes the namespace alone, and docs/C.md lists what else. Each of these is the same call:
  *
  *     dml::execute<dml::software>(dml::mem_move, dml::make_view(source), dml::make_view(target))
  *     kazovuni::execute<kazovuni::software>(
@@ -20,6 +20,7 @@
 #include <algorithm>
 #include <cstddef>
 #include <cstdint>
+#include <iterator>
 #include <limits>
 #include <optional>
 #include <ranges>
@@ -31,6 +32,8 @@ namespace kazovuni {
 
 using view = std::span<std::uint8_t>;
 using const_view = std::span<const std::uint8_t>;
+using data_view = view;
+using const_data_view = const_view;
 
 /* How a job ended: the statuses of completion records that come up over buffers. From bad_size on it was refused. */
 enum class status_code : std::uint8_t {
@@ -40,7 +43,7 @@ enum class status_code : std::uint8_t {
     not_rising = 0x07,           /* apply_delta: an offset of the record is not above the one before it */
     offset_range = 0x08,         /* apply_delta: an offset of the record lies behind the target */
     bad_size = 0x13,             /* above 1,048,576; of a delta above 524,288, or no multiple of 8 */
-    bad_delta_size = 0x15,       /* a delta record has 10 bytes for each entry, at most 655,360 */
+    bad_delta_size = 0x15,       /* a record has 10 bytes an entry, at most 655,360; a create wants room for one */
     buffers_overlapping = 0x16,  /* a buffer that is written shares a byte with another one */
     dualcast_bad_padding = 0x17, /* the low 12 bits of the two targets' addresses differ */
     bad_alignment = 0x1c         /* a delta's sources and targets stand at multiples of 8 */
@@ -56,6 +59,15 @@ struct job_result {
     std::size_t delta_record_size; /* of create_delta */
 };
 
+using mem_move_result = job_result;
+using mem_copy_result = job_result;
+using fill_result = job_result;
+using dualcast_result = job_result;
+using compare_result = job_result;
+using compare_pattern_result = job_result;
+using create_delta_result = job_result;
+using apply_delta_result = job_result;
+
 /* The bytes of a vector, an array or whatever else lies in one piece. */
 template <std::ranges::contiguous_range Range>
     requires std::ranges::sized_range<Range> && std::is_trivially_copyable_v<std::ranges::range_value_t<Range>>
@@ -67,11 +79,22 @@ auto make_view(Range &&range) noexcept
     return std::span<byte>(reinterpret_cast<byte *>(std::ranges::data(range)), length);
 }
 
+/* Those of so many elements from a place on, and of the elements between two places. */
+template <std::contiguous_iterator Iterator> auto make_view(Iterator first, std::size_t count) noexcept
+{
+    return make_view(std::span(first, count));
+}
+
+template <std::contiguous_iterator Iterator> auto make_view(Iterator first, Iterator last) noexcept
+{
+    return make_view(std::span(first, last));
+}
+
 namespace detail {
 
 enum : std::uint8_t { move = 0x03, fill, compare, compare_pattern, create_delta, apply_delta, dualcast };
-constexpr std::uint32_t check_result = 0x80;
-constexpr std::size_t entry = 10, most_delta = 655360;
+inline constexpr std::uint32_t check_result = 0x80;
+inline constexpr std::size_t entry = 10, most_delta = 655360;
 
 inline std::uint64_t address_of(const_view bytes) noexcept
 {
@@ -96,13 +119,13 @@ inline job_result execute(const kazovuni_job &job) noexcept
     return {status_code{fields.status}, result, fields.completed, fields.delta_size};
 }
 
-/* The job, checked for a result where one is expected: a compare's whole byte, a create's mask of results. */
+/* The job, checked for a result where one is expected: a compare's whole byte, a create's mask of eight results. */
 inline job_result execute(kazovuni_job job, std::optional<comparison_result> expected) noexcept
 {
     if (expected) {
         auto result = static_cast<std::uint8_t>(*expected);
         job.flags = check_result;
-        job.expected = job.opcode == create_delta ? static_cast<std::uint8_t>(1u << result) : result;
+        job.expected = job.opcode != create_delta ? result : static_cast<std::uint8_t>(result < 8 ? 1u << result : 0u);
     }
     return execute(job);
 }
@@ -119,7 +142,10 @@ inline kazovuni_job job_of(std::uint8_t opcode, std::uint64_t source, std::uint6
 
 } // namespace detail
 
-/* Copies a buffer over another one of the same length. The two may overlap: the bytes come as they stood before. */
+/*
+ * Copies a buffer over another one of the same length. The two may overlap: the bytes come as they stood before, in
+ * mem_copy too, which is the same call.
+ */
 struct mem_move_operation {
     job_result operator()(const_view source, view target) const noexcept
     {
@@ -129,7 +155,7 @@ struct mem_move_operation {
             detail::job_of(detail::move, detail::address_of(source), detail::address_of(target), source.size()));
     }
 };
-inline constexpr mem_move_operation mem_move{};
+inline constexpr mem_move_operation mem_move{}, mem_copy{};
 
 /* Fills a buffer with 8 bytes over and over, the lowest of the number first. */
 struct fill_operation {
@@ -195,7 +221,7 @@ inline constexpr compare_pattern_operation compare_pattern{};
 
 /*
  * Writes how the second buffer differs from the first: an entry of 10 bytes for each differing block of 8, as many as
- * the third buffer has room for.
+ * the third buffer has room for. That has to be one at least, also where nothing differs: else bad_delta_size.
  */
 struct create_delta_operation : expecting<create_delta_operation> {
     job_result operator()(const_view one, const_view other, view delta) const noexcept
@@ -221,7 +247,11 @@ struct apply_delta_operation {
         return detail::execute(job);
     }
 
-    /* The same with the buffer in which a create left its record, and the create's result. */
+    /*
+     * The same with the buffer in which a create left its record, and the create's result. What stands there is
+     * applied: of a record that overflowed, the entries that it has; of a create that was refused, nothing. Both end in
+     * ok, so look at the create's status and result first.
+     */
     job_result operator()(const_view delta, view target, const job_result &created) const noexcept
     {
         return (*this)(delta.first(std::min(delta.size(), created.delta_record_size)), target);

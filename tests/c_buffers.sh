@@ -1,13 +1,14 @@
 #!/bin/sh
-# Jobs straight over the caller's own buffers, through the C library as both of the kit's compilers make it:
-# random ones against kazovuni_submit_pointers and the evaluator of tests/fuzz (tests/c/buffers_random.c), buffers of
-# exact length between pages that are not mapped (buffers_exact.c), both as gcc and as clang compile them, under the
-# address, leak and undefined-behaviour sanitizers; the second one under valgrind's memcheck too, where no byte beside a
-# buffer may be touched; and eight threads over parts of one allocation with shared sources (buffers_threads.c), under
-# helgrind and drd, each of which has to report the race that is planted then. `check` calls it.
+# Jobs straight over the caller's own buffers, through the C library as both of the kit's compilers make it: random ones
+# against kazovuni_submit_pointers and the evaluator of tests/fuzz (tests/c/buffers_random.c) and buffers of exact
+# length between pages that are not mapped (buffers_exact.c), both as gcc and as clang compile them, under the address,
+# leak and undefined-behaviour sanitizers; the second one under valgrind's memcheck too, where no byte beside a buffer
+# may be touched, not by a load of which a part lies in it either, and a read that is planted there has to be reported;
+# and eight threads over parts of one allocation with shared sources (buffers_threads.c), under helgrind and drd, each
+# of which has to report the race that is planted then. `check` calls it.
 #
-# Usage, from anywhere: sh tests/c_buffers.sh [SEED [COUNT]]   seed 1 and 100,000 random jobs, where nothing else is said
-# Wants rt, gcc or clang, and valgrind; where one of these is not there, a line says so.
+# Usage, from anywhere: sh tests/c_buffers.sh [SEED [COUNT]]   seed 1 and 100,000 random jobs where nothing else is said
+# Wants rt, gcc or clang with its sanitizers, and valgrind; where one of these is not there, a line says so.
 cd "$(dirname "$0")/.." || exit 2
 work=$(mktemp -d) || exit 2
 trap 'rm -rf "$work"' EXIT
@@ -30,6 +31,15 @@ has() {
     return 1
 }
 
+# sanitizes COMPILER: whether it is there, and its sanitizers with it
+sanitizes() {
+    has "$1" || return
+    echo 'int main(void) { return 0; }' >"$work/none.c"
+    "$1" $sanitized -o "$work/none" "$work/none.c" 2>/dev/null && "$work/none" 2>/dev/null && return
+    echo "c_buffers: $1 has no sanitizers here: what it would build or run is left out"
+    return 1
+}
+
 # passes WHAT COMMAND..: a command that ends with status 0
 passes() {
     what=$1
@@ -48,6 +58,22 @@ compiled() {
         tests/fuzz/jobs.c "$work/$kit/lib/libkazovuni.a" -pthread
 }
 
+# memcheck WORD: the exact buffers by that word, with each load that touches a byte beside one as an error
+memcheck() {
+    valgrind --partial-loads-ok=no --error-exitcode=9 "$work/exact" "$1"
+}
+
+# watches: memcheck reports nothing, by a program that tells it where the buffers end, and then the planted read
+watches() {
+    passes "exact buffers under memcheck, on the library of $kit" memcheck 61 && {
+        grep -q 'no byte beside a buffer is touched' "$work/out" ||
+            complain "exact buffers under memcheck: built without valgrind/memcheck.h, so nothing was watched"
+    }
+    memcheck beside >"$work/out" 2>&1
+    status=$?
+    [ "$status" = 9 ] || complain "memcheck does not report the planted read: status $status"
+}
+
 # reports TOOL: the planted race is reported, and without it nothing is
 reports() {
     passes "$1 over the threads" valgrind --tool="$1" --error-exitcode=9 "$work/threads" 2 1024
@@ -61,7 +87,7 @@ for kit in llvm rattle; do
 done
 tried=
 for compiler in gcc clang; do
-    has "$compiler" || continue
+    sanitizes "$compiler" || continue
     tried="$tried $compiler"
     for kit in llvm rattle; do
         by="by $compiler on the library of $kit"
@@ -70,14 +96,13 @@ for compiler in gcc clang; do
         compiled threads "$compiler" $sanitized && passes "threads $by" "$work/threads" 200 4096
     done
 done
-[ -n "$tried" ] || complain "neither gcc nor clang is here"
+[ -n "$tried" ] || { complain "neither gcc nor clang is here with its sanitizers"; exit 1; }
 for kit in llvm rattle; do
     compiled exact ${tried##* } -O2 || continue
     passes "exact buffers, all alignments, on the library of $kit" "$work/exact"
     compiled threads ${tried##* } -O2
     has valgrind || continue
-    passes "exact buffers under memcheck, on the library of $kit" \
-        valgrind --error-exitcode=9 "$work/exact" 61
+    watches
     reports helgrind
     reports drd
 done

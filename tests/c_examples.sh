@@ -3,15 +3,16 @@
 # the C library; builds the examples of examples/c, runs them and compares what they print; and plays the log of a
 # driver against the little device. All of that as gcc and as clang compile it, under the address, leak and
 # undefined-behaviour sanitizers, on the library as both of the kit's compilers make it; then each example as the head
-# of its file says it. `check` calls it. Wants rt, gcc or clang, and basenc; where a compiler or another language is
-# not there, a line says so.
+# of its file says it, and lengths that 32 bits do not hold by the words of the examples in Rust and Python. `check`
+# calls it. Wants rt, gcc or clang with its sanitizers, and basenc; where a compiler or another language is not there, a
+# line says so.
 cd "$(dirname "$0")/.." || exit 2
 work=$(mktemp -d) || exit 2
 trap 'rm -rf "$work"' EXIT
 trap 'exit 2' HUP INT TERM
 failed=0
-strict='-Wall -Wextra -Werror -pedantic -Wno-missing-field-initializers -O1 -g'
-strict="$strict -fsanitize=address,undefined -fno-sanitize-recover=all"
+sanitized='-fsanitize=address,undefined -fno-sanitize-recover=all'
+strict="-Wall -Wextra -Werror -pedantic -Wno-missing-field-initializers -O1 -g $sanitized"
 
 complain() {
     printf 'c_examples: %s\n' "$*" >&2
@@ -22,6 +23,15 @@ complain() {
 has() {
     "$1" --version >/dev/null 2>&1 && return
     echo "c_examples: no $1 here: what it would build or run is left out"
+    return 1
+}
+
+# sanitizes COMPILER: whether it is there, and its sanitizers with it
+sanitizes() {
+    has "$1" || return
+    echo 'int main() { return 0; }' >"$work/none.c"
+    "$1" $sanitized -o "$work/none" "$work/none.c" 2>/dev/null && "$work/none" 2>/dev/null && return
+    echo "c_examples: $1 has no sanitizers here: what it would build or run is left out"
     return 1
 }
 
@@ -177,6 +187,18 @@ as_written() {
     rm -f "$work/folder/$example"
 }
 
+# try_lengths LANGUAGE: lengths that 32 bits do not hold
+try_lengths() {
+    case $1 in
+        rs)
+            passes "lengths.rs is compiled" rustc --edition 2021 -L "$work/llvm/lib" -l static=kazovuni \
+                -o "$work/lengths" tests/c/lengths.rs &&
+                passes "the lengths in Rust" "$work/lengths"
+            ;;
+        py) passes "the lengths in Python" env KAZOVUNI="$work/llvm/lib/libkazovuni.so" python3 -B tests/c/lengths.py ;;
+    esac
+}
+
 # ---- all of it
 
 for kit in llvm rattle; do
@@ -184,16 +206,16 @@ for kit in llvm rattle; do
 done
 tried=
 for compiler in gcc clang; do
-    has "$compiler" || continue
+    sanitizes "$compiler" || continue
     tried="$tried $compiler"
     for kit in llvm rattle; do
         try_rows "$compiler"
         try_examples c "$compiler" -std=c11
     done
 done
-[ -n "$tried" ] || complain "neither gcc nor clang is here"
+[ -n "$tried" ] || complain "neither gcc nor clang is here with its sanitizers"
 for compiler in g++ clang++; do
-    has "$compiler" || continue
+    sanitizes "$compiler" || continue
     kit=llvm
     try_examples cpp "$compiler" -std=c++20
 done
@@ -214,6 +236,7 @@ for language in 'cc c' 'c++ cpp' 'rustc rs' 'python3 py'; do
         file=${file#examples/c/}
         [ "${file%.*}" = kazovuni ] || as_written "$file"
     done
+    try_lengths "${language#* }"
 done
 [ "$failed" = 0 ] && echo "c_examples: passed"
 exit "$failed"

@@ -2,8 +2,8 @@
 # Builds and installs the C library into a folder of its own, as both of the kit's compilers make it, holds it against
 # include/kazovuni.h and against what docs/C.md says that it takes from outside, and runs the worked rows through it: in
 # C under the address, leak and undefined-behaviour sanitizers, with each growth of memory refused in turn, and over the
-# shared library. `check` calls it. Wants a C compiler as $CC or cc, and nm; where c++ and python3 are there, they try
-# the header and the shared library too.
+# shared library. `check` calls it. Wants a C compiler as $CC or cc, and nm; where c++, g++, clang++ and python3 are
+# there, they try the headers and the shared library too, and where one is not, a line says so.
 cd "$(dirname "$0")/.." || exit 2
 work=$(mktemp -d) || exit 2
 trap 'rm -rf "$work"' EXIT
@@ -15,11 +15,18 @@ complain() {
     failed=1
 }
 
+# has COMMAND: whether it is there and runs
+has() {
+    "$1" --version >/dev/null 2>&1 && return
+    echo "c_library: no $1 here: what it would try is left out"
+    return 1
+}
+
 "$cc" -O2 -Wall -Wextra -Werror -shared -fPIC -o "$work/refuse.so" tests/refuse.c || exit 1
 
 # The names that the header declares, and those that the library has; its own inline functions are in no library.
 grep -o '\bkazovuni_[a-z_]*(' include/kazovuni.h | tr -d '(' | sort -u >"$work/named"
-sed -n 's/^static inline .*\(kazovuni_[a-z_]*\)(.*/\1/p' include/kazovuni.h | sort -u >"$work/inline"
+sed -n 's/^KAZOVUNI_INLINE .*\(kazovuni_[a-z_]*\)(.*/\1/p' include/kazovuni.h | sort -u >"$work/inline"
 comm -23 "$work/named" "$work/inline" >"$work/declared"
 
 # The functions that it may take from outside: docs/C.md names them.
@@ -43,6 +50,27 @@ int main(void)
 }
 END
 strict='-pedantic -Wall -Wextra -Werror -Wcast-qual -Wconversion'
+
+# Two files of one C++ program, by -DOTHER or without: what the headers define is there once, whichever file asks.
+cat >"$work/files.cpp" <<'END'
+#include "kazovuni.hpp"
+struct places {
+    std::uint8_t (*execute)(const std::uint8_t *, std::uint8_t *);
+    const std::size_t *most;
+    const void *move;
+};
+places other_places();
+static places own_places() { return {&kazovuni_execute, &kazovuni::detail::most_delta, &kazovuni::mem_move}; }
+#ifdef OTHER
+places other_places() { return own_places(); }
+#else
+int main()
+{
+    places here = own_places(), there = other_places();
+    return here.execute != there.execute || here.most != there.most || here.move != there.move;
+}
+#endif
+END
 
 # try COMPILER: the library as this compiler of the kit makes it
 try() {
@@ -84,19 +112,28 @@ try() {
 
 try llvm
 try rattle
-if command -v c++ >/dev/null; then
+if has c++; then
     for standard in c++98 c++11 c++20; do
         c++ -x c++ -std=$standard $strict -I"$work/llvm/include" -o "$work/plus" "$work/strict.c" -x none \
             "$work/llvm/lib/libkazovuni.a" && "$work/plus" || complain "a strict caller in $standard"
     done
 fi
+echo 'int main() { return 0; }' >"$work/none.cpp"
 for compiler in g++ clang++; do
-    command -v $compiler >/dev/null || continue
-    $compiler -std=c++20 $strict -Wold-style-cast -Wshadow -O1 -g -fsanitize=address,undefined \
-        -fno-sanitize-recover=all -I"$work/llvm/include" -o "$work/spans" tests/c/spans.cpp \
-        "$work/llvm/lib/libkazovuni.a" && "$work/spans" || complain "the spans by $compiler: status $?"
+    has $compiler || continue
+    plus="$compiler -std=c++20 $strict -Wold-style-cast -Wshadow -I$work/llvm/include"
+    $plus -DOTHER -c -o "$work/other.o" "$work/files.cpp" &&
+        $plus -o "$work/files" "$work/files.cpp" "$work/other.o" "$work/llvm/lib/libkazovuni.a" && "$work/files" ||
+        complain "two files by $compiler: status $?"
+    sanitized="$plus -O1 -g -fsanitize=address,undefined -fno-sanitize-recover=all"
+    if ! $sanitized -o "$work/none" "$work/none.cpp" 2>/dev/null || ! "$work/none"; then
+        echo "c_library: $compiler has no sanitizers here: the spans are tried without them"
+        sanitized="$plus -O1 -g"
+    fi
+    $sanitized -o "$work/spans" tests/c/spans.cpp "$work/llvm/lib/libkazovuni.a" && "$work/spans" ||
+        complain "the spans by $compiler: status $?"
 done
-if command -v python3 >/dev/null; then
+if has python3; then
     python3 - "$work/llvm/lib/libkazovuni.so" <<'END' || complain "Python"
 import ctypes, sys
 library = ctypes.CDLL(sys.argv[1])

@@ -13,7 +13,7 @@ enum Piece<'a> {
     Alike(&'a [u8], usize),
 }
 
-/// Carries a job out over the packet, of which so many bytes are there; answers its record, and how many are there then.
+/// Carries a job out over the packet, of which so many bytes are there. Answers its record and how many are there then.
 fn carry_out(piece: &Piece, packet: &mut [u8], there: usize) -> Result<(Record, usize), Refused> {
     match *piece {
         Piece::Move(bytes) => Ok((move_bytes(bytes, &mut packet[there..][..bytes.len()])?, there + bytes.len())),

@@ -7,6 +7,7 @@
  * such a page is a fault signal of the process.
  *
  * Usage: buffers_exact [STEP]   only each STEP-th alignment of the second buffer, 1 where nothing is said
+ *        buffers_exact beside   a read of bytes beside a buffer, which memcheck has to report
  */
 #define _GNU_SOURCE
 #include "buffers.h"
@@ -27,12 +28,22 @@
 #define VALGRIND_MAKE_MEM_DEFINED(bytes, length) ((void)(bytes), (void)(length))
 #endif
 
-enum { AREA = 2 * ENOUGH, BESIDE = 128, BLANK = 0xc7, ALIGNMENTS = 64, MOST_LENGTH = 130 };
+enum { AREA = 2 * ENOUGH, BESIDE = 128, BLANK = 0xc7, ALIGNMENTS = 64, MOST_LENGTH = 130, MOST_ENTRIES = 65536 };
 enum place { BEHIND_A_PAGE, BEFORE_A_PAGE, PLACES };
+
+/* What a create and an apply meet; other jobs are plain. */
+enum kind {
+    PLAIN,  /* some blocks differ, with any room; offsets that rise, inside the target */
+    EDGE,   /* all blocks differ, with just the room for them; an offset equal to the one before it */
+    BEYOND, /* all blocks differ, and one entry has no room; an offset behind the target */
+    KINDS
+};
 
 static uint8_t *areas[RANGES]; /* AREA bytes each, between pages that are not mapped */
 static struct image image;
 static uint64_t jobs;
+static uint64_t written, full;  /* creates that wrote all entries, and those that had no room for one */
+static uint64_t equal, outside; /* applies that stopped at an equal offset, and at one behind the target */
 
 static uint8_t *area(void)
 {
@@ -174,17 +185,44 @@ static void try_within(uint32_t size, uint32_t apart, size_t alignment, bool is_
     }
 }
 
-/* Bytes of the image: few values, two sources that are alike but for some bytes, a delta record whose offsets rise. */
-static void fill_image(const struct job *job)
+/* The second source of a create: the first, but for the blocks that are to differ. */
+static void fill_second(const struct job *job, enum kind kind)
+{
+    uint8_t *second = image.bytes + job->target;
+    uint32_t blocks = job->size / 8;
+    memcpy(second, image.bytes + job->source, job->size);
+    for (uint32_t i = 0; kind == PLAIN && blocks > 0 && i <= blocks / 2; i++)
+        second[below(job->size)] |= 0x40;
+    for (uint32_t block = 0; kind != PLAIN && block < blocks; block++)
+        second[8 * (uint64_t)block + below(8)] |= 0x40;
+}
+
+/* The offsets of a delta record. */
+static void fill_offsets(const struct job *job, enum kind kind)
+{
+    uint8_t *delta = image.bytes + job->source;
+    uint32_t blocks = job->size / 8, entries = job->delta_size / 10;
+    for (uint32_t x = 0; x < entries; x++)
+        put_number(delta + 10 * (uint64_t)x, x * blocks / entries, 2);
+    if (kind == EDGE) {
+        uint8_t *entry = delta + 10 * (1 + below(entries - 1));
+        memcpy(entry, entry - 10, 2);
+    }
+    if (kind == BEYOND)
+        put_number(delta + 10 * below(entries), blocks + below(65536 - blocks), 2);
+}
+
+/* Bytes of the image: few values, in which the job finds something to do. */
+static void fill_image(const struct job *job, enum kind kind)
 {
     struct buffer ranges[RANGES];
     ranges_of(job, ranges);
     for (int i = 0; i < RANGES; i++)
         for (size_t k = 0; ranges[i].is_there && k < ranges[i].length; k++)
             image.bytes[ranges[i].address + k] = (uint8_t)below(4);
-    if (job->opcode == COMPARE || job->opcode == CREATE) {
+    if (job->opcode == COMPARE) {
         memcpy(image.bytes + job->target, image.bytes + job->source, job->size);
-        for (uint32_t i = job->opcode == COMPARE ? 0 : job->size / 16; job->size > 0 && one_in(2) && i < 3; i++)
+        for (int i = 0; job->size > 0 && one_in(2) && i < 3; i++)
             image.bytes[job->target + below(job->size)] ^= 0x40;
     }
     if (job->opcode == COMPARE_PATTERN) {
@@ -193,9 +231,29 @@ static void fill_image(const struct job *job)
         if (job->size > 0 && one_in(2))
             image.bytes[job->source + below(job->size)] ^= 0x40;
     }
+    if (job->opcode == CREATE)
+        fill_second(job, kind);
     if (job->opcode == APPLY)
-        for (uint32_t x = 0; x < job->delta_size / 10; x++)
-            put_number(image.bytes + job->source + 10 * (uint64_t)x, x * (job->size / 8) / (job->delta_size / 10), 2);
+        fill_offsets(job, kind);
+}
+
+/* How many entries a job of a kind has, or has room for. */
+static uint32_t entries_of(uint8_t opcode, uint32_t size, enum kind kind)
+{
+    uint32_t blocks = size / 8;
+    if (opcode == CREATE && kind == PLAIN)
+        return 1 + (uint32_t)below(blocks < MOST_ENTRIES ? blocks + 1 : blocks);
+    if (opcode == CREATE)
+        return kind == EDGE ? blocks : blocks - 1;
+    if (opcode == APPLY)
+        return (uint32_t)(kind == PLAIN ? below(blocks + 1) : 2 + below(blocks - 1));
+    return 0;
+}
+
+/* The kinds that there are of an operation and a size: those that are not plain want two blocks. */
+static enum kind kinds_of(uint8_t opcode, uint32_t size)
+{
+    return (opcode == CREATE || opcode == APPLY) && size >= 16 ? KINDS : PLAIN + 1;
 }
 
 /* A job whose ranges stand in the image one behind the other, whatever their alignment is elsewhere. */
@@ -209,10 +267,30 @@ static struct job job_of(uint8_t opcode, uint32_t size, uint32_t delta_size)
     return job;
 }
 
-static void try_alignments(const struct job *job, size_t step)
+/* Counts what the evaluator answers of a create or an apply, which has to be what its kind is for. */
+static void count(const struct job *job, enum kind kind, const uint8_t record[32])
 {
-    fill_image(job);
+    static const struct buffer none[RANGES];
+    bool is_create = job->opcode == CREATE, is_apply = job->opcode == APPLY;
+    bool is_written = is_create && record[1] == 1, is_full = is_create && record[1] == 2;
+    bool is_equal = is_apply && record[0] == 0x07, is_outside = is_apply && record[0] == 0x08;
+    written += is_written, full += is_full, equal += is_equal, outside += is_outside;
+    if (kind == EDGE ? !is_written && !is_equal : kind == BEYOND && !is_full && !is_outside)
+        fail(job, "it does not meet what it is made for", none);
+}
+
+/* A job whose bytes are of a kind, and its answer. */
+static struct answer prepared(const struct job *job, enum kind kind)
+{
+    fill_image(job, kind);
     struct answer answer = evaluate(job);
+    count(job, kind, answer.record);
+    return answer;
+}
+
+static void try_alignments(const struct job *job, enum kind kind, size_t step)
+{
+    struct answer answer = prepared(job, kind);
     bool has_one = job->opcode == FILL || job->opcode == COMPARE_PATTERN;
     for (size_t first = 0; first < ALIGNMENTS; first++)
         for (size_t second = has_one ? first : first % step; second < ALIGNMENTS; second += step) {
@@ -229,45 +307,47 @@ static void try_lengths(size_t step)
 {
     image.pages = 3 * ENOUGH / PAGE;
     for (uint8_t opcode = MOVE; opcode <= DUALCAST; opcode++)
-        for (uint32_t size = 0; size <= MOST_LENGTH; size++) {
-            bool is_delta = opcode == CREATE || opcode == APPLY;
-            if (is_delta && size % 8 != 0)
-                continue;
-            uint32_t entries = is_delta ? (opcode == CREATE) + (uint32_t)below(size / 8 + 1) : 0;
-            struct job job = job_of(opcode, size, 10 * entries);
-            try_alignments(&job, step);
-        }
+        for (uint32_t size = 0; size <= MOST_LENGTH; size++)
+            for (enum kind kind = PLAIN; kind < kinds_of(opcode, size); kind++) {
+                if ((opcode == CREATE || opcode == APPLY) && size % 8 != 0)
+                    continue;
+                struct job job = job_of(opcode, size, 10 * entries_of(opcode, size, kind));
+                try_alignments(&job, kind, step);
+            }
     for (uint32_t size = 0; size <= MOST_LENGTH; size++)
         for (size_t alignment = 0; alignment < ALIGNMENTS; alignment += step)
             for (int way = 0; way < 2; way++)
                 try_within(size, (uint32_t)below(size + 2), alignment, way == 0);
 }
 
-/* The greatest lengths, and one more, which is refused whatever the buffers. */
+/* The greatest lengths of an operation, each kind of job twice. */
+static void try_greatest(uint8_t opcode, uint32_t most)
+{
+    for (int round = 0; round < 2; round++)
+        for (enum kind kind = PLAIN; kind < kinds_of(opcode, most); kind++) {
+            uint32_t size = opcode == APPLY && kind == BEYOND ? most - 8 : most; /* no offset lies behind the most */
+            struct job job = job_of(opcode, size, 10 * entries_of(opcode, size, kind));
+            struct answer answer = prepared(&job, kind);
+            for (enum place place = 0; place < PLACES; place++)
+                try_at(&job, &answer, (const size_t[RANGES]){below(64), below(64), below(64)}, place, false);
+            try_at(&job, &answer, (const size_t[RANGES]){0, 0, 0}, BEHIND_A_PAGE, true);
+        }
+}
+
+/* The greatest lengths, and more, which is refused whatever the buffers. */
 static void try_limits(void)
 {
     static const struct buffer none[RANGES];
     for (uint8_t opcode = MOVE; opcode <= DUALCAST; opcode++) {
         bool is_delta = opcode == CREATE || opcode == APPLY;
         uint32_t most = is_delta ? ENOUGH / 2 : ENOUGH;
-        for (int round = 0; round < 4; round++) {
-            uint32_t delta_size = !is_delta ? 0 : round == 0 ? 655360 : 10 * (1 + (uint32_t)below(65536));
-            struct job job = job_of(opcode, most, delta_size);
-            fill_image(&job);
-            if (opcode == CREATE && round < 2)
-                for (uint32_t i = 0; i < most; i += 8)
-                    image.bytes[job.target + i] ^= 0x20; /* every block differs */
-            struct answer answer = evaluate(&job);
-            for (enum place place = 0; place < PLACES; place++)
-                try_at(&job, &answer, (const size_t[RANGES]){below(64), below(64), below(64)}, place, false);
-            try_at(&job, &answer, (const size_t[RANGES]){0, 0, 0}, BEHIND_A_PAGE, true);
-        }
+        try_greatest(opcode, most);
         struct job job = job_of(opcode, most + 8, is_delta ? 10 : 0);
         uint8_t descriptor[64], record[32];
         write_descriptor(&job, descriptor);
         if (call(opcode, descriptor, none, record) != KAZOVUNI_OK || record[0] != 0x13)
             fail(&job, "a size above the greatest one is not refused", none);
-        job = job_of(opcode, most, 655370);
+        job = job_of(opcode, most, 10 * (MOST_ENTRIES + 1));
         write_descriptor(&job, descriptor);
         if (is_delta && (call(opcode, descriptor, none, record) != KAZOVUNI_OK || record[0] != 0x15))
             fail(&job, "a record above the greatest size is not refused", none);
@@ -297,11 +377,25 @@ static void try_unmapped(void)
     }
 }
 
+/* A compare of 16 bytes, of which the last 8 lie beside a buffer: memcheck has to report it. */
+static int read_beside(void)
+{
+    static const uint8_t bytes[8];
+    struct job job = {.opcode = COMPARE_PATTERN, .size = 16};
+    struct buffer buffer = {.length = sizeof bytes};
+    uint8_t descriptor[64], record[32];
+    write_descriptor(&job, descriptor);
+    lay(0, &buffer, 0, BEHIND_A_PAGE, bytes);
+    return kazovuni_compare_pattern(descriptor, buffer.bytes, 16, record) == KAZOVUNI_OK ? 0 : 1;
+}
+
 int main(int argc, char **argv)
 {
     size_t step = argc > 1 ? strtoull(argv[1], NULL, 10) : 1;
     for (int i = 0; i < RANGES; i++)
         areas[i] = area();
+    if (argc > 1 && strcmp(argv[1], "beside") == 0)
+        return read_beside();
     image.bytes = calloc(3, ENOUGH);
     before = calloc(3, ENOUGH);
     if (image.bytes == NULL || before == NULL)
@@ -310,7 +404,9 @@ int main(int argc, char **argv)
     try_lengths(step == 0 ? 1 : step);
     try_limits();
     try_unmapped();
-    printf("buffers_exact: %llu jobs agree%s\n", (unsigned long long)jobs,
-           RUNNING_ON_VALGRIND ? ", and no byte beside a buffer is touched" : "");
-    return 0;
+    printf("buffers_exact: %llu jobs agree", (unsigned long long)jobs);
+    printf("; creates that wrote all: %llu, full: %llu; applies with an equal offset: %llu, with one outside: %llu%s\n",
+           (unsigned long long)written, (unsigned long long)full, (unsigned long long)equal,
+           (unsigned long long)outside, RUNNING_ON_VALGRIND ? "; no byte beside a buffer is touched" : "");
+    return written > 0 && full > 0 && equal > 0 && outside > 0 ? 0 : 1;
 }

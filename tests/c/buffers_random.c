@@ -1,7 +1,8 @@
 /*
  * Random jobs of all operations, each carried out in four ways: by kazovuni_submit_pointers, by the evaluator of
  * tests/fuzz, by kazovuni_execute, and by the operation's own call over copies of its ranges that lie anywhere. Records
- * and all bytes have to be the same; where a call answers 10 or 11, nothing may be changed.
+ * and all bytes have to be the same; where a call answers 10 or 11, nothing may be changed. A job that is accepted and
+ * has a byte outside the test's own memory is drawn anew, and not counted; a range of no byte may lie anywhere.
  *
  * Usage: buffers_random [SEED [COUNT]]   seed 1 and 100,000 jobs, where nothing else is said
  */
@@ -13,6 +14,7 @@ enum { LENGTH = 8 * PAGE };
 static uint8_t *memory, *before; /* the memory that jobs name by its own addresses, and its bytes before a job */
 static struct image image;       /* the same for the evaluator, from address 0 on */
 static uint64_t number, statuses[256], operations[16];
+static uint64_t carried_out, drawn_anew, empty_elsewhere;
 
 static void differ(const char *what, const uint8_t descriptor[64], const uint8_t got[32], const uint8_t wanted[32])
 {
@@ -35,7 +37,7 @@ static uint32_t any_size(uint8_t opcode)
 {
     uint32_t size = (uint32_t)(one_in(3) ? below(131) : one_in(40) ? below(2 * PAGE) : below(700));
     if (one_in(80))
-        size = (uint32_t)(ENOUGH / 2 - 4 + below(9) * 1000000);
+        size = one_in(2) ? 0 : (uint32_t)(ENOUGH / 2 - 4 + below(9) * 1000000);
     if ((opcode == CREATE || opcode == APPLY) && !one_in(60))
         size -= size % 8;
     return size;
@@ -49,9 +51,11 @@ static uint32_t any_delta_size(uint8_t opcode)
     return one_in(60) ? size + (uint32_t)below(10) : size;
 }
 
-/* An address in the memory, or seldom near the end of all addresses. */
-static uint64_t any_address(void)
+/* An address in the memory, or seldom near the end of all addresses; of a range of no byte any as often. */
+static uint64_t any_address(uint32_t length)
 {
+    if (length == 0 && one_in(2))
+        return any();
     if (one_in(150))
         return UINT64_MAX - below(200);
     return (uintptr_t)memory + (one_in(4) ? PAGE * below(7) : below(LENGTH - 1000));
@@ -59,9 +63,9 @@ static uint64_t any_address(void)
 
 static void lay_ranges(struct job *job)
 {
-    job->source = any_address();
-    job->target = one_in(2) ? any_address() : job->source + below(300) - 150;
-    job->extra = any_address();
+    job->source = any_address(job->opcode == APPLY ? job->delta_size : job->size);
+    job->target = one_in(2) ? any_address(job->size) : job->source + below(300) - 150;
+    job->extra = any_address(job->opcode == CREATE ? job->delta_size : job->size);
     if (job->opcode == CREATE || job->opcode == APPLY) {
         if (!one_in(40))
             job->target -= job->target % 8;
@@ -95,13 +99,19 @@ static struct job any_job(void)
     return job;
 }
 
-static bool lie_in_memory(const struct job *job)
+static bool lies_in_memory(const struct buffer *range)
+{
+    uint64_t place = range->address - (uintptr_t)memory;
+    return place <= LENGTH && range->length <= LENGTH - place;
+}
+
+/* Whether all ranges of a job lie in the memory: those of some bytes, or those of none too. */
+static bool lie_in_memory(const struct job *job, bool empty_ones_too)
 {
     struct buffer ranges[RANGES];
     ranges_of(job, ranges);
     for (int i = 0; i < RANGES; i++)
-        if (ranges[i].is_there && (ranges[i].address - (uintptr_t)memory > LENGTH ||
-                                   ranges[i].length > LENGTH - (ranges[i].address - (uintptr_t)memory)))
+        if (ranges[i].is_there && (empty_ones_too || ranges[i].length > 0) && !lies_in_memory(&ranges[i]))
             return false;
     return true;
 }
@@ -129,7 +139,7 @@ static void prepare(const struct job *job)
 {
     for (int i = 0; i < 40; i++)
         memory[below(LENGTH)] = (uint8_t)below(2);
-    if (!lie_in_memory(job))
+    if (!lie_in_memory(job, true))
         return;
     if (job->opcode == APPLY)
         write_entries(at(job->source), job->delta_size);
@@ -208,6 +218,12 @@ static uint8_t *copied(const uint8_t *bytes, size_t length)
     return block;
 }
 
+/* The bytes of a range in a copy of the memory; of one of no byte, which may lie elsewhere, none. */
+static const uint8_t *bytes_in(const uint8_t *copy, const struct buffer *range)
+{
+    return range->length == 0 ? copy : copy + (range->address - (uintptr_t)memory);
+}
+
 static void expect_untouched(
     uint8_t code, uint8_t wanted, const uint8_t descriptor[64], const struct buffer ranges[RANGES],
     const uint8_t record[32])
@@ -217,12 +233,52 @@ static void expect_untouched(
     if (code != wanted || memcmp(record, untouched, 32) != 0)
         differ("a call that is to answer 10 or 11 does not, or writes a record", descriptor, record, untouched);
     for (int i = 0; i < RANGES; i++)
-        if (ranges[i].bytes != NULL &&
-            memcmp(ranges[i].bytes, before + (ranges[i].address - (uintptr_t)memory), ranges[i].length) != 0)
+        if (ranges[i].bytes != NULL && memcmp(ranges[i].bytes, bytes_in(before, &ranges[i]), ranges[i].length) != 0)
             differ("a call that answers 10 or 11 changes a byte", descriptor, record, untouched);
 }
 
-/* The calls of other operations, and the same one with a buffer that is shorter than its range. */
+/* The same call with a buffer that is shorter than its range. */
+static void try_shorter(
+    const struct job *job, const uint8_t descriptor[64], struct buffer ranges[RANGES], struct buffer *one)
+{
+    uint8_t record[32];
+    size_t length = one->length;
+    memset(record, NO_STATUS, 32);
+    if (length == 0)
+        return;
+    one->length -= 1 + below(length);
+    expect_untouched(
+        call(job->opcode, descriptor, ranges, record), KAZOVUNI_OTHER_LENGTH, descriptor, ranges, record);
+    one->length = length;
+}
+
+/* The same call with a buffer that is longer than its range, by bytes that may not be changed either. */
+static void try_longer(
+    const struct job *job, const uint8_t descriptor[64], struct buffer ranges[RANGES], struct buffer *one)
+{
+    const struct buffer right = *one;
+    uint8_t record[32];
+    size_t more = 1 + below(one_in(2) ? 3 : 2 * PAGE);
+    uint8_t *block = malloc(right.length + more);
+    if (block == NULL)
+        abort();
+    memset(record, NO_STATUS, 32);
+    memset(block, NO_STATUS, right.length + more);
+    if (right.length > 0)
+        memcpy(block, right.bytes, right.length);
+    one->bytes = block;
+    one->length += more;
+    uint8_t code = call(job->opcode, descriptor, ranges, record);
+    one->length = right.length;
+    expect_untouched(code, KAZOVUNI_OTHER_LENGTH, descriptor, ranges, record);
+    for (size_t i = right.length; i < right.length + more; i++)
+        if (block[i] != NO_STATUS)
+            differ("a call that answers 11 changes a byte behind a range", descriptor, record, record);
+    *one = right;
+    free(block);
+}
+
+/* The calls of other operations, and the same one with a buffer that is shorter or longer than its range. */
 static void try_others(const struct job *job, const uint8_t descriptor[64], struct buffer ranges[RANGES])
 {
     uint8_t record[32], opcode = (uint8_t)(MOVE + below(7));
@@ -236,13 +292,12 @@ static void try_others(const struct job *job, const uint8_t descriptor[64], stru
                 descriptor, ranges[TARGET].address, ranges[TARGET].bytes, ranges[TARGET].length, record),
             KAZOVUNI_OTHER_OPERATION, descriptor, ranges, record);
     struct buffer *one = &ranges[below(RANGES)];
-    if (one->is_there && one->length > 0) {
-        size_t less = 1 + below(one->length);
-        one->length -= less;
-        expect_untouched(
-            call(job->opcode, descriptor, ranges, record), KAZOVUNI_OTHER_LENGTH, descriptor, ranges, record);
-        one->length += less;
-    }
+    if (!one->is_there)
+        return;
+    if (one_in(2))
+        try_shorter(job, descriptor, ranges, one);
+    else
+        try_longer(job, descriptor, ranges, one);
 }
 
 /* The operation's own call, over copies of its ranges in blocks of their own. */
@@ -254,16 +309,15 @@ static void try_call(const struct job *job, const uint8_t descriptor[64], const 
     ranges_of(job, ranges);
     for (int i = 0; i < RANGES; i++)
         if (ranges[i].is_there)
-            ranges[i].bytes = copied(before + (ranges[i].address - (uintptr_t)memory), ranges[i].length);
+            ranges[i].bytes = copied(bytes_in(before, &ranges[i]), ranges[i].length);
         else
             ranges[i].length = 0;
     try_others(job, descriptor, ranges);
     if (call(job->opcode, descriptor, ranges, record) != KAZOVUNI_OK || memcmp(record, wanted, 32) != 0)
         differ("the operation's call has another record", descriptor, record, wanted);
     for (int i = 0; i < RANGES; i++) {
-        const uint8_t *bytes = ranges[i].is_written ? image.bytes : before;
-        if (ranges[i].bytes != NULL &&
-            memcmp(ranges[i].bytes, bytes + (ranges[i].address - (uintptr_t)memory), ranges[i].length) != 0)
+        const uint8_t *bytes = bytes_in(ranges[i].is_written ? image.bytes : before, &ranges[i]);
+        if (ranges[i].bytes != NULL && memcmp(ranges[i].bytes, bytes, ranges[i].length) != 0)
             differ("the operation's call leaves other bytes", descriptor, record, wanted);
         free(ranges[i].bytes);
     }
@@ -299,28 +353,48 @@ static void try_within(const struct job *job, const uint8_t descriptor[64], cons
     free(block);
 }
 
-static void try_job(const struct job *job)
+/* Whether the job was tried: one that would run over memory that is not the test's is not. */
+static bool try_job(const struct job *job)
 {
     uint8_t descriptor[64], wanted[32];
     write_descriptor(job, descriptor);
-    bool is_refused = refusal(job, ENOUGH, false) != 0, lies_in = lie_in_memory(job);
-    if (!is_refused && !lies_in)
-        return; /* it would run over memory that is not the test's */
+    bool is_refused = refusal(job, ENOUGH, false) != 0, lies_in = lie_in_memory(job, true);
+    if (!is_refused && !lie_in_memory(job, false))
+        return false;
     prepare(job);
     memcpy(before, memory, LENGTH);
     memcpy(image.bytes, memory, LENGTH);
     evaluate(job, wanted);
     statuses[wanted[0]]++;
     operations[job->opcode % 16]++;
-    if (lies_in)
+    carried_out += !is_refused;
+    empty_elsewhere += !is_refused && !lies_in;
+    if (!is_refused || lies_in)
         try_pointers(descriptor, wanted);
     try_execute(descriptor, wanted);
     if (is_refused)
         try_refused(descriptor, wanted);
     else if (job->opcode != NO_OP)
         try_call(job, descriptor, wanted);
-    if (!is_refused && job->opcode == MOVE)
+    if (!is_refused && lies_in && job->opcode == MOVE)
         try_within(job, descriptor, wanted);
+    return true;
+}
+
+static void tell(uint64_t count)
+{
+    printf("buffers_random: %llu jobs agree, of which %llu are carried out and %llu refused; of the former %llu have a "
+           "range of no byte elsewhere; drawn anew: %llu; operations",
+           (unsigned long long)count, (unsigned long long)carried_out, (unsigned long long)(count - carried_out),
+           (unsigned long long)empty_elsewhere, (unsigned long long)drawn_anew);
+    for (int i = 0; i < 16; i++)
+        if (operations[i] > 0)
+            printf(" %02x:%llu", i, (unsigned long long)operations[i]);
+    printf("; statuses");
+    for (int i = 0; i < 256; i++)
+        if (statuses[i] > 0)
+            printf(" %02x:%llu", i, (unsigned long long)statuses[i]);
+    printf("\n");
 }
 
 int main(int argc, char **argv)
@@ -336,24 +410,23 @@ int main(int argc, char **argv)
     image.pages = LENGTH / PAGE;
     memset(image.present, true, image.pages);
     memset(memory, 0, LENGTH);
-    for (number = 0; number < count; number++) {
+    while (number < count) {
         struct job job = any_job();
-        try_job(&job);
+        if (try_job(&job))
+            number++;
+        else
+            drawn_anew++;
     }
-    printf("buffers_random: %llu jobs agree; operations", (unsigned long long)count);
-    for (int i = 0; i < 16; i++)
-        if (operations[i] > 0)
-            printf(" %02x:%llu", i, (unsigned long long)operations[i]);
-    printf("; statuses");
-    for (int i = 0; i < 256; i++)
-        if (statuses[i] > 0)
-            printf(" %02x:%llu", i, (unsigned long long)statuses[i]);
-    printf("\n");
+    tell(count);
     for (size_t i = 0; i < sizeof expected; i++)
         if (count >= 100000 && statuses[expected[i]] == 0) {
             fprintf(stderr, "buffers_random: status %02x never came up\n", expected[i]);
             return 1;
         }
+    if (count >= 100000 && empty_elsewhere == 0) {
+        fprintf(stderr, "buffers_random: no range of no byte lay elsewhere\n");
+        return 1;
+    }
     free(memory), free(before), free(image.bytes);
     return 0;
 }

@@ -149,28 +149,74 @@ static void walk_lent(enum call call, const uint8_t page[PAGE])
     expect("the staging of a call", largest == NEED && blocks == 0);
 }
 
-/* The same create over buffers of its own, by the descriptor's pointers and by lengths: it asks for nothing. */
+/* Jobs over buffers, with places in two pages of bytes: the create above, its record applied, and the others. */
+static const kazovuni_job over_buffers[] = {
+    {.opcode = 0x07, .source = 0, .target = 64, .size = 32, .extra = 128, .delta_size = 20},
+    {.opcode = 0x08, .source = 128, .target = 64, .size = 32, .delta_size = 20},
+    {.opcode = 0x03, .source = 0, .target = 64, .size = 32},
+    {.opcode = 0x03, .source = 64, .target = 72, .size = 32}, /* over itself */
+    {.opcode = 0x04, .source = 7, .target = 64, .size = 32},
+    {.opcode = 0x05, .source = 0, .target = 64, .size = 32},
+    {.opcode = 0x06, .source = 0, .target = 7, .size = 32},
+    {.opcode = 0x09, .source = 0, .target = 64, .size = 32, .extra = PAGE + 64},
+};
+enum { OVER_BUFFERS = sizeof over_buffers / sizeof *over_buffers };
+
+/* The descriptor of such a job, with the bytes' own addresses. */
+static void describe(const kazovuni_job *job, const uint8_t *bytes, uint8_t descriptor[64])
+{
+    kazovuni_job placed = *job;
+    placed.source += job->opcode == 0x04 ? 0 : (uintptr_t)bytes;
+    placed.target += job->opcode == 0x06 ? 0 : (uintptr_t)bytes;
+    placed.extra += (uintptr_t)bytes;
+    expect("encode", kazovuni_encode(&placed, descriptor));
+}
+
+static uint8_t by_lengths(const kazovuni_job *job, uint8_t *bytes, const uint8_t descriptor[64], uint8_t record[32])
+{
+    uint8_t *source = bytes + job->source, *target = bytes + job->target, *extra = bytes + job->extra;
+    size_t size = job->size, delta_size = job->delta_size;
+    switch (job->opcode) {
+    case 0x03:
+        if (source + size > target)
+            return kazovuni_move_within(descriptor, (uintptr_t)bytes, bytes, PAGE, record);
+        return kazovuni_move(descriptor, source, size, target, size, record);
+    case 0x04:
+        return kazovuni_fill(descriptor, target, size, record);
+    case 0x05:
+        return kazovuni_compare(descriptor, source, size, target, size, record);
+    case 0x06:
+        return kazovuni_compare_pattern(descriptor, source, size, record);
+    case 0x07:
+        return kazovuni_create_delta(descriptor, source, size, target, size, extra, delta_size, record);
+    case 0x08:
+        return kazovuni_apply_delta(descriptor, source, delta_size, target, size, record);
+    default:
+        return kazovuni_dualcast(descriptor, source, size, target, size, extra, size, record);
+    }
+}
+
+/* Each of them by the descriptor's pointers, and then each by its operation's own call: they ask for nothing. */
 static void walk_buffers(const uint8_t page[PAGE])
 {
-    static _Alignas(8) uint8_t bytes[PAGE];
-    const uint64_t addresses[] = {(uintptr_t)bytes, (uintptr_t)bytes + 64, (uintptr_t)bytes + 128};
-    uint8_t by_pointers[64], record[32];
+    static _Alignas(8) uint8_t bytes[2 * PAGE];
+    uint8_t descriptor[64], record[32];
     size_t before = growths;
-    memcpy(by_pointers, create[0], 64);
-    memcpy(by_pointers + 16, &addresses[0], 8);
-    memcpy(by_pointers + 24, &addresses[1], 8);
-    memcpy(by_pointers + 40, &addresses[2], 8);
-    for (int by_lengths = 0; by_lengths < 2; by_lengths++) {
-        memcpy(bytes, page, PAGE);
+    for (size_t i = 0; i < 2 * OVER_BUFFERS; i++) {
+        const kazovuni_job *job = &over_buffers[i % OVER_BUFFERS];
+        if (job->opcode == 0x07)
+            memcpy(bytes, page, PAGE);
         memset(record, 0xcc, 32);
-        if (by_lengths)
-            expect_done(
-                "create_delta",
-                kazovuni_create_delta(create[0], bytes, 32, bytes + 64, 32, bytes + 128, 20, record));
+        describe(job, bytes, descriptor);
+        if (i < OVER_BUFFERS)
+            expect_done("execute", kazovuni_execute(descriptor, record));
         else
-            expect_done("execute", kazovuni_execute(by_pointers, record));
-        expect("the record over buffers", memcmp(record, created, 32) == 0);
-        expect("the delta record over buffers", memcmp(bytes + 128, delta, 20) == 0);
+            expect_done("a call over buffers", by_lengths(job, bytes, descriptor, record));
+        expect("the status over buffers", record[0] == 0x01);
+        if (job->opcode == 0x07) {
+            expect("the record over buffers", memcmp(record, created, 32) == 0);
+            expect("the delta record over buffers", memcmp(bytes + 128, delta, 20) == 0);
+        }
     }
     expect("a call over buffers asks for memory", growths == before && blocks == 0);
 }

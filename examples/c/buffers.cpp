@@ -42,7 +42,7 @@ int main()
     auto created = kazovuni::execute<kazovuni::software>(
         kazovuni::create_delta, kazovuni::make_view(old_text), kazovuni::make_view(new_text),
         kazovuni::make_view(delta));
-    if (created.status != kazovuni::status_code::ok)
+    if (created.status != kazovuni::status_code::ok || created.result == kazovuni::comparison_result::overflow)
         return 1;
     std::cout << "create: result " << static_cast<int>(created.result) << ", the record has "
               << created.delta_record_size << " bytes\n";

@@ -84,7 +84,7 @@ static int try_too_long()
 {
     constexpr std::size_t most = std::size_t{1} << 32;
     void *pages = mmap(nullptr, most + 4096, PROT_NONE, MAP_PRIVATE | MAP_ANONYMOUS | MAP_NORESERVE, -1, 0);
-    if (pages == MAP_FAILED)
+    if (reinterpret_cast<std::intptr_t>(pages) == -1)
         return 40;
     view huge(static_cast<std::uint8_t *>(pages), most + 64), aligned = view(target).subspan(1024, 64);
     if (mem_move(huge, huge).status != status_code::bad_size)

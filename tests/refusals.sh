@@ -233,13 +233,13 @@ library() {
 
 # ---- rows of the core under a limit on all memory
 
-# under BYTES TEST: runs a test of the core's with so many bytes left behind those of its set-up, whose growths are
-# $before: what it says stands in the file `out`, and a line for each refusal in the file `log`
+# under BYTES NAME WAY: takes a schedule of the core's in this way with so many bytes left behind those of its making,
+# whose growths are $before: what it says stands in the file `out`, and a line for each refusal in the file `log`
 under() {
     : >"$work/log"
-    REFUSE_ABOVE=$1 REFUSE_FROM=$((before + 1)) REFUSE_LOG=$work/log LD_PRELOAD=$work/refuse.so \
-        "$core_tests" "tests::limits::$2" >"$work/out" 2>&1 </dev/null ||
-        complain "$2: with $1 bytes: fails: $(cat "$work/out")"
+    LIMITED="$2 $3" REFUSE_ABOVE=$1 REFUSE_FROM=$((before + 1)) REFUSE_LOG=$work/log LD_PRELOAD=$work/refuse.so \
+        "$core_tests" tests::limits::limited >"$work/out" 2>&1 </dev/null ||
+        complain "limited $2 $3: with $1 bytes: fails: $(cat "$work/out")"
 }
 
 # said WORD: the number behind that word
@@ -251,27 +251,29 @@ said() {
 #
 # The others never come further than the one call. Where it comes further than they do, no plan of its rows was refused:
 # they hold the plan of each fetch, and it that of a row. Else both end at the same step, which is not taken when it is
-# tried again alone. Counted are the calls that met a second refusal before they ended, behind that of a list of more
+# tried again alone, and a fetch by itself goes from the world that the call hands back as from theirs. Counted are the calls that met a second refusal before they ended, behind that of a list of more
 # than a million bytes, or behind another.
 limited() {
     name=$1
     shift
-    before=$(growths "$core_tests" "tests::limits::set_up_of_limited_$name")
+    before=$(export LIMITED="$name only_made"; growths "$core_tests" tests::limits::limited)
     behind_list=0
     behind_other=0
     ends=
     for bytes in "$@"; do
-        under "$bytes" "limited_${name}_alone"
+        under "$bytes" "$name" alone
         alone=$(said 'ended at')
-        under "$bytes" "limited_${name}_by_one_call"
+        fetched=$(said 'then fetched')
+        under "$bytes" "$name" by_one_call
         whole=$(said 'ended at')
         ends="$ends $whole"
         more=$(said 'then took')
         first=$(sed -n '1s/.* //p' "$work/log")
-        refusals=$(($(wc -l <"$work/log") - 1 + ${more:-1}))
+        refusals=$(($(wc -l <"$work/log") - 1 + ${more:-1} - $(said short)))
         what="limited $name, with $bytes bytes: one call ends at $whole, the others at $alone"
         [ "$whole" -ge "$alone" ] || complain "$what"
         [ "$whole" -le "$alone" ] || [ "$refusals" -lt 2 ] || complain "$what, with $refusals refusals"
+        [ "$whole" -gt "$alone" ] || [ "$(said 'then fetched')" = "$fetched" ] || complain "$what: then no like fetch"
         [ "${more:-0}" = 0 ] || complain "$what: then $more steps"
         [ -n "$more" ] || [ "$refusals" = 0 ] || complain "$what: a refusal is not answered"
         if [ "$refusals" -gt 1 ] && [ "$first" -gt 1000000 ]; then
@@ -319,6 +321,8 @@ ended 2000 2000
 limited old_plan 2000 16000 32000 56000 80000 89000 91000 95000 98000 100000 400000
 ended 0 1024
 ended 1027 1027
+# Nor beside the committed waves of a plan that is not over.
+limited part_plan 2000 16000 32000 56000 80000 89000 91000 95000 98000 100000 400000
 
 # ---- the program
 

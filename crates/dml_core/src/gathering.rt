@@ -94,7 +94,7 @@ impl World {
         let Some(next) = self.next_fetch(client) else {
             return Turn::refused();
         };
-        self.forget_plan();
+        self.forget_committed();
         let most = steps.len().min(MOST_STEPS);
         self.gather_row(alloc, client, &next, &steps[..most])
     }

@@ -237,13 +237,15 @@ impl World {
         Ok(())
     }
 
-    /// Lets a plan go whose waves are all committed.
-    pub(crate) fn forget_plan(&mut self)
+    /// Lets the committed waves of the plan go, and the room that they took.
+    pub(crate) fn forget_committed(&mut self)
         ensures { self.new ≡ self.old }
     {
-        if self.committed == self.waves.len() {
-            self.waves.clear();
-            self.waves.shrink_to(0);
+        if self.committed > 0 {
+            let left = self.waves.len() - self.committed;
+            self.waves.rotate_left(self.committed);
+            self.waves.truncate(left);
+            self.waves.shrink_to(left);
             self.committed = 0;
         }
     }

@@ -1,11 +1,13 @@
 //! Rows of submits and fetches under a limit on all memory, which tests/refusals.sh sets from the first request on that
-//! comes behind those of a set-up: taken by one call, and by calls of one step each. What both print is compared
-//! there.
+//! comes behind those of the schedule's making: taken by one call, and by calls of one step each. What both print is
+//! compared there.
 
 use super::rows::{Counts, expect_counts, replayed};
 use super::{idle, world};
 use dml_core::{Step, World};
+use dml_types::Job;
 use std::alloc::Global;
+use std::env::Env;
 use std::process::Abort;
 use std::test::Fail;
 
@@ -119,8 +121,34 @@ fn old_plan(alloc: Global) -> Option<Schedule> {
     schedule_behind(alloc, &first, steps)
 }
 
-/// The steps by one call, and then, where memory was wanting, the one that it names alone. The lists are as long as
-/// they were before it.
+/// A row behind a plan of six hundred jobs, each with a wave of its own, of which ninety are committed.
+fn part_plan(alloc: Global) -> Option<Schedule> {
+    let mut first = Vec::new(alloc);
+    let job = Job::fill(1, 0, 8);
+    for _ in 0..602 {
+        first.push(Step::Submit { client: 0, job }).ok()?;
+    }
+    push_fetches(&mut first, 0, 600)?;
+    for _ in 0..90 {
+        first.push(Step::Take { worker: 0 }).ok()?;
+        first.push(Step::Finish { worker: 0 }).ok()?;
+        first.push(Step::Commit).ok()?;
+    }
+    let mut steps = Vec::new(alloc);
+    push_fetches(&mut steps, 0, 1)?;
+    push_submits(&mut steps, 1, 1025)?;
+    push_fetches(&mut steps, 0, 1)?;
+    schedule_behind(alloc, &first, steps)
+}
+
+/// A fetch by itself from the world at which the steps ended: whether it was taken, and whether memory was wanting.
+fn say_fetch(rt: &impl std::io::Print, alloc: Global, world: World) -> Option<()> {
+    let (_, taken, is_short) = replayed(alloc, world, &[Step::Fetch { client: 0 }]);
+    println!(rt; "then fetched {taken} short {}", u8::from(is_short)).ok()
+}
+
+/// The steps by one call, then, where memory was wanting, the one that it names alone, and a fetch by itself. The lists
+/// are as long as they were before it.
 fn expect_whole(
     rt: &(impl Abort + std::io::Print),
     alloc: Global,
@@ -131,19 +159,20 @@ fn expect_whole(
         before,
         steps,
     } = schedule;
-    let (world, end, is_short) = replayed(alloc, world, &steps);
+    let (mut world, end, is_short) = replayed(alloc, world, &steps);
     println!(rt; "ended at {end}").ok()?;
     expect_counts(rt, &world, before, steps.get(..end)?);
     if is_short {
         let next = end.saturating_add(1);
-        let (world, more, _) = replayed(alloc, world, steps.get(end..next)?);
+        let (kept, more, _) = replayed(alloc, world, steps.get(end..next)?);
         println!(rt; "then took {more}").ok()?;
-        expect_counts(rt, &world, before, steps.get(..end.saturating_add(more))?);
+        expect_counts(rt, &kept, before, steps.get(..end.saturating_add(more))?);
+        world = kept;
     }
-    Some(())
+    say_fetch(rt, alloc, world)
 }
 
-/// The steps by calls of one step each, up to the first for which memory is wanting.
+/// The steps by calls of one step each, up to the first for which memory is wanting, and then a fetch by itself.
 fn expect_alone(
     rt: &(impl Abort + std::io::Print),
     alloc: Global,
@@ -166,137 +195,58 @@ fn expect_alone(
     }
     println!(rt; "ended at {end}").ok()?;
     expect_counts(rt, &world, before, steps.get(..end)?);
-    Some(())
+    say_fetch(rt, alloc, world)
 }
 
-/// What both tests of the fetches do before their calls.
-#[test]
-fn set_up_of_limited_fetches(rt: HostRuntime) -> Result<(), Fail> {
-    let schedule = fetches(rt.alloc()).ok_or("no memory")?;
-    expect_counts(&rt, &schedule.world, schedule.before, &[]);
+/// The schedule of this name.
+fn named(alloc: Global, name: &str) -> Option<Schedule> {
+    match name {
+        "fetches" => fetches(alloc),
+        "full_list" => full_list(alloc),
+        "two_rows" => two_rows(alloc),
+        "long_row" => long_row(alloc),
+        "bad_end" => bad_end(alloc),
+        "old_plan" => old_plan(alloc),
+        "part_plan" => part_plan(alloc),
+        _ => None,
+    }
+}
+
+/// Takes the steps of a schedule `by_one_call` or `alone`; else it is only made.
+fn take(
+    rt: &(impl Abort + std::io::Print),
+    alloc: Global,
+    name: &str,
+    way: &str,
+) -> Result<(), Fail> {
+    let schedule = named(alloc, name).ok_or("no memory")?;
+    match way {
+        "by_one_call" => expect_whole(rt, alloc, schedule).ok_or("no output")?,
+        "alone" => expect_alone(rt, alloc, schedule).ok_or("no output")?,
+        _ => expect_counts(rt, &schedule.world, schedule.before, &[]),
+    }
     Ok(())
 }
 
+/// The schedule and the way that LIMITED has in the environment, as `two_rows alone`; without it each by one call.
 #[test]
-fn limited_fetches_by_one_call(rt: HostRuntime) -> Result<(), Fail> {
-    let schedule = fetches(rt.alloc()).ok_or("no memory")?;
-    expect_whole(&rt, rt.alloc(), schedule).ok_or("no output")?;
-    Ok(())
-}
-
-#[test]
-fn limited_fetches_alone(rt: HostRuntime) -> Result<(), Fail> {
-    let schedule = fetches(rt.alloc()).ok_or("no memory")?;
-    expect_alone(&rt, rt.alloc(), schedule).ok_or("no output")?;
-    Ok(())
-}
-
-/// What both tests of the full list do before their calls.
-#[test]
-fn set_up_of_limited_full_list(rt: HostRuntime) -> Result<(), Fail> {
-    let schedule = full_list(rt.alloc()).ok_or("no memory")?;
-    expect_counts(&rt, &schedule.world, schedule.before, &[]);
-    Ok(())
-}
-
-#[test]
-fn limited_full_list_by_one_call(rt: HostRuntime) -> Result<(), Fail> {
-    let schedule = full_list(rt.alloc()).ok_or("no memory")?;
-    expect_whole(&rt, rt.alloc(), schedule).ok_or("no output")?;
-    Ok(())
-}
-
-#[test]
-fn limited_full_list_alone(rt: HostRuntime) -> Result<(), Fail> {
-    let schedule = full_list(rt.alloc()).ok_or("no memory")?;
-    expect_alone(&rt, rt.alloc(), schedule).ok_or("no output")?;
-    Ok(())
-}
-
-/// What both tests of the two rows do before their calls.
-#[test]
-fn set_up_of_limited_two_rows(rt: HostRuntime) -> Result<(), Fail> {
-    let schedule = two_rows(rt.alloc()).ok_or("no memory")?;
-    expect_counts(&rt, &schedule.world, schedule.before, &[]);
-    Ok(())
-}
-
-#[test]
-fn limited_two_rows_by_one_call(rt: HostRuntime) -> Result<(), Fail> {
-    let schedule = two_rows(rt.alloc()).ok_or("no memory")?;
-    expect_whole(&rt, rt.alloc(), schedule).ok_or("no output")?;
-    Ok(())
-}
-
-#[test]
-fn limited_two_rows_alone(rt: HostRuntime) -> Result<(), Fail> {
-    let schedule = two_rows(rt.alloc()).ok_or("no memory")?;
-    expect_alone(&rt, rt.alloc(), schedule).ok_or("no output")?;
-    Ok(())
-}
-
-/// What both tests of the long row do before their calls.
-#[test]
-fn set_up_of_limited_long_row(rt: HostRuntime) -> Result<(), Fail> {
-    let schedule = long_row(rt.alloc()).ok_or("no memory")?;
-    expect_counts(&rt, &schedule.world, schedule.before, &[]);
-    Ok(())
-}
-
-#[test]
-fn limited_long_row_by_one_call(rt: HostRuntime) -> Result<(), Fail> {
-    let schedule = long_row(rt.alloc()).ok_or("no memory")?;
-    expect_whole(&rt, rt.alloc(), schedule).ok_or("no output")?;
-    Ok(())
-}
-
-#[test]
-fn limited_long_row_alone(rt: HostRuntime) -> Result<(), Fail> {
-    let schedule = long_row(rt.alloc()).ok_or("no memory")?;
-    expect_alone(&rt, rt.alloc(), schedule).ok_or("no output")?;
-    Ok(())
-}
-
-/// What both tests of the bad end do before their calls.
-#[test]
-fn set_up_of_limited_bad_end(rt: HostRuntime) -> Result<(), Fail> {
-    let schedule = bad_end(rt.alloc()).ok_or("no memory")?;
-    expect_counts(&rt, &schedule.world, schedule.before, &[]);
-    Ok(())
-}
-
-#[test]
-fn limited_bad_end_by_one_call(rt: HostRuntime) -> Result<(), Fail> {
-    let schedule = bad_end(rt.alloc()).ok_or("no memory")?;
-    expect_whole(&rt, rt.alloc(), schedule).ok_or("no output")?;
-    Ok(())
-}
-
-#[test]
-fn limited_bad_end_alone(rt: HostRuntime) -> Result<(), Fail> {
-    let schedule = bad_end(rt.alloc()).ok_or("no memory")?;
-    expect_alone(&rt, rt.alloc(), schedule).ok_or("no output")?;
-    Ok(())
-}
-
-/// What both tests of the old plan do before their calls.
-#[test]
-fn set_up_of_limited_old_plan(rt: HostRuntime) -> Result<(), Fail> {
-    let schedule = old_plan(rt.alloc()).ok_or("no memory")?;
-    expect_counts(&rt, &schedule.world, schedule.before, &[]);
-    Ok(())
-}
-
-#[test]
-fn limited_old_plan_by_one_call(rt: HostRuntime) -> Result<(), Fail> {
-    let schedule = old_plan(rt.alloc()).ok_or("no memory")?;
-    expect_whole(&rt, rt.alloc(), schedule).ok_or("no output")?;
-    Ok(())
-}
-
-#[test]
-fn limited_old_plan_alone(rt: HostRuntime) -> Result<(), Fail> {
-    let schedule = old_plan(rt.alloc()).ok_or("no memory")?;
-    expect_alone(&rt, rt.alloc(), schedule).ok_or("no output")?;
+fn limited(rt: HostRuntime) -> Result<(), Fail> {
+    let mut words = [0; 64];
+    if let Ok(len) = rt.var("LIMITED", &mut words) {
+        let text = std::str::from_utf8(&words[..len])?;
+        let (name, way) = text.split_once(' ').ok_or("no way is named")?;
+        return take(&rt, rt.alloc(), name, way);
+    }
+    for name in [
+        "fetches",
+        "full_list",
+        "two_rows",
+        "long_row",
+        "bad_end",
+        "old_plan",
+        "part_plan",
+    ] {
+        take(&rt, rt.alloc(), name, "by_one_call")?;
+    }
     Ok(())
 }

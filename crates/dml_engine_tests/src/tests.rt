@@ -5,6 +5,7 @@ mod entering;
 mod fences;
 mod gates;
 mod growths;
+mod lent;
 mod lists;
 mod operations;
 mod refusals;

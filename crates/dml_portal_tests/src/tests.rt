@@ -4,6 +4,7 @@ mod clients;
 mod entering;
 mod gates;
 mod growths;
+mod lent;
 mod portals;
 mod rounds;
 mod steps;

@@ -2,7 +2,9 @@
 //! workers.
 
 use super::engine_with;
+use dml_desc::check;
 use dml_engine::{Engine, SubmitError};
+use dml_levels::task_count;
 use dml_pool::Gate;
 use dml_types::{Job, Settings};
 use std::alloc::Global;
@@ -319,6 +321,15 @@ fn tasks_about_a_fence_enter_once(rt: HostRuntime) -> Result<(), Fail> {
             waves: &[1],
         },
         Row {
+            name: "many tasks on both sides",
+            jobs: &[
+                Job::compare(0, 8, 256),
+                Job::compare(0, 8, 160).with_flags(1),
+                last,
+            ],
+            waves: &[32, 20, 1],
+        },
+        Row {
             name: "abandoned behind a second fence",
             jobs: &[last, fenced, Job::fill(1, 4096, 24), fenced, last],
             waves: &[1, 5],
@@ -340,4 +351,61 @@ fn tasks_beside_a_refused_fence_enter_once(rt: HostRuntime) -> Result<(), Fail> 
         waves: &[2],
     }];
     expect(&rt, rt.alloc(), &rows, &[Call::List, Call::Into])
+}
+
+/// How many tasks a job has in chunks of 32 bytes, and in chunks of 4,096; none where it is refused.
+fn tasks_of(job: &Job) -> Option<(u32, u32)> {
+    let checked = check(job, 4096).ok()?;
+    Some((task_count(&checked, 32), task_count(&checked, 4096)))
+}
+
+/// How often a list's tasks enter in all, in chunks of so many bytes.
+fn entered_in_all<R: Threads + Wait + Sync>(
+    rt: &R,
+    alloc: Global,
+    jobs: &[Job],
+    chunk: u32,
+    workers: u32,
+) -> Option<u64> {
+    let settings = Settings {
+        staging: 4096,
+        chunk,
+        workers,
+    };
+    let counts = Counts::new(alloc)?;
+    let engine = engine_with(alloc, 2, settings)?;
+    let mut engine = engine.with_gate(Counting { counts: &counts });
+    engine.submit_list(rt, alloc, jobs).ok()?;
+    let mut all = counts.others.load(Ordering::SeqCst);
+    for number in &counts.numbers {
+        all = all.saturating_add(number.load(Ordering::SeqCst));
+    }
+    Some(all)
+}
+
+/// In larger chunks there are as many tasks as the jobs are cut into.
+#[test]
+fn as_many_enter_as_there_are_chunks(rt: HostRuntime) -> Result<(), Fail> {
+    let jobs = [
+        Job::compare(0, 0, 4096),
+        Job::fill(1, 4000, 200),
+        Job::move_bytes(0, 2048, 1000),
+        Job::create_delta(0, 64, 1024, 3000, 80),
+        Job::no_op(),
+        Job::dualcast(0, 3072, 7168, 33),
+    ];
+    let mut want = (0_u64, 0_u64);
+    for job in &jobs {
+        let (small, large) = tasks_of(job).ok_or("a job was refused")?;
+        want.0 = want.0.saturating_add(u64::from(small));
+        want.1 = want.1.saturating_add(u64::from(large));
+    }
+    assert_eq!(rt; want, (128 + 7 + 32 + 32 + 2, 5));
+    for workers in [1, 2, 16] {
+        let small = entered_in_all(&rt, rt.alloc(), &jobs, 32, workers);
+        assert_eq!(rt; small, Some(want.0), "{workers} workers");
+        let large = entered_in_all(&rt, rt.alloc(), &jobs, 4096, workers);
+        assert_eq!(rt; large, Some(want.1), "{workers} workers");
+    }
+    Ok(())
 }

@@ -54,7 +54,7 @@ impl<'c> Gate for Counting<'c> {
     }
 }
 
-/// Rounds of no job, of one task, of a wave of three, and of two waves of two tasks.
+/// Rounds of no job, of one task, of a wave of three, of two waves of two tasks, and of one of 128.
 fn expect_rounds<R: Abort + Threads + Wait + Sync, G: Gate + Sync + Drop>(
     rt: &R,
     alloc: Global,
@@ -79,17 +79,24 @@ fn expect_rounds<R: Abort + Threads + Wait + Sync, G: Gate + Sync + Drop>(
         expect_served(rt, alloc, &mut server, 2);
         expect_polled(rt, &mut seat, &records);
     }
+    submit_all(rt, &mut seat, &[Job::compare(0, 8, 8); 128]);
+    expect_served(rt, alloc, &mut server, 128);
 }
 
-/// The first task of a wave entered in four waves, the second in three, and the third in one.
+/// The first task of a wave entered in five waves, the second in four, the third in two, and each other one of the first
+/// sixteen in one, in which there are 112 more.
 #[test]
 fn tasks_of_rounds_enter_once(rt: HostRuntime) -> Result<(), Fail> {
     for workers in [1, 2, 16] {
         let counts = Counts::new();
         let gate = Counting { counts: &counts };
-        let (server, seat) = gated(rt.alloc(), workers, gate).ok_or("no memory")?;
+        let (server, seat) = gated(rt.alloc(), workers, gate, 128).ok_or("no memory")?;
         expect_rounds(&rt, rt.alloc(), server, seat);
-        assert_eq!(rt; counts.both(), (0x134, 0), "{workers} workers");
+        assert_eq!(rt;
+            counts.both(),
+            (0x1111_1111_1111_1245, 112),
+            "{workers} workers"
+        );
     }
     Ok(())
 }

@@ -82,14 +82,16 @@ fn engine_of_eight(alloc: Global, workers: u32) -> Option<Engine> {
     Engine::new(alloc, image, settings).ok()
 }
 
-/// The server of a portal whose lists all go through this gate, and the seat of its one client.
+/// The server of a portal whose lists all go through this gate, and the seat of its one client, with rings for so many
+/// items.
 pub(super) fn gated<G: Gate + Drop>(
     alloc: Global,
     workers: u32,
     gate: G,
+    capacity: u32,
 ) -> Option<(Server<G>, Seat)> {
     let engine = engine_of_eight(alloc, workers)?.with_gate(gate);
-    let Ok((server, mut seats)) = Portal::open(alloc, engine, 1, 2) else {
+    let Ok((server, mut seats)) = Portal::open(alloc, engine, 1, capacity) else {
         return None;
     };
     let seat = seats.pop()?;
@@ -124,7 +126,7 @@ fn every_submit_runs_at_once(rt: HostRuntime) -> Result<(), Fail> {
             clock: &rt,
             counts: &counts,
         };
-        let (server, seat) = gated(rt.alloc(), 3, gate).ok_or("no memory")?;
+        let (server, seat) = gated(rt.alloc(), 3, gate, 2).ok_or("no memory")?;
         expect_fills(&rt, rt.alloc(), server, seat);
         assert_eq!(rt; counts.both(), (ALL_ONCE, 0), "turn {turn}");
     }
@@ -212,7 +214,7 @@ fn pushed_before_tasks(rt: HostRuntime) -> Result<(), Fail> {
             clock: &rt,
             counts: &counts,
         };
-        let (mut server, mut seat) = gated(rt.alloc(), 3, gate).ok_or("no memory")?;
+        let (mut server, mut seat) = gated(rt.alloc(), 3, gate, 2).ok_or("no memory")?;
         fill_rings(&rt, rt.alloc(), &mut server, &mut seat);
         let answers = polled_while_served(&rt, rt.alloc(), server, seat, &counts);
         let wanted = ((Some(done(0)), Ok(2)), (1, 0));

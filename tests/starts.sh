@@ -1,16 +1,17 @@
 #!/bin/sh
-# Counts the threads that `dmljob run` and a round of a portal start, by tests/started.c: no gate is given there, and no
-# answer and no contract tells how many workers a list or a batch had. Where the system has no thread left, the answers
-# are the same. Works on the program and on the tests of dml_portal that the gate leaves in crates/NAME/out; `check`
-# calls it. Needs the GNU C library, timeout, and a C compiler (CC, or cc).
+# Counts the threads that `dmljob run`, a list of an engine and a round of a portal start, by tests/started.c: no gate is
+# given there, and no answer and no contract tells how many workers a list or a batch had. Where the system has no thread
+# left, the answers are the same. Works on the program and on the tests of dml_engine and dml_portal that the gate leaves
+# in crates/NAME/out; `check` calls it. Needs the GNU C library, timeout, and a C compiler (CC, or cc).
 cd "$(dirname "$0")/.." || exit 2
 work=$(mktemp -d) || exit 2
 trap 'rm -rf "$work"' EXIT
 dmljob=crates/dmljob/out/dmljob
+engines=crates/dml_engine_tests/out/dml_engine_tests_tests
 portals=crates/dml_portal_tests/out/dml_portal_tests_tests
 chunk=65536
 failed=0
-for program in "$dmljob" "$portals"; do
+for program in "$dmljob" "$engines" "$portals"; do
     [ -x "$program" ] || { echo "starts: $program is missing: run rt ci first" >&2; exit 1; }
 done
 "${CC:-cc}" -O2 -Wall -Wextra -Werror -shared -fPIC -o "$work/started.so" tests/started.c -ldl || exit 1
@@ -34,6 +35,13 @@ batch() {
     echo batch
     compares 4 1048576 0 | awk -v fenced="$1" '{ print $0 (NR - 1 == fenced ? " flags 1" : "") }'
     echo end
+}
+
+# twice: four compares of 1 MiB, a fill into the first range of each, and the four compares again
+twice() {
+    compares 4 1048576 0
+    awk 'BEGIN { for (job = 0; job < 4; job++) print "fill 0 " job * 2097152 " 8" }'
+    compares 4 1048576 0
 }
 
 # creates COUNT: so many creates of 512 KiB, which do not conflict: each has a record of its own
@@ -87,14 +95,14 @@ expect() {
     fi
 }
 
-# round WANTED TEST: a test of a portal passes, and starts so many threads, those of all its processes
-round() {
+# test_of WANTED TESTS TEST: a test of such a program passes, and starts so many threads, those of all its processes
+test_of() {
     rm -f "$work/log"
-    timeout 60 env STARTED_LOG="$work/log" LD_PRELOAD="$work/started.so" "$portals" "$2" >"$work/out" 2>&1 </dev/null
+    timeout 60 env STARTED_LOG="$work/log" LD_PRELOAD="$work/started.so" "$2" "$3" >"$work/out" 2>&1 </dev/null
     status=$?
     started=$(threads)
     if [ "$status" -ne 0 ] || [ "$started" != "$1" ]; then
-        echo "starts: $2: status $status, $started threads started, not $1: $(cat "$work/out")" >&2
+        echo "starts: $3: status $status, $started threads started, not $1: $(cat "$work/out")" >&2
         failed=1
     fi
 }
@@ -142,8 +150,15 @@ expect 3 4 1048576 4 'a batch of 4 compares' <"$work/jobs"
 batch 2 >"$work/jobs"
 expect 2 4 1048576 4 'a batch of 2 compares and 2 behind a fence' <"$work/jobs"
 # A round of a portal is one list.
-round 3 tests::rounds::round_worth_four_workers
-round 0 tests::round_of_128
+test_of 3 "$portals" tests::rounds::round_worth_four_workers
+test_of 0 "$portals" tests::round_of_128
+# So is one of the caller that takes its records from the engine: eight compares of 1 MiB share 7,995,392 bytes, which
+# pay for the four workers that there may be, ten times over.
+test_of 30 "$engines" tests::lists::large_compares
+test_of 0 "$engines" tests::lists::levels_of_four_jobs
+# Each wave of a list is judged by itself: the fills between the compares share nothing, and those behind them pay again.
+twice >"$work/jobs"
+expect 6 4 1048576 8 'four compares, fills into their sources, and four compares' <"$work/jobs"
 # Levels behind the first one cost a list no worker, until the cut of all of them costs more than workers save, or
 # where none of them shares a mebibyte and a half.
 counted 3 4 4 1048576 10

@@ -5,13 +5,18 @@
 # bench/c_buffers.c, beside the same ones by kazovuni_submit_pointers, with their bars as ratios: of the operation's own
 # call (`buffers`) and of kazovuni_execute (`execute`), which checks the job twice.
 #
-# Usage: bench/c_calls.sh [ROUNDS]   15 rounds, where nothing else is said.
+# Usage: bench/c_calls.sh [ROUNDS [OLDER]]   15 rounds, where nothing else is said.
+# OLDER is the prefix of an older library, or an older checkout, whose own tools/install_library.sh is run then. The
+# calls of bench/c_calls.c, which both libraries have, go by turns on the two, and each may take 1.03 of its time on the
+# older one at most; how far memmove, which is neither's, is from 1 shows what is chance.
+#
 # Wants rt, ar, a C compiler as $CC or cc, with $CFLAGS or -O2, and the program dml_bench built (rt run in
 # crates/dml_bench). Each round runs all programs, every second round in the opposite order, and a difference or a ratio
 # is taken within its round. Exit status: 0 where all bars are met, 1 where one is missed, 2 where nothing was measured,
 # or where the load before was higher than there are processors, by which no bar can be judged.
 here=$(cd "$(dirname "$0")" && pwd)
 rounds=${1:-15}
+older=${2:-}
 proved=$here/../crates/dml_bench/out/dml_bench
 if [ ! -x "$proved" ]; then
     echo "bench/c_calls.sh: $proved is not built: run 'rt run' in crates/dml_bench" >&2
@@ -19,24 +24,40 @@ if [ ! -x "$proved" ]; then
 fi
 work=$(mktemp -d) || exit 2
 trap 'rm -rf "$work"' EXIT
-"$here/../tools/install_library.sh" "$work" >"$work/log" 2>&1 || { cat "$work/log" >&2; exit 2; }
-for program in c_calls c_buffers; do
-    "${CC:-cc}" ${CFLAGS:--O2} -std=c11 -D_POSIX_C_SOURCE=200809L -I"$work/include" -o "$work/$program" \
-        "$here/$program.c" "$work/lib/libkazovuni.a" || exit 2
-done
 
-# Writes "ROUND NAME BYTES NANOSECONDS" for each row of the programs.
-from_c() {
-    "$work/c_calls" >"$work/rows" || exit 2
-    sed "s/^/$1 /" "$work/rows" >>"$work/times"
+# installed CHECKOUT PREFIX: builds the library of a checkout
+installed() {
+    "$1/tools/install_library.sh" "$2" >"$work/log" 2>&1 || { cat "$work/log" >&2; exit 2; }
 }
-over_buffers() {
-    "$work/c_buffers" >"$work/rows" || exit 2
-    sed "s/^/$1 /" "$work/rows" >>"$work/times"
+
+# built NAME PREFIX PROGRAM: builds a program of this folder with an installed library
+built() {
+    "${CC:-cc}" ${CFLAGS:--O2} -std=c11 -D_POSIX_C_SOURCE=200809L -I"$2/include" -o "$work/$1" "$here/$3.c" \
+        "$2/lib/libkazovuni.a" || exit 2
 }
-in_rattle() {
-    "$proved" 8 2>"$work/rows" >"$work/out" || exit 2
-    sed -n "s/^\(over_move\|own_move\) /$1 &/p" "$work/rows" >>"$work/times"
+
+installed "$here/.." "$work/now"
+built c_calls "$work/now" c_calls
+built c_buffers "$work/now" c_buffers
+programs='c_calls dml_bench c_buffers' backwards='c_buffers dml_bench c_calls'
+if [ -n "$older" ]; then
+    [ -f "$older/lib/libkazovuni.a" ] || { installed "$older" "$work/before"; older=$work/before; }
+    built older "$older" c_calls
+    programs='c_calls older dml_bench c_buffers' backwards='c_buffers dml_bench older c_calls'
+fi
+
+# one ROUND PROGRAM: writes "ROUND NAME BYTES NANOSECONDS" for each row of a program; those of the older library get a
+# name of their own.
+one() {
+    case $2 in
+        dml_bench) "$proved" 8 2>"$work/rows" >"$work/out" || exit 2 ;;
+        *) "$work/$2" >"$work/rows" || exit 2 ;;
+    esac
+    case $2 in
+        dml_bench) sed -n "s/^\(over_move\|own_move\) /$1 &/p" "$work/rows" ;;
+        older) sed "s/^/$1 older_/" "$work/rows" ;;
+        *) sed "s/^/$1 /" "$work/rows" ;;
+    esac >>"$work/times"
 }
 
 echo "machine: $(sed -n 's/^model name[^:]*: //p' /proc/cpuinfo | head -n 1), $(nproc) processors"
@@ -44,19 +65,13 @@ echo "load before: $(cut -d ' ' -f 1-3 /proc/loadavg)"
 busy=$(awk -v most="$(nproc)" '{ print ($1 > most) }' /proc/loadavg)
 round=1
 while [ "$round" -le "$rounds" ]; do
-    if [ $((round % 2)) -eq 1 ]; then
-        from_c "$round"
-        in_rattle "$round"
-        over_buffers "$round"
-    else
-        over_buffers "$round"
-        in_rattle "$round"
-        from_c "$round"
-    fi
+    for program in $([ $((round % 2)) -eq 1 ] && echo "$programs" || echo "$backwards"); do
+        one "$round" "$program"
+    done
     round=$((round + 1))
 done
 
-awk -v busy="$busy" '
+awk -v busy="$busy" -v older="${older:+1}" '
     BEGIN { split("buffers execute", ways, " ") }
     function sort(list, count,    i, j, t) {
         for (i = 2; i <= count; i++)
@@ -89,7 +104,7 @@ awk -v busy="$busy" '
     function ratio_bar(text, value, most) {
         if (value > most) missed++
         bars++
-        printf("%-72s %6.2f, at most %.2f: %s\n", text, value, most, (value > most) ? "missed" : "met")
+        printf("%-72s %6.3f, at most %.2f: %s\n", text, value, most, (value > most) ? "missed" : "met")
     }
     function bar(text, value, most) {
         if (value > most) missed++
@@ -98,7 +113,7 @@ awk -v busy="$busy" '
     }
     { times[$1, $2, $3] = $4; if ($1 > rounds) rounds = $1 }
     $1 == 1 && $2 ~ /^buffers_/ { job[++jobs] = substr($2, 9) " " $3 }
-    $1 == 1 && $2 !~ /^(buffers|execute|pointers|libc|entries)_/ { row[++rows] = $2 " " $3 }
+    $1 == 1 && $2 !~ /^(older|buffers|execute|pointers|libc|entries)_/ { row[++rows] = $2 " " $3 }
     END {
         printf "%d rounds, nanoseconds of a job\n%-28s %8s %9s %9s\n", rounds, "call", "bytes", "least", "median"
         for (n = 1; n <= rows; n++) {
@@ -106,6 +121,15 @@ awk -v busy="$busy" '
             for (r = 1; r <= rounds; r++) list[r] = times[r, part[1], part[2]]
             middle = median(list, rounds)
             printf "%-28s %8d %9.1f %9.1f\n", part[1], part[2], list[1], middle
+        }
+        if (older)
+            printf "\n%-28s %8s %9s %9s %9s\n", "call, medians", "bytes", "now", "older", "now/older"
+        for (n = 1; older && n <= rows; n++) {
+            split(row[n], part, " ")
+            base = "older_" part[1]
+            if ((1, base, part[2]) in times)
+                printf "%-28s %8d %9.1f %9.1f %9.3f\n", part[1], part[2], middle_of(part[1], part[2]), \
+                    middle_of(base, part[2]), ratio(part[1], base, part[2])
         }
         printf "\n%-16s %8s %11s %11s %11s %9s %9s\n", "job, medians", "bytes", "buffers", "execute", "pointers", \
             "buffers/", "execute/"
@@ -129,6 +153,12 @@ awk -v busy="$busy" '
             bar("kazovuni_submit (a handle) of " bytes " bytes, over submit_to in Rattle", \
                 over("kazovuni_submit", "own_move", bytes), 20)
         }
+        for (n = 1; older && n <= rows; n++) {
+            split(row[n], part, " ")
+            if (part[1] ~ /^kazovuni_/)
+                ratio_bar(part[1] " of " part[2] " bytes, to the older library", \
+                    ratio(part[1], "older_" part[1], part[2]), 1.03)
+        }
         for (n = 1; n <= jobs; n++) {
             split(job[n], part, " ")
             most = part[2] >= 4096 ? 1.05 : part[2] > 64 ? 0 : part[1] == "move" ? 0.8 : \
@@ -143,8 +173,9 @@ awk -v busy="$busy" '
                     ratio_bar(part[1] " of " entries " entries by " ways[way] ", nanoseconds an entry", \
                         middle_of(ways[way] "_" part[1], part[2]) / entries, 2.5)
         }
-        ratio_bar("compare of 4096 bytes by buffers, to memcmp", ratio("buffers_compare", "libc_compare", 4096), 2.5)
-        printf("%-72s %6.2f, no bar\n", "the same by execute", ratio("execute_compare", "libc_compare", 4096))
+        for (way = 1; way <= 2; way++)
+            ratio_bar("compare of 4096 bytes by " ways[way] ", to memcmp", \
+                ratio(ways[way] "_compare", "libc_compare", 4096), 2.5)
         printf "%d of %d bars of calls from C are missed\n", missed, bars
         exit missed > 0
     }' "$work/times"

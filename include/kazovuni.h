@@ -260,10 +260,11 @@ KAZOVUNI_INLINE uint64_t kazovuni_address_at(const uint8_t *place)
 
 KAZOVUNI_INLINE uint8_t *kazovuni_pointer_at(const uint8_t *place)
 {
+    uintptr_t address = kazovuni_address_at(place);
 #ifdef __cplusplus
-    return reinterpret_cast<uint8_t *>(static_cast<uintptr_t>(kazovuni_address_at(place)));
+    return reinterpret_cast<uint8_t *>(address);
 #else
-    return (uint8_t *)(uintptr_t)kazovuni_address_at(place);
+    return (uint8_t *)address;
 #endif
 }
 

@@ -18,6 +18,7 @@
 #include "kazovuni.h"
 
 #include <algorithm>
+#include <concepts>
 #include <cstddef>
 #include <cstdint>
 #include <iterator>
@@ -96,6 +97,19 @@ enum : std::uint8_t { move = 0x03, fill, compare, compare_pattern, create_delta,
 inline constexpr std::uint32_t check_result = 0x80;
 inline constexpr std::size_t entry = 10, most_delta = 655360;
 
+/* What a call takes as a buffer: whatever converts to a span of bytes, which are std::uint8_t or std::byte. */
+template <typename Byte, typename Other> struct buffer_of : std::span<Byte> {
+    buffer_of() = default;
+    template <std::convertible_to<std::span<Byte>> Bytes>
+    buffer_of(Bytes &&bytes) noexcept : std::span<Byte>(bytes) {}
+    template <std::convertible_to<std::span<Other>> Bytes>
+    buffer_of(Bytes &&bytes) noexcept : std::span<Byte>(make_view(std::span<Other>(bytes))) {}
+    template <std::contiguous_iterator Iterator>
+    buffer_of(Iterator first, std::size_t count) noexcept : buffer_of(std::span(first, count)) {}
+};
+using buffer = buffer_of<std::uint8_t, std::byte>;
+using const_buffer = buffer_of<const std::uint8_t, const std::byte>;
+
 inline std::uint64_t address_of(const_view bytes) noexcept
 {
     return reinterpret_cast<std::uintptr_t>(bytes.data());
@@ -147,7 +161,7 @@ inline kazovuni_job job_of(std::uint8_t opcode, std::uint64_t source, std::uint6
  * mem_copy too, which is the same call.
  */
 struct mem_move_operation {
-    job_result operator()(const_view source, view target) const noexcept
+    job_result operator()(detail::const_buffer source, detail::buffer target) const noexcept
     {
         if (source.size() != target.size())
             return {};
@@ -159,7 +173,7 @@ inline constexpr mem_move_operation mem_move{}, mem_copy{};
 
 /* Fills a buffer with 8 bytes over and over, the lowest of the number first. */
 struct fill_operation {
-    job_result operator()(std::uint64_t pattern, view target) const noexcept
+    job_result operator()(std::uint64_t pattern, detail::buffer target) const noexcept
     {
         return detail::execute(detail::job_of(detail::fill, pattern, detail::address_of(target), target.size()));
     }
@@ -168,7 +182,7 @@ inline constexpr fill_operation fill{};
 
 /* Copies a buffer over two others of the same length, whose addresses have the same low 12 bits. */
 struct dualcast_operation {
-    job_result operator()(const_view source, view target, view second) const noexcept
+    job_result operator()(detail::const_buffer source, detail::buffer target, detail::buffer second) const noexcept
     {
         if (source.size() != target.size() || source.size() != second.size())
             return {};
@@ -198,7 +212,7 @@ template <typename Operation> struct expecting {
 
 /* Finds the first byte in which two buffers of the same length differ. */
 struct compare_operation : expecting<compare_operation> {
-    job_result operator()(const_view one, const_view other) const noexcept
+    job_result operator()(detail::const_buffer one, detail::const_buffer other) const noexcept
     {
         if (one.size() != other.size())
             return {};
@@ -211,7 +225,7 @@ inline constexpr compare_operation compare{};
 
 /* The same with 8 bytes over and over, the lowest of the number first. */
 struct compare_pattern_operation : expecting<compare_pattern_operation> {
-    job_result operator()(std::uint64_t pattern, const_view bytes) const noexcept
+    job_result operator()(std::uint64_t pattern, detail::const_buffer bytes) const noexcept
     {
         return detail::execute(
             detail::job_of(detail::compare_pattern, detail::address_of(bytes), pattern, bytes.size()), expected);
@@ -224,7 +238,7 @@ inline constexpr compare_pattern_operation compare_pattern{};
  * the third buffer has room for. That has to be one at least, also where nothing differs: else bad_delta_size.
  */
 struct create_delta_operation : expecting<create_delta_operation> {
-    job_result operator()(const_view one, const_view other, view delta) const noexcept
+    job_result operator()(detail::const_buffer one, detail::const_buffer other, detail::buffer delta) const noexcept
     {
         if (one.size() != other.size())
             return {};
@@ -239,7 +253,7 @@ inline constexpr create_delta_operation create_delta{};
 
 /* Writes what a delta record says over a buffer of the length that it was made of. */
 struct apply_delta_operation {
-    job_result operator()(const_view delta, view target) const noexcept
+    job_result operator()(detail::const_buffer delta, detail::buffer target) const noexcept
     {
         auto job =
             detail::job_of(detail::apply_delta, detail::address_of(delta), detail::address_of(target), target.size());
@@ -252,7 +266,7 @@ struct apply_delta_operation {
      * applied: of a record that overflowed, the entries that it has; of a create that was refused, nothing. Both end in
      * ok, so look at the create's status and result first.
      */
-    job_result operator()(const_view delta, view target, const job_result &created) const noexcept
+    job_result operator()(detail::const_buffer delta, detail::buffer target, const job_result &created) const noexcept
     {
         return (*this)(delta.first(std::min(delta.size(), created.delta_record_size)), target);
     }

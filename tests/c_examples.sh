@@ -3,9 +3,10 @@
 # the C library; builds the examples of examples/c, runs them and compares what they print; and plays the log of a
 # driver against the little device. All of that as gcc and as clang compile it, under the address, leak and
 # undefined-behaviour sanitizers, on the library as both of the kit's compilers make it; then each example as the head
-# of its file says it, and lengths that 32 bits do not hold by the words of the examples in Rust and Python. `check`
-# calls it. Wants rt, gcc or clang with its sanitizers, and basenc; where a compiler or another language is not there, a
-# line says so.
+# of its file says it, and lengths that 32 bits do not hold by the words of the examples in Rust and Python. The program
+# of docs/C.md for Intel's C++ interface is compared with its port, and compiled with its names declared. `check` calls
+# it. Wants rt, gcc or clang with its sanitizers, and basenc; where a compiler or another language is not there, a line
+# says so.
 cd "$(dirname "$0")/.." || exit 2
 work=$(mktemp -d) || exit 2
 trap 'rm -rf "$work"' EXIT
@@ -170,6 +171,21 @@ try_ported() {
     grep -vxFf "$work/lines" "$work/ported" >&2 && complain "examples/c/buffers.cpp has not these lines of docs/C.md"
 }
 
+# try_intel COMPILER: that program by its own names, with declarations of these that stand for Intel's header
+try_intel() {
+    mkdir -p "$work/stub/dml"
+    cp tests/c/dml_stub.hpp "$work/stub/dml/dml.hpp"
+    {
+        program '#include "dml.dml.hpp"' | sed -n 1p
+        echo '#include <vector>'
+        echo 'int main() { std::vector<std::uint8_t> old_text(48), new_text(48), copy(48), delta(60);'
+        program '#include "dml.dml.hpp"' | sed 1d
+        echo 'return 0; }'
+    } >"$work/intel.cpp"
+    passes "the program for Intel's C++ interface is compiled by $1" "$1" -std=c++17 -Wall -Wextra -Werror -pedantic \
+        -fsyntax-only -I"$work/stub" "$work/intel.cpp"
+}
+
 # ---- the examples as the heads of their files say it
 
 # as_written FILE: runs the commands in the head of a file, in a copy of the folder, and what they build
@@ -218,6 +234,7 @@ for compiler in g++ clang++; do
     sanitizes "$compiler" || continue
     kit=llvm
     try_examples cpp "$compiler" -std=c++20
+    try_intel "$compiler"
 done
 
 try_ported

@@ -110,18 +110,23 @@ try() {
     [ "$number" = 8 ] || complain "$1: $((number - 1)) growths were met, and 7 are wanted"
 }
 
+# stricter COMPILER: the warning of casts to a value's own type, where a C++ compiler has it
+echo 'int main() { return 0; }' >"$work/none.cpp"
+stricter() {
+    "$1" -Werror -Wuseless-cast -fsyntax-only "$work/none.cpp" 2>/dev/null && echo -Wuseless-cast
+}
+
 try llvm
 try rattle
 if has c++; then
     for standard in c++98 c++11 c++20; do
-        c++ -x c++ -std=$standard $strict -I"$work/llvm/include" -o "$work/plus" "$work/strict.c" -x none \
-            "$work/llvm/lib/libkazovuni.a" && "$work/plus" || complain "a strict caller in $standard"
+        c++ -x c++ -std=$standard $strict $(stricter c++) -I"$work/llvm/include" -o "$work/plus" "$work/strict.c" \
+            -x none "$work/llvm/lib/libkazovuni.a" && "$work/plus" || complain "a strict caller in $standard"
     done
 fi
-echo 'int main() { return 0; }' >"$work/none.cpp"
 for compiler in g++ clang++; do
     has $compiler || continue
-    plus="$compiler -std=c++20 $strict -Wold-style-cast -Wshadow -I$work/llvm/include"
+    plus="$compiler -std=c++20 $strict $(stricter $compiler) -Wold-style-cast -Wshadow -I$work/llvm/include"
     $plus -DOTHER -c -o "$work/other.o" "$work/files.cpp" &&
         $plus -o "$work/files" "$work/files.cpp" "$work/other.o" "$work/llvm/lib/libkazovuni.a" && "$work/files" ||
         complain "two files by $compiler: status $?"

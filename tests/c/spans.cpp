@@ -2,6 +2,7 @@
 // Exit status: 0, or the number of the first that answers something else.
 #include "kazovuni.hpp"
 
+#include <array>
 #include <sys/mman.h>
 #include <vector>
 
@@ -78,6 +79,41 @@ static int try_deltas()
     return apply_delta(delta, aligned, made).status == status_code::offset_range ? 0 : 32;
 }
 
+// What is written is no const buffer, and what has another type than a byte goes through make_view.
+template <typename... Buffers> constexpr bool moves = std::is_invocable_v<decltype(mem_move), Buffers...>;
+static_assert(moves<const_view, view> && moves<const std::vector<std::byte> &, std::array<std::byte, 8> &>);
+static_assert(!moves<view, const_view> && !moves<view, const std::vector<std::byte> &>);
+static_assert(!moves<view, std::vector<std::uint64_t> &> && !moves<view, std::span<const std::byte>>);
+
+// Buffers as a program has them, of std::uint8_t and of std::byte.
+static int try_buffers()
+{
+    std::array<std::uint8_t, 64> numbers{};
+    std::array<std::byte, 64> bytes{};
+    std::uint8_t plain[64] = {};
+    const std::vector<std::byte> nines(64, std::byte{9});
+    std::vector<std::byte> copy(64);
+    std::span<std::byte> all = bytes;
+    std::span<const std::byte, 64> fixed(bytes);
+    if (mem_move(nines, bytes).status != status_code::ok || bytes[63] != std::byte{9})
+        return 33;
+    if (mem_move(all, numbers).status != status_code::ok || numbers[63] != 9)
+        return 34;
+    if (mem_move(numbers, plain).status != status_code::ok || plain[63] != 9)
+        return 35;
+    if (execute(mem_move, fixed, copy).bytes_processed != 64 || copy != nines)
+        return 36;
+    if (compare(fixed, plain).result != comparison_result::equal)
+        return 37;
+    if (mem_move(std::as_bytes(std::span(sevens)), all.first(64)).status != status_code::ok || bytes[0] != std::byte{7})
+        return 38;
+    if (fill(0, std::as_writable_bytes(std::span(numbers))).status != status_code::ok || numbers[63] != 0)
+        return 39;
+    if (fill(1, {}).status != status_code::ok || mem_move({plain, 8}, {numbers.data(), 8}).bytes_processed != 8)
+        return 40;
+    return numbers[7] == 9 && numbers[8] == 0 ? 0 : 41;
+}
+
 // Buffers of 4 GiB and some bytes, none of which may be touched: a length that was cut to 32 bits would be that of a
 // job that is accepted.
 static int try_too_long()
@@ -85,22 +121,22 @@ static int try_too_long()
     constexpr std::size_t most = std::size_t{1} << 32;
     void *pages = mmap(nullptr, most + 4096, PROT_NONE, MAP_PRIVATE | MAP_ANONYMOUS | MAP_NORESERVE, -1, 0);
     if (reinterpret_cast<std::intptr_t>(pages) == -1)
-        return 40;
+        return 50;
     view huge(static_cast<std::uint8_t *>(pages), most + 64), aligned = view(target).subspan(1024, 64);
     if (mem_move(huge, huge).status != status_code::bad_size)
-        return 41;
+        return 51;
     if (fill(1, huge).status != status_code::bad_size)
-        return 42;
+        return 52;
     if (compare(huge, huge).status != status_code::bad_size)
-        return 43;
+        return 53;
     if (create_delta(huge, huge, delta).status != status_code::bad_size)
-        return 44;
-    return apply_delta(huge.first(most + 60), aligned).status == status_code::bad_delta_size ? 0 : 45;
+        return 54;
+    return apply_delta(huge.first(most + 60), aligned).status == status_code::bad_delta_size ? 0 : 55;
 }
 
 int main()
 {
-    for (int (*part)() : {try_compares, try_dualcasts, try_deltas, try_too_long})
+    for (int (*part)() : {try_compares, try_dualcasts, try_deltas, try_buffers, try_too_long})
         if (int number = part(); number != 0)
             return number;
     return 0;

@@ -4,9 +4,10 @@
  * image has its ranges somewhere else: no byte of an answer depends on where the buffers lie. Those that begin at a
  * page are tried by kazovuni_execute too. A buffer stands as near to one of the pages as its alignment lets it; the
  * bytes between keep what they had, and under valgrind's memcheck may not be touched at all. A range that goes on into
- * such a page is a fault signal of the process.
+ * such a page, or begins at address 0, is a fault signal of the process.
  *
- * Usage: buffers_exact [STEP]   only each STEP-th alignment of the second buffer, 1 where nothing is said
+ * Usage: buffers_exact [STEP]   only each STEP-th alignment of the second buffer, 1 where nothing is said; the first of
+ *                               them is another one for each alignment of the first buffer and each size
  *        buffers_exact beside   a read of bytes beside a buffer, which memcheck has to report
  */
 #define _GNU_SOURCE
@@ -31,9 +32,11 @@
 enum { AREA = 2 * ENOUGH, BESIDE = 128, BLANK = 0xc7, ALIGNMENTS = 64, MOST_LENGTH = 130, MOST_ENTRIES = 65536 };
 enum place { BEHIND_A_PAGE, BEFORE_A_PAGE, PLACES };
 
-/* What a create and an apply meet; other jobs are plain. */
+/* What a compare, a create and an apply meet; other jobs are plain. */
 enum kind {
-    PLAIN,  /* some blocks differ, with any room; offsets that rise, inside the target */
+    PLAIN,  /* some bytes or blocks differ, or none, with any room; offsets that rise, inside the target */
+    FIRST,  /* a compare: the first byte alone differs */
+    LAST,   /* a compare: the last byte alone differs */
     EDGE,   /* all blocks differ, with just the room for them; an offset equal to the one before it */
     BEYOND, /* all blocks differ, and one entry has no room; an offset behind the target */
     KINDS
@@ -212,25 +215,35 @@ static void fill_offsets(const struct job *job, enum kind kind)
         put_number(delta + 10 * below(entries), blocks + below(65536 - blocks), 2);
 }
 
+/* What a compare finds in its source: some bytes that differ, or none, or the one of its kind, in one bit. */
+static void differ(const struct job *job, enum kind kind)
+{
+    uint8_t *source = image.bytes + job->source;
+    if (kind == FIRST || kind == LAST)
+        source[kind == FIRST ? 0 : job->size - 1] ^= 1 << below(8);
+    for (int i = 0; kind == PLAIN && job->size > 0 && i < 3 && one_in(2); i++)
+        source[below(job->size)] ^= 0x40;
+}
+
 /* Bytes of the image: few values, in which the job finds something to do. */
 static void fill_image(const struct job *job, enum kind kind)
 {
     struct buffer ranges[RANGES];
     ranges_of(job, ranges);
-    for (int i = 0; i < RANGES; i++)
-        for (size_t k = 0; ranges[i].is_there && k < ranges[i].length; k++)
-            image.bytes[ranges[i].address + k] = (uint8_t)below(4);
-    if (job->opcode == COMPARE) {
-        memcpy(image.bytes + job->target, image.bytes + job->source, job->size);
-        for (int i = 0; job->size > 0 && one_in(2) && i < 3; i++)
-            image.bytes[job->target + below(job->size)] ^= 0x40;
+    for (int i = 0; i < RANGES; i++) {
+        uint64_t eight = 0;
+        for (size_t k = 0; ranges[i].is_there && k < ranges[i].length; k++) {
+            eight = k % 8 == 0 ? any() : eight >> 8;
+            image.bytes[ranges[i].address + k] = eight & 3;
+        }
     }
-    if (job->opcode == COMPARE_PATTERN) {
+    if (job->opcode == COMPARE)
+        memcpy(image.bytes + job->target, image.bytes + job->source, job->size);
+    if (job->opcode == COMPARE_PATTERN)
         for (uint32_t k = 0; k < job->size; k++)
             image.bytes[job->source + k] = (uint8_t)(job->target >> 8 * (k % 8));
-        if (job->size > 0 && one_in(2))
-            image.bytes[job->source + below(job->size)] ^= 0x40;
-    }
+    if (job->opcode == COMPARE || job->opcode == COMPARE_PATTERN)
+        differ(job, kind);
     if (job->opcode == CREATE)
         fill_second(job, kind);
     if (job->opcode == APPLY)
@@ -250,10 +263,11 @@ static uint32_t entries_of(uint8_t opcode, uint32_t size, enum kind kind)
     return 0;
 }
 
-/* The kinds that there are of an operation and a size: those that are not plain want two blocks. */
-static enum kind kinds_of(uint8_t opcode, uint32_t size)
+/* Whether there are jobs of a kind: of a compare one wants a byte, of a create or an apply two blocks. */
+static bool has_kind(uint8_t opcode, uint32_t size, enum kind kind)
 {
-    return (opcode == CREATE || opcode == APPLY) && size >= 16 ? KINDS : PLAIN + 1;
+    bool is_compare = opcode == COMPARE || opcode == COMPARE_PATTERN, is_delta = opcode == CREATE || opcode == APPLY;
+    return kind == PLAIN || (kind < EDGE ? is_compare && size > 0 : is_delta && size >= 16);
 }
 
 /* A job whose ranges stand in the image one behind the other, whatever their alignment is elsewhere. */
@@ -267,7 +281,7 @@ static struct job job_of(uint8_t opcode, uint32_t size, uint32_t delta_size)
     return job;
 }
 
-/* Counts what the evaluator answers of a create or an apply, which has to be what its kind is for. */
+/* Counts what the evaluator answers of a create or an apply; it has to be what the job's kind is for. */
 static void count(const struct job *job, enum kind kind, const uint8_t record[32])
 {
     static const struct buffer none[RANGES];
@@ -275,7 +289,9 @@ static void count(const struct job *job, enum kind kind, const uint8_t record[32
     bool is_written = is_create && record[1] == 1, is_full = is_create && record[1] == 2;
     bool is_equal = is_apply && record[0] == 0x07, is_outside = is_apply && record[0] == 0x08;
     written += is_written, full += is_full, equal += is_equal, outside += is_outside;
-    if (kind == EDGE ? !is_written && !is_equal : kind == BEYOND && !is_full && !is_outside)
+    bool is_found = record[1] == 1 && kazovuni_number_at(record + 4) == (kind == FIRST ? 0 : job->size - 1);
+    if (((kind == FIRST || kind == LAST) && !is_found) || (kind == EDGE && !is_written && !is_equal) ||
+        (kind == BEYOND && !is_full && !is_outside))
         fail(job, "it does not meet what it is made for", none);
 }
 
@@ -288,12 +304,13 @@ static struct answer prepared(const struct job *job, enum kind kind)
     return answer;
 }
 
+/* All alignments of the first buffer, with those of the second that the step leaves: over the sizes, all distances. */
 static void try_alignments(const struct job *job, enum kind kind, size_t step)
 {
     struct answer answer = prepared(job, kind);
     bool has_one = job->opcode == FILL || job->opcode == COMPARE_PATTERN;
     for (size_t first = 0; first < ALIGNMENTS; first++)
-        for (size_t second = has_one ? first : first % step; second < ALIGNMENTS; second += step) {
+        for (size_t second = has_one ? first : (5 * first + job->size) % step; second < ALIGNMENTS; second += step) {
             const size_t alignments[RANGES] = {first, second, (first + 5 * second) % ALIGNMENTS};
             for (enum place place = 0; place < PLACES; place++)
                 try_at(job, &answer, alignments, place, false);
@@ -308,14 +325,15 @@ static void try_lengths(size_t step)
     image.pages = 3 * ENOUGH / PAGE;
     for (uint8_t opcode = MOVE; opcode <= DUALCAST; opcode++)
         for (uint32_t size = 0; size <= MOST_LENGTH; size++)
-            for (enum kind kind = PLAIN; kind < kinds_of(opcode, size); kind++) {
-                if ((opcode == CREATE || opcode == APPLY) && size % 8 != 0)
+            for (enum kind kind = PLAIN; kind < KINDS; kind++) {
+                bool is_delta = opcode == CREATE || opcode == APPLY;
+                if (!has_kind(opcode, size, kind) || (is_delta && size % 8 != 0))
                     continue;
                 struct job job = job_of(opcode, size, 10 * entries_of(opcode, size, kind));
                 try_alignments(&job, kind, step);
             }
     for (uint32_t size = 0; size <= MOST_LENGTH; size++)
-        for (size_t alignment = 0; alignment < ALIGNMENTS; alignment += step)
+        for (size_t alignment = size % step; alignment < ALIGNMENTS; alignment += step)
             for (int way = 0; way < 2; way++)
                 try_within(size, (uint32_t)below(size + 2), alignment, way == 0);
 }
@@ -324,7 +342,9 @@ static void try_lengths(size_t step)
 static void try_greatest(uint8_t opcode, uint32_t most)
 {
     for (int round = 0; round < 2; round++)
-        for (enum kind kind = PLAIN; kind < kinds_of(opcode, most); kind++) {
+        for (enum kind kind = PLAIN; kind < KINDS; kind++) {
+            if (!has_kind(opcode, most, kind))
+                continue;
             uint32_t size = opcode == APPLY && kind == BEYOND ? most - 8 : most; /* no offset lies behind the most */
             struct job job = job_of(opcode, size, 10 * entries_of(opcode, size, kind));
             struct answer answer = prepared(&job, kind);
@@ -334,35 +354,42 @@ static void try_greatest(uint8_t opcode, uint32_t most)
         }
 }
 
+/* A job above a limit, by its operation's call with no buffers, and by kazovuni_execute. */
+static void expect_refused(struct job job, uint8_t status)
+{
+    static const struct buffer none[RANGES];
+    uint8_t descriptor[64], record[32], executed[32];
+    write_descriptor(&job, descriptor);
+    if (call(job.opcode, descriptor, none, record) != KAZOVUNI_OK || record[0] != status ||
+        kazovuni_execute(descriptor, executed) != KAZOVUNI_OK || memcmp(executed, record, 32) != 0)
+        fail(&job, "it is not refused as one above a limit", none);
+}
+
 /* The greatest lengths, and more, which is refused whatever the buffers. */
 static void try_limits(void)
 {
-    static const struct buffer none[RANGES];
     for (uint8_t opcode = MOVE; opcode <= DUALCAST; opcode++) {
         bool is_delta = opcode == CREATE || opcode == APPLY;
         uint32_t most = is_delta ? ENOUGH / 2 : ENOUGH;
         try_greatest(opcode, most);
-        struct job job = job_of(opcode, most + 8, is_delta ? 10 : 0);
-        uint8_t descriptor[64], record[32];
-        write_descriptor(&job, descriptor);
-        if (call(opcode, descriptor, none, record) != KAZOVUNI_OK || record[0] != 0x13)
-            fail(&job, "a size above the greatest one is not refused", none);
-        job = job_of(opcode, most, 10 * (MOST_ENTRIES + 1));
-        write_descriptor(&job, descriptor);
-        if (is_delta && (call(opcode, descriptor, none, record) != KAZOVUNI_OK || record[0] != 0x15))
-            fail(&job, "a record above the greatest size is not refused", none);
+        expect_refused(job_of(opcode, most + 1, is_delta ? 10 : 0), 0x13);
+        expect_refused(job_of(opcode, most + 8, is_delta ? 10 : 0), 0x13);
+        if (is_delta)
+            expect_refused(job_of(opcode, most, 10 * (MOST_ENTRIES + 1)), 0x15);
     }
     for (uint32_t apart = 0; apart < 3000; apart += 999)
         try_within(ENOUGH, apart, apart % 64, apart % 2 == 0);
 }
 
-/* A fill that goes on into a page that is not mapped: the process meets a fault signal of its own, here a child's. */
-static void try_unmapped(void)
+/* A job that is accepted and touches a byte that is not mapped: a fault signal of the process, here of a child. */
+static void expect_fault(const struct job *job)
 {
-    struct job job = {.opcode = FILL, .target = (uintptr_t)areas[0] + AREA - 64, .size = 65};
+    static const struct buffer none[RANGES];
     uint8_t descriptor[64], record[32];
     int status = 0;
-    write_descriptor(&job, descriptor);
+    write_descriptor(job, descriptor);
+    if (kazovuni_check(descriptor, ENOUGH) != 0)
+        fail(job, "it is refused, and was to meet a fault", none);
     pid_t child = fork();
     if (child == 0) {
         signal(SIGSEGV, SIG_DFL);
@@ -372,8 +399,43 @@ static void try_unmapped(void)
     if (child < 0 || waitpid(child, &status, 0) != child)
         exit(2);
     if (!WIFSIGNALED(status) || WTERMSIG(status) != SIGSEGV) {
-        fprintf(stderr, "buffers_exact: a page that is not mapped: status %d\n", status);
-        exit(1);
+        fprintf(stderr, "buffers_exact: source %llx, target %llx, extra %llx: status %d\n",
+                (unsigned long long)job->source, (unsigned long long)job->target, (unsigned long long)job->extra,
+                status);
+        fail(job, "a byte that is not mapped is no fault", none);
+    }
+}
+
+/* Fills that go on into a page that is not mapped, and jobs of each operation that have a range at address 0. */
+static void try_unmapped(void)
+{
+    uint64_t one = (uintptr_t)areas[0], other = (uintptr_t)areas[1], third = (uintptr_t)areas[2];
+    static const uint32_t sizes[] = {8, 64, PAGE};
+    memset(areas[0], 0, 10); /* an entry for the first block, which differs from that of the other area */
+    for (size_t i = 0; i < sizeof sizes / sizeof *sizes; i++) {
+        uint32_t size = sizes[i];
+        const struct job tried[] = {
+            {.opcode = FILL, .target = one + AREA - size, .size = size + 1},
+            {.opcode = FILL, .target = 0, .size = size},
+            {.opcode = MOVE, .source = 0, .target = other, .size = size},
+            {.opcode = MOVE, .source = one, .target = 0, .size = size},
+            {.opcode = MOVE, .source = 0, .target = size / 2, .size = size},
+            {.opcode = MOVE, .source = size / 2, .target = 0, .size = size},
+            {.opcode = COMPARE, .source = 0, .target = other, .size = size},
+            {.opcode = COMPARE, .source = one, .target = 0, .size = size},
+            {.opcode = COMPARE, .source = 0, .target = 0, .size = size},
+            {.opcode = COMPARE_PATTERN, .source = 0, .target = 0, .size = size},
+            {.opcode = CREATE, .source = 0, .target = other, .extra = third, .size = size, .delta_size = 10},
+            {.opcode = CREATE, .source = one, .target = 0, .extra = third, .size = size, .delta_size = 10},
+            {.opcode = CREATE, .source = one, .target = other, .extra = 0, .size = size, .delta_size = 10},
+            {.opcode = APPLY, .source = 0, .target = other, .size = size, .delta_size = 10},
+            {.opcode = APPLY, .source = one, .target = 0, .size = size, .delta_size = 10},
+            {.opcode = DUALCAST, .source = 0, .target = other, .extra = third, .size = size},
+            {.opcode = DUALCAST, .source = one, .target = 0, .extra = third, .size = size},
+            {.opcode = DUALCAST, .source = one, .target = other, .extra = 0, .size = size},
+        };
+        for (size_t k = 0; k < sizeof tried / sizeof *tried; k++)
+            expect_fault(&tried[k]);
     }
 }
 

@@ -2,7 +2,8 @@
  * Random jobs of all operations, each carried out in four ways: by kazovuni_submit_pointers, by the evaluator of
  * tests/fuzz, by kazovuni_execute, and by the operation's own call over copies of its ranges that lie anywhere. Records
  * and all bytes have to be the same; where a call answers 10 or 11, nothing may be changed. A job that is accepted and
- * has a byte outside the test's own memory is drawn anew, and not counted; a range of no byte may lie anywhere.
+ * has a byte outside the test's own memory is drawn anew, and not counted; a range of no byte may lie anywhere. Calls
+ * are looked at by buffers_wrapped.c, where that is linked with it.
  *
  * Usage: buffers_random [SEED [COUNT]]   seed 1 and 100,000 jobs, where nothing else is said
  */

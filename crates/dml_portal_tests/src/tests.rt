@@ -4,7 +4,6 @@ mod clients;
 mod entering;
 mod gates;
 mod growths;
-mod lent;
 mod portals;
 mod rounds;
 mod steps;

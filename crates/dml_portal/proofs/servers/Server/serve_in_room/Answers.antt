@@ -6,7 +6,7 @@ use Rattle.dml_portal.proofs.BlockLemmas.{blocks_along}
 use Rattle.dml_portal.proofs.LaneLemmas.{popped_along, pushed_along, same_lanes}
 use Rattle.dml_portal.proofs.ServedLemmas.{front_is, round_left, round_log, whole_is}
 use Rattle.dml_portal.proofs.TakenLemmas.{taken_along}
-use Rattle.dml_portal.proofs.servers.ServerOver.serve_in_room.Goals as goal
+use Rattle.dml_portal.proofs.servers.Server.serve_in_room.Goals as goal
 
 pub push_round-requires-clause-popped : goal.push_round-requires-clause-popped
 push_round-requires-clause-popped g c =

@@ -1,7 +1,7 @@
 use Rattle.std.specs.Prelude.{Some}
 use Rattle.std.proofs.lemmas.List.Elements.{All-pop}
 use Rattle.dml_portal.specs.Lanes.{IsSeatOf}
-use Rattle.dml_portal_tests.proofs.tests.portals.One.over.Goals as goal
+use Rattle.dml_portal_tests.proofs.tests.portals.One.open.Goals as goal
 
 pub invariant_of-result : goal.invariant_of-result
 invariant_of-result c =

@@ -1,6 +1,6 @@
 use Rattle.std.proofs.Common.{get_or}
 use Rattle.dml_portal.proofs.LookLemmas.{each_settled}
-use Rattle.dml_portal.proofs.servers.ServerOver.is_drained.Goals as goal
+use Rattle.dml_portal.proofs.servers.Server.is_drained.Goals as goal
 
 pub returns-clause-settled : goal.returns-clause-settled
 returns-clause-settled g c = λ is place done below.

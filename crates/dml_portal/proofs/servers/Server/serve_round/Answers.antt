@@ -4,7 +4,7 @@ use Rattle.dml_portal.specs.Lanes.{AreTaken}
 use Rattle.dml_portal.specs.Served.{RoundHasServed}
 use Rattle.dml_portal.proofs.ServedLemmas.{nothing_left}
 use Rattle.dml_portal.proofs.TakenLemmas.{taken_from}
-use Rattle.dml_portal.proofs.servers.ServerOver.serve_round.Goals as goal
+use Rattle.dml_portal.proofs.servers.Server.serve_round.Goals as goal
 
 pub returns-in_default-clause-steps : goal.returns-in_default-clause-steps
 returns-in_default-clause-steps g c =

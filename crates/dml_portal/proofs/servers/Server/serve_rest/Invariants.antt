@@ -3,7 +3,7 @@ use Rattle.dml_portal.specs.Lanes.{AreSameLanes}
 use Rattle.dml_portal.specs.Settled.{AreSeatsOf, AreUnusedSeats}
 use Rattle.dml_portal.proofs.ServedLemmas.{Grown}
 use Rattle.dml_portal.proofs.LeftLemmas.{jobs_left}
-use Rattle.dml_portal.proofs.servers.ServerOver.serve_rest.Given as goal
+use Rattle.dml_portal.proofs.servers.Server.serve_rest.Given as goal
 
 abbrev pub invariant-loop-alloc : goal.invariant-loop-alloc
 invariant-loop-alloc g l =

@@ -3,7 +3,7 @@ use Rattle.dml_portal.proofs.LaneLemmas.{same_lanes}
 use Rattle.dml_portal.proofs.LookLemmas.{same_lanes_again, seats_same, unused_seats, unused_seats_again}
 use Rattle.dml_portal.proofs.ServedLemmas.{exits, grown_none, grown_round, grown_still}
 use Rattle.dml_portal.proofs.LeftLemmas.{fewer_left}
-use Rattle.dml_portal.proofs.servers.ServerOver.serve_rest.Goals as goal
+use Rattle.dml_portal.proofs.servers.Server.serve_rest.Goals as goal
 
 pub loop-alloc-init : goal.loop-alloc-init
 loop-alloc-init g c =

@@ -2,7 +2,7 @@ use Rattle.std.proofs.Common.{length, sym, subst}
 use Rattle.dml_portal.specs.Settled.{EachDone, IsSettled}
 use Rattle.dml_portal.proofs.LookLemmas.{all_settled, finished_same, same_lanes_again}
 use Rattle.dml_portal.proofs.ServedLemmas.{exits, grown_none}
-use Rattle.dml_portal.proofs.servers.ServerOver.settle.Goals as goal
+use Rattle.dml_portal.proofs.servers.Server.settle.Goals as goal
 
 pub returns-then-not-have_finished-clause-kept_steps :
     goal.returns-then-not-have_finished-clause-kept_steps

@@ -155,7 +155,6 @@ test_of 0 "$portals" tests::round_of_128
 # So is one of the caller that takes its records from the engine: eight compares of 1 MiB share 7,995,392 bytes, which
 # pay for the four workers that there may be, ten times over.
 test_of 30 "$engines" tests::lists::large_compares
-test_of 0 "$engines" tests::lists::levels_of_four_jobs
 # Each wave of a list is judged by itself: the fills between the compares share nothing, and those behind them pay again.
 twice >"$work/jobs"
 expect 6 4 1048576 8 'four compares, fills into their sources, and four compares' <"$work/jobs"

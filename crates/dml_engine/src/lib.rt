@@ -12,5 +12,5 @@ mod resuming;
 mod submitting;
 
 pub use dml_resume::law_resume;
-pub use engines::{Engine, EngineOver};
+pub use engines::Engine;
 pub use errors::{EngineError, SubmitError};

@@ -13,7 +13,7 @@ ghost use Rattle.dml_wave.specs.Waves.{busy};
 ghost use Rattle.dml_engine.specs.Lists.{IsReady};
 ghost use Rattle.dml_engine.specs.Loads.{is_for_waves, shareable};
 
-use crate::engines::EngineOver;
+use crate::engines::Engine;
 use crate::loads::{Load, levels_pay, may_pay};
 use crate::opening::{Fences, open_all};
 use dml_desc::Checked;
@@ -25,7 +25,7 @@ use std::alloc::Global;
 use std::sync::Wait;
 use std::thread::Threads;
 
-impl<G: Gate + Sync> EngineOver<'_, G> {
+impl<G: Gate + Sync> Engine<G> {
     /// Carries out a list of jobs, and writes the record of each at its place.
     pub(crate) fn carry_out_list<R: Threads + Wait + Sync>(
         &mut self,
@@ -118,7 +118,7 @@ impl<G: Gate + Sync> EngineOver<'_, G> {
     }
 }
 
-impl<G> EngineOver<'_, G> {
+impl<G> Engine<G> {
     /// Whether a list of jobs goes wave by wave: a gate that was given is to see every task, with however many workers;
     /// else several workers have to pay.
     pub(crate) fn goes_by_waves(&self, jobs: &[Job], fences: Fences) -> bool
@@ -129,18 +129,22 @@ impl<G> EngineOver<'_, G> {
 
     /// Whether a list of jobs may be given more than one worker, by what the jobs name, before any of them is checked.
     pub(crate) fn may_pay(&self, jobs: &[Job]) -> bool
-        ensures { IsTrue result ↔ ((1 < self.now.settings.workers) × (1572864 ≤ shareable jobs.now)) }
+        ensures { IsTrue result ↔ ((1 < self.now.settings.workers)
+            × ((self.now.watched ≡ true) ⊎ (1572864 ≤ shareable jobs.now))) }
     {
-        self.settings().workers > 1 && may_pay(jobs)
+        self.settings().workers > 1 && (self.is_watched() || may_pay(jobs))
     }
 
-    /// Whether a list of jobs is given more than one worker where no gate was given.
+    /// Whether a list of jobs is given more than one worker.
     fn is_worth_waves(&self, jobs: &[Job], fences: Fences) -> bool
         ensures { result ≡ is_for_waves self.now fences jobs.now }
     {
         let settings = self.settings();
         self.may_pay(jobs)
-            && Load::of_list(jobs, fences, settings).list_workers(settings.workers) > 1
+            && Load::of_list(jobs, fences, settings).list_workers(
+                self.is_watched(),
+                settings.workers,
+            ) > 1
     }
 
     /// Carries out a list of jobs one after another, and writes the record of each at its place.

@@ -5,7 +5,6 @@ mod entering;
 mod fences;
 mod gates;
 mod growths;
-mod lent;
 mod lists;
 mod operations;
 mod refusals;

@@ -1,9 +1,8 @@
 //! Rows: an image, jobs on it, what they answer and what they leave. Each is submitted as a list and as a batch, at
 //! many settings, all with the same answers.
 
-use super::lent::{blank_pages, lent};
 use super::{USUAL, answer, put};
-use dml_engine::{Engine, EngineOver};
+use dml_engine::Engine;
 use dml_image::Image;
 use dml_pool::Free;
 use dml_types::{BatchRecord, Job, Record, Settings, Status};
@@ -70,12 +69,7 @@ fn page_of(row: &Row, page: u32) -> [u8; 4096] {
 
 /// A row's image.
 fn image_of(alloc: Global, row: &Row) -> Option<Image<'static>> {
-    bring_pages(Image::new(alloc, row.pages).ok()?, row)
-}
-
-/// An image with the pages of a row that are present.
-fn bring_pages<'a>(image: Image<'a>, row: &Row) -> Option<Image<'a>> {
-    let mut image = image;
+    let mut image = Image::new(alloc, row.pages).ok()?;
     for page in row.present {
         image.bring(*page, &page_of(row, *page)).ok()?;
     }
@@ -97,7 +91,7 @@ fn expect_list<R: Abort + Threads + Wait + Sync>(
     rt: &R,
     alloc: Global,
     row: &Row,
-    engine: &mut EngineOver<'_>,
+    engine: &mut Engine,
 ) -> Option<()> {
     let records = engine.submit_list(rt, alloc, row.jobs).ok()?;
     expect_records(rt, row.name, &records, row.records);
@@ -110,7 +104,7 @@ fn expect_batch<R: Abort + Threads + Wait + Sync>(
     rt: &R,
     alloc: Global,
     row: &Row,
-    engine: &mut EngineOver<'_>,
+    engine: &mut Engine,
 ) -> Option<()> {
     let (own, records) = engine.submit_batch(rt, alloc, row.jobs).ok()?;
     expect_records(rt, row.name, &records, row.records);
@@ -146,20 +140,6 @@ fn expect_left(rt: &impl Abort, row: &Row, image: &Image) {
     }
 }
 
-/// Expects the bytes that a row leaves in the caller's memory.
-fn expect_content(rt: &impl Abort, row: &Row, content: &[u8]) {
-    for (addr, bytes) in row.left {
-        for (at, byte) in (*addr..u64::MAX).zip(*bytes) {
-            assert_eq!(rt;
-                content.get(at as usize),
-                Some(byte),
-                "{}: byte {at}",
-                row.name
-            );
-        }
-    }
-}
-
 /// Expects bytes of an image, from an address on.
 pub(super) fn expect_bytes(rt: &impl Abort, name: &str, image: &Image, addr: u64, bytes: &[u8]) {
     for (at, byte) in (addr..u64::MAX).zip(bytes) {
@@ -174,7 +154,7 @@ fn engine_of(alloc: Global, row: &Row, settings: Settings, given: bool) -> Optio
 }
 
 /// The engine with its own gate, or with one given.
-pub(super) fn with_given(engine: EngineOver<'_>, given: bool) -> EngineOver<'_> {
+pub(super) fn with_given(engine: Engine, given: bool) -> Engine {
     if given {
         engine.with_gate(Free)
     } else {
@@ -192,28 +172,8 @@ fn lists_everywhere<R: Abort + Threads + Wait + Sync>(
         for given in [false, true] {
             let mut engine = engine_of(alloc, row, settings, given)?;
             expect_list(rt, alloc, row, &mut engine)?;
-            list_over_lent(rt, alloc, row, settings, given)?;
         }
     }
-    Some(())
-}
-
-/// The same over memory that is lent to the engine, where the list's bytes stand behind it.
-fn list_over_lent<R: Abort + Threads + Wait + Sync>(
-    rt: &R,
-    alloc: Global,
-    row: &Row,
-    settings: Settings,
-    given: bool,
-) -> Option<()> {
-    let (present, mut content) = blank_pages(alloc, row.pages, row.present)?;
-    let mut lent = lent(present.as_slice(), content.as_mut_slice());
-    let image = bring_pages(lent.take(), row)?;
-    let mut engine = with_given(EngineOver::new(alloc, image, settings).ok()?, given);
-    expect_list(rt, alloc, row, &mut engine)?;
-    drop(engine);
-    drop(lent);
-    expect_content(rt, row, content.as_slice());
     Some(())
 }
 
@@ -227,28 +187,8 @@ fn batches_everywhere<R: Abort + Threads + Wait + Sync>(
         for given in [false, true] {
             let mut engine = engine_of(alloc, row, settings, given)?;
             expect_batch(rt, alloc, row, &mut engine)?;
-            batch_over_lent(rt, alloc, row, settings, given)?;
         }
     }
-    Some(())
-}
-
-/// The same over memory that is lent to the engine.
-fn batch_over_lent<R: Abort + Threads + Wait + Sync>(
-    rt: &R,
-    alloc: Global,
-    row: &Row,
-    settings: Settings,
-    given: bool,
-) -> Option<()> {
-    let (present, mut content) = blank_pages(alloc, row.pages, row.present)?;
-    let mut lent = lent(present.as_slice(), content.as_mut_slice());
-    let image = bring_pages(lent.take(), row)?;
-    let mut engine = with_given(EngineOver::new(alloc, image, settings).ok()?, given);
-    expect_batch(rt, alloc, row, &mut engine)?;
-    drop(engine);
-    drop(lent);
-    expect_content(rt, row, content.as_slice());
     Some(())
 }
 

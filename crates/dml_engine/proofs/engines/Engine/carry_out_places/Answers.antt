@@ -15,8 +15,8 @@ use Rattle.dml_levels.specs.Waves.{job_at}
 use Rattle.dml_wave.specs.Waves.{is_busy}
 use Rattle.dml_engine.specs.State.{State}
 use Rattle.dml_engine.proofs.IdleLemmas.{Remaining, busy_more, idle_more}
-use Rattle.dml_engine.proofs.engines.EngineOver.carry_out_places.Goals as goal
-use Rattle.dml_engine.proofs.engines.EngineOver.carry_out_places.Goals.{then-is_busy, else-is_busy}
+use Rattle.dml_engine.proofs.engines.Engine.carry_out_places.Goals as goal
+use Rattle.dml_engine.proofs.engines.Engine.carry_out_places.Goals.{then-is_busy, else-is_busy}
 
 pub loop-place-preserved : goal.loop-place-preserved
 loop-place-preserved g c =

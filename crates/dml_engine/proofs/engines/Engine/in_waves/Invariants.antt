@@ -3,7 +3,7 @@ use Rattle.dml_order.specs.Order.{run_all}
 use Rattle.dml_order.specs.Waves.{joined}
 use Rattle.dml_levels.specs.Laws.{begun, carried}
 use Rattle.dml_engine.specs.Lists.{AreOpened}
-use Rattle.dml_engine.proofs.engines.EngineOver.in_waves.Given as goal
+use Rattle.dml_engine.proofs.engines.Engine.in_waves.Given as goal
 
 abbrev pub invariant-loop-wave : goal.invariant-loop-wave
 invariant-loop-wave g l =

@@ -1,6 +1,6 @@
 use Rattle.std.proofs.Common.{◌≡◌, length}
 use Rattle.std.specs.Prelude.{vec_capacity}
-use Rattle.dml_engine.proofs.engines.EngineOver.submit_into.Given as goal
+use Rattle.dml_engine.proofs.engines.Engine.submit_into.Given as goal
 
 abbrev pub invariant-loop : goal.invariant-loop
 invariant-loop g l =

@@ -16,8 +16,8 @@ use Rattle.dml_wave.specs.Waves.{busy}
 use Rattle.dml_engine.specs.Lists.{AreOpened, IsReady}
 use Rattle.dml_engine.proofs.FenceWalks.{Reached, carried_all, carried_to_fence, fence_below, goes_on, is_fence, none_reached, reaching, run_more, stays}
 use Rattle.dml_engine.proofs.IdleLemmas.{checked_run, opened_after}
-use Rattle.dml_engine.proofs.engines.EngineOver.batch_in_waves.Goals as goal
-use Rattle.dml_engine.proofs.engines.EngineOver.batch_in_waves.Goals.{then-reaches+else-ends_before, else-reaches}
+use Rattle.dml_engine.proofs.engines.Engine.batch_in_waves.Goals as goal
+use Rattle.dml_engine.proofs.engines.Engine.batch_in_waves.Goals.{then-reaches+else-ends_before, else-reaches}
 
 pub loop-wave-init : goal.loop-wave-init
 loop-wave-init g c =

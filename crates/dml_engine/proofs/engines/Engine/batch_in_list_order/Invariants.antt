@@ -1,6 +1,6 @@
 use Rattle.std.proofs.Common.{◌≡◌, length}
 use Rattle.dml_engine.specs.Batches.{IsCarried}
-use Rattle.dml_engine.proofs.engines.EngineOver.batch_in_list_order.Given as goal
+use Rattle.dml_engine.proofs.engines.Engine.batch_in_list_order.Given as goal
 
 abbrev pub invariant-loop-i : goal.invariant-loop-i
 invariant-loop-i g l =

@@ -5,7 +5,7 @@ use Rattle.dml_order.specs.Waves.{joined}
 use Rattle.dml_levels.specs.Laws.{begun, carried}
 use Rattle.dml_engine.specs.Lists.{AreOpened}
 use Rattle.dml_engine.proofs.FenceWalks.{Reached}
-use Rattle.dml_engine.proofs.engines.EngineOver.batch_in_waves.Given as goal
+use Rattle.dml_engine.proofs.engines.Engine.batch_in_waves.Given as goal
 
 abbrev pub invariant-loop-wave : goal.invariant-loop-wave
 invariant-loop-wave g l =

@@ -1,6 +1,6 @@
 use Rattle.std.proofs.Common.{◌≡◌, ◌++◌, take, drop}
 use Rattle.dml_types.specs.Step.{memory_after, records_of}
-use Rattle.dml_engine.proofs.engines.EngineOver.in_list_order.Given as goal
+use Rattle.dml_engine.proofs.engines.Engine.in_list_order.Given as goal
 
 abbrev pub invariant-loop-i : goal.invariant-loop-i
 invariant-loop-i g l =

@@ -4,7 +4,7 @@ use Rattle.dml_types.specs.declared.limits.Settings.{Settings}
 use Rattle.dml_types.specs.Job.{no_op_job, unfenced}
 use Rattle.dml_types.specs.Step.{ends_before, step}
 use Rattle.dml_engine.proofs.BatchLemmas.{carried_one}
-use Rattle.dml_engine.proofs.engines.EngineOver.batch_in_list_order.Goals as goal
+use Rattle.dml_engine.proofs.engines.Engine.batch_in_list_order.Goals as goal
 
 pub loop-i-preserved : goal.loop-i-preserved
 loop-i-preserved g c =

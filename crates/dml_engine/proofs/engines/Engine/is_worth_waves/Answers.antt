@@ -1,7 +1,7 @@
 use Rattle.std.proofs.Common.{sym, ◌∙◌}
 use Rattle.std.proofs.lemmas.Bool.{false≢true}
 use Rattle.dml_engine.proofs.LoadLemmas.{not_worth}
-use Rattle.dml_engine.proofs.engines.EngineOver.is_worth_waves.Goals as goal
+use Rattle.dml_engine.proofs.engines.Engine.is_worth_waves.Goals as goal
 
 pub returns-else-may_pay : goal.returns-else-may_pay
 returns-else-may_pay g c =

@@ -1,4 +1,4 @@
-use Rattle.dml_engine.proofs.engines.EngineOver.law_resume.Goals as goal
+use Rattle.dml_engine.proofs.engines.Engine.law_resume.Goals as goal
 
 pub returns-clause-left : goal.returns-clause-left
 returns-clause-left g c op is can faulted =

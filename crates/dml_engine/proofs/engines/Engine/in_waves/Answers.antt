@@ -10,7 +10,7 @@ use Rattle.dml_wave.specs.Waves.{busy}
 use Rattle.dml_engine.specs.Lists.{AreOpened, IsReady}
 use Rattle.dml_engine.proofs.IdleLemmas.{checked_run, free_checked, opened_after}
 use Rattle.dml_engine.proofs.ListLemmas.{judged_same, wave_done, waves_done, waves_give}
-use Rattle.dml_engine.proofs.engines.EngineOver.in_waves.Goals as goal
+use Rattle.dml_engine.proofs.engines.Engine.in_waves.Goals as goal
 
 pub loop-wave-init : goal.loop-wave-init
 loop-wave-init g c =

@@ -1,7 +1,7 @@
 use Rattle.std.proofs.Common.{◌≡◌, length}
 use Rattle.dml_levels.specs.Laws.{begun}
 use Rattle.dml_engine.proofs.IdleLemmas.{Remaining}
-use Rattle.dml_engine.proofs.engines.EngineOver.carry_out_places.Given as goal
+use Rattle.dml_engine.proofs.engines.Engine.carry_out_places.Given as goal
 
 abbrev pub invariant-loop-place : goal.invariant-loop-place
 invariant-loop-place g l =

@@ -1,9 +1,14 @@
-ghost use Rattle.std.specs.Prelude.{◌≡◌, Some};
+ghost use Rattle.std.specs.Prelude.{◌≡◌, ◌+◌, ◌≤◌, ◌⊎◌, Some, length};
+ghost use Rattle.dml_types.specs.declared.operations.Op.TheVariants.{Compare, Move};
 ghost use Rattle.dml_types.specs.Job.{op_of};
+ghost use Rattle.dml_types.specs.Memory.{Memory, put};
+ghost use Rattle.dml_buffers.specs.Holds.{Holds};
+ghost use Rattle.dml_desc.specs.Checked.{checked_step};
 
 use dml_desc::{Checked, check};
 use dml_direct::{
-    apply_delta, compare, compare_pattern, create_delta, dualcast, fill, move_bytes, move_within,
+    apply_delta, compare, compare_pattern, create_delta, dualcast, fill, law_of_buffers, move_bytes,
+    move_within,
 };
 use dml_types::{Job, Op, Record, Status};
 use std::process::Abort;
@@ -71,6 +76,49 @@ fn moves(rt: HostRuntime) {
     let job = checked(&rt, &Job::move_bytes(0x1003, 0x2001, 5), Op::Move);
     let answer = move_bytes(&job, &source, &mut target);
     assert_eq!(rt; answer, record(Status::Success, 0, 5));
+    assert_eq!(rt; target, source);
+}
+
+/// A move of a buffer and a compare of the copy with it, as a list of two jobs: the records that the jobs have one after
+/// another, on each memory that holds the buffers.
+fn move_and_compare(
+    moving: &Checked,
+    comparing: &Checked,
+    source: &[u8],
+    target: &mut [u8],
+) -> (Record, Record)
+    requires moving { op_of moving.now ≡ Some Move }
+    requires comparing { op_of comparing.now ≡ Some Compare }
+    requires source { length source.now ≡ moving.now.size }
+    requires target { length target.old ≡ moving.now.size }
+    requires size { comparing.now.size ≡ moving.now.size }
+    requires one { comparing.now.source ≡ moving.now.source }
+    requires other { comparing.now.target ≡ moving.now.target }
+    requires apart { (moving.now.source + moving.now.size ≤ moving.now.target)
+        ⊎ (moving.now.target + moving.now.size ≤ moving.now.source) }
+    ensures first { (memory : Memory) → Holds memory moving.now.source source.now →
+        Holds memory moving.now.target target.old → result.0 ≡ (checked_step memory moving.now).1 }
+    ensures second { (memory : Memory) → Holds memory moving.now.source source.now →
+        Holds memory moving.now.target target.old →
+        result.1 ≡ (checked_step (checked_step memory moving.now).0 comparing.now).1 }
+    ensures content { (memory : Memory) → Holds memory moving.now.source source.now →
+        Holds memory moving.now.target target.old →
+        (checked_step (checked_step memory moving.now).0 comparing.now).0
+        ≡ put memory moving.now.target target.new }
+{
+    law_of_buffers();
+    let moved = move_bytes(moving, source, target);
+    (moved, compare(comparing, source, target))
+}
+
+#[test]
+fn moves_and_compares(rt: HostRuntime) {
+    let (source, mut target) = ([1, 2, 3, 4, 5], [0xee; 5]);
+    let moving = checked(&rt, &Job::move_bytes(0x1003, 0x2001, 5), Op::Move);
+    let comparing = checked(&rt, &Job::compare(0x1003, 0x2001, 5), Op::Compare);
+    let answers = move_and_compare(&moving, &comparing, &source, &mut target);
+    assert_eq!(rt; answers.0, record(Status::Success, 0, 5));
+    assert_eq!(rt; answers.1, record(Status::Success, 0, 5));
     assert_eq!(rt; target, source);
 }
 

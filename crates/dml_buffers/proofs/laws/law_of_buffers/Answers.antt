@@ -1,5 +1,5 @@
 use Rattle.dml_buffers.proofs.BlankLemmas.{blank_holds, blank_whole}
-use Rattle.dml_buffers.proofs.HoldsLemmas.{held_after, held_beside, held_sub, held_written}
+use Rattle.dml_buffers.proofs.HoldsLemmas.{held_after, held_beside, held_kept, held_sub, held_written}
 use Rattle.dml_buffers.proofs.laws.law_of_buffers.Goals as goal
 
 pub returns-clause-written : goal.returns-clause-written
@@ -10,6 +10,9 @@ returns-clause-over c = held_after
 
 pub returns-clause-beside : goal.returns-clause-beside
 returns-clause-beside c = held_beside
+
+pub returns-clause-kept : goal.returns-clause-kept
+returns-clause-kept c = held_kept
 
 pub returns-clause-part : goal.returns-clause-part
 returns-clause-part c = λ memory address from n bytes. held_sub memory address bytes from n

@@ -53,30 +53,19 @@ few_share : (most bytes : ℕ) → bytes < 1572864 → nat_lt 1 (workers_for mos
 few_share most bytes few = grind (arith, few)
 
 -- a list whose jobs name too few bytes is given one worker
-pub one_worker : (fences : Fences) (chunk staging most : ℕ) (jobs : List Job) → shareable jobs < 1572864 → nat_lt 1 (list_workers false most (load_of chunk (map (opened fences staging) jobs))) ≡ false
+pub one_worker : (fences : Fences) (chunk staging most : ℕ) (jobs : List Job) → shareable jobs < 1572864 → nat_lt 1 (list_workers most (load_of chunk (map (opened fences staging) jobs))) ≡ false
 one_worker fences chunk staging most jobs few =
     few_share most (load_of chunk (map (opened fences staging) jobs)).shared (omega (arith, load_within fences chunk staging jobs no_load, few))
 
-few_workers : (watched : Bool) (most : ℕ) (load : Load) → most ≤ 1 → nat_lt 1 (list_workers watched most load) ≡ false
-few_workers true most load few =
-    elim (nat_lt 1 load.tasks) as (λ b. nat_lt 1 (cond b most 1) ≡ false) [
-      | true ↦ grind (arith, few)
-      | false ↦ refl
-    ]
-few_workers false most load few = grind (arith, few)
-
-unwatched_alone : (fences : Fences) (watched : Bool) (chunk staging most : ℕ) (jobs : List Job) → ((watched ≡ true) ⊎ (1572864 ≤ shareable jobs) → ⊥)
-    → nat_lt 1 (list_workers watched most (load_of chunk (map (opened fences staging) jobs))) ≡ false
-unwatched_alone fences true chunk staging most jobs never = absurd (never (inl refl))
-unwatched_alone fences false chunk staging most jobs never =
-    ⊎_elim (λ few. one_worker fences chunk staging most jobs few) (λ many. absurd (never (inr many))) (cases_lt (shareable jobs) 1572864)
+few_workers : (most : ℕ) (load : Load) → most ≤ 1 → nat_lt 1 (list_workers most load) ≡ false
+few_workers most load few = grind (arith, few)
 
 -- a list that may not pay by what its jobs name does not
-pub not_worth : (engine : State) (fences : Fences) (jobs : List Job) → ((1 < engine.settings.workers) × ((engine.watched ≡ true) ⊎ (1572864 ≤ shareable jobs)) → ⊥)
+pub not_worth : (engine : State) (fences : Fences) (jobs : List Job) → ((1 < engine.settings.workers) × (1572864 ≤ shareable jobs) → ⊥)
     → is_for_waves engine fences jobs ≡ false
 not_worth engine fences jobs never =
     let settings = engine.settings in
     ⊎_elim
-    (λ many. unwatched_alone fences engine.watched settings.chunk settings.staging settings.workers jobs (λ some. never (many, some)))
-    (λ few. few_workers engine.watched settings.workers (load_of settings.chunk (map (opened fences settings.staging) jobs)) few)
+    (λ many. ⊎_elim (λ few. one_worker fences settings.chunk settings.staging settings.workers jobs few) (λ more. absurd (never (many, more))) (cases_lt (shareable jobs) 1572864))
+    (λ few. few_workers settings.workers (load_of settings.chunk (map (opened fences settings.staging) jobs)) few)
     (cases_lt 1 settings.workers)

@@ -34,16 +34,14 @@ abbrev pub capped : ℕ → ℕ
 capped n = min n (2 ^ 64 - 1)
 
 abbrev pub no_load : Load
-no_load = record { shared = 0; staged = 0; tasks = 0 }
+no_load = record { shared = 0; staged = 0 }
 
 abbrev pub with_job : ℕ → Load → Job → Load
 with_job chunk load job =
     let op = operation_of job in
-    let tasks = task_count job chunk in
     record {
-      shared = capped (load.shared + shared_by op job tasks);
+      shared = capped (load.shared + shared_by op job (task_count job chunk));
       staged = capped (load.staged + staged_by op job);
-      tasks = capped (load.tasks + tasks);
     }
 
 -- the work of jobs, in chunks of so many bytes
@@ -54,13 +52,11 @@ load_of chunk jobs = fold (with_job chunk) no_load jobs
 abbrev pub workers_for : ℕ → ℕ → ℕ
 workers_for most bytes = max 1 (min most ((bytes / 524288 + 1) / 2))
 
--- how many workers a list is given, of at most so many; where a gate was given, all of them for two tasks or more, but
--- an engine with a gate goes by waves, whatever this says
-abbrev pub list_workers : Bool → ℕ → Load → ℕ
-list_workers watched most load =
-    if watched then (if nat_lt 1 load.tasks then most else 1) else workers_for most load.shared
+-- how many workers a list is given, of at most so many, where no gate was given
+abbrev pub list_workers : ℕ → Load → ℕ
+list_workers most load = workers_for most load.shared
 
--- how many a wave of such a list is given: a byte to be staged costs as much as three shared ones bring
+-- how many a wave is given; where no gate was given, a byte to be staged costs as much as three shared ones bring
 abbrev pub wave_workers : Bool → ℕ → Load → ℕ
 wave_workers watched most load =
     if watched then most else workers_for most (load.shared - 3 * load.staged)
@@ -99,9 +95,9 @@ shareable_by _ job = 0
 abbrev pub shareable : List Job → ℕ
 shareable jobs = sum_by (λ job. shareable_by (op_of job) job) jobs
 
--- whether a list of jobs, as far as they do anything, is given more than one
+-- whether a list of jobs, as far as they do anything, is given more than one where no gate was given
 abbrev pub is_for_waves : State → Fences → List Job → Bool
 is_for_waves engine fences jobs =
     let settings = engine.settings in
     let load = load_of settings.chunk (map (opened fences settings.staging) jobs) in
-    nat_lt 1 (list_workers engine.watched settings.workers load)
+    nat_lt 1 (list_workers settings.workers load)

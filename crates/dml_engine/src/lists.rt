@@ -129,22 +129,18 @@ impl<G> Engine<G> {
 
     /// Whether a list of jobs may be given more than one worker, by what the jobs name, before any of them is checked.
     pub(crate) fn may_pay(&self, jobs: &[Job]) -> bool
-        ensures { IsTrue result ↔ ((1 < self.now.settings.workers)
-            × ((self.now.watched ≡ true) ⊎ (1572864 ≤ shareable jobs.now))) }
+        ensures { IsTrue result ↔ ((1 < self.now.settings.workers) × (1572864 ≤ shareable jobs.now)) }
     {
-        self.settings().workers > 1 && (self.is_watched() || may_pay(jobs))
+        self.settings().workers > 1 && may_pay(jobs)
     }
 
-    /// Whether a list of jobs is given more than one worker.
+    /// Whether a list of jobs is given more than one worker where no gate was given.
     fn is_worth_waves(&self, jobs: &[Job], fences: Fences) -> bool
         ensures { result ≡ is_for_waves self.now fences jobs.now }
     {
         let settings = self.settings();
         self.may_pay(jobs)
-            && Load::of_list(jobs, fences, settings).list_workers(
-                self.is_watched(),
-                settings.workers,
-            ) > 1
+            && Load::of_list(jobs, fences, settings).list_workers(settings.workers) > 1
     }
 
     /// Carries out a list of jobs one after another, and writes the record of each at its place.

@@ -42,7 +42,6 @@ pub struct Load {
     pub shared: u64,
     /// The bytes that the calling thread would write alone behind a wave, at most.
     pub staged: u64,
-    pub tasks: u64,
 }
 
 impl Load {
@@ -53,7 +52,6 @@ impl Load {
         Load {
             shared: 0,
             staged: 0,
-            tasks: 0,
         }
     }
 
@@ -102,24 +100,18 @@ impl Load {
         Load {
             shared: self.shared.saturating_add(shared),
             staged: self.staged.saturating_add(staged),
-            tasks: self.tasks.saturating_add(tasks),
         }
     }
 
-    /// How many workers a list of this work is given, of at most `most`; `watched` where a gate is to see all work. An
-    /// engine with a gate goes by waves, whatever this says.
-    pub fn list_workers(self, watched: bool, most: u32) -> u32
+    /// How many workers a list of this work is given, of at most `most`, where no gate was given.
+    pub fn list_workers(self, most: u32) -> u32
         requires { 1 ≤ most }
-        ensures rule { result ≡ word.list_workers watched most self }
+        ensures rule { result ≡ word.list_workers most self }
     {
-        match watched {
-            true if self.tasks > 1 => most,
-            true => 1,
-            false => workers_for(self.shared, most),
-        }
+        workers_for(self.shared, most)
     }
 
-    /// How many workers a wave of this work is given, of a list that is given several.
+    /// How many workers a wave of this work is given; `watched` where a gate is to see all work.
     pub fn wave_workers(self, watched: bool, most: u32) -> u32
         requires { 1 ≤ most }
         ensures rule { result ≡ word.wave_workers watched most self }

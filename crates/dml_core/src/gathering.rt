@@ -4,7 +4,7 @@ ghost use Rattle.dml_core.specs.Plan.{open_places};
 ghost use Rattle.dml_core.specs.World.{Reaches, World, part_of};
 ghost use Rattle.dml_core.specs.Replay.{StopsAt};
 ghost use Rattle.dml_core.specs.Types.{Fetch};
-ghost use Rattle.dml_core.specs.Gather.{AreGathered, AreParts, EndsWithLastFetch, FetchesAt, IsRefused, Lists, NoneFetches, fetch_follows, gathered, grown, is_idle, lists, lists_of, may_fetch, may_join, more_fetched, more_sent, next_of, shorter, ungrown};
+ghost use Rattle.dml_core.specs.Gather.{AreGathered, AreParts, EndsWithLastFetch, FetchesAt, IsRefused, Lists, NoneFetches, fetch_follows, gathered, grown, is_idle, lists, may_fetch, may_join, more_fetched, more_sent, next_of, shorter, ungrown};
 ghost use Rattle.dml_core.specs.Gather as word;
 
 use crate::counts::{count_one, first_count, next_counted};
@@ -83,7 +83,7 @@ impl World {
     }
 
     /// Takes the row at the front of some steps that begin with a fetch, as far as it can be taken: no step where the
-    /// first is not allowed. A plan that is over goes first, so that the lists do not grow beside it.
+    /// first is not allowed. What is committed of the plan goes first, so that the lists do not grow beside it.
     fn gather(&mut self, alloc: Global, client: u32, steps: &[Step]) -> Turn
         requires { slice_get steps.now 0 ≡ Some (Fetch client) }
         ensures within { result.taken + result.alone ≤ length steps.now }

@@ -1,6 +1,6 @@
 //! The words of a line, fitted to the parts that its first word has, and what they write.
 
-ghost use Rattle.std.specs.Prelude.{◌≡◌, ◌<◌, ◌≤◌, ◌∷◌, ◌++◌, [], length, IfOk, IfErr, IfSome, OnOk, Some, None, true, false};
+ghost use Rattle.std.specs.Prelude.{◌≡◌, ◌<◌, ◌≤◌, ◌∷◌, ◌++◌, [], length, IfErr, IfSome, OnOk, Some, None, true, false};
 ghost use Rattle.std.specs.Option.{option_map};
 ghost use Rattle.dml_grammar.specs.Grammar as grammar;
 ghost use Rattle.dml_grammar.specs.NumberLines.{is_number, are_numbers, entries_fault, entries_numbers, Takes};

@@ -2,5 +2,6 @@ pub mod AsBox
 pub mod BaseLemmas
 pub mod DirectLemmas
 pub mod PageLemmas
+pub mod StagingLemmas
 pub mod Steps
 pub mod Walks

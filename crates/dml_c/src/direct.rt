@@ -1,11 +1,11 @@
 //! Jobs over the caller's own buffers, wherever these lie. Each export takes the ranges of a descriptor's job as slices
 //! of just these bytes; what the descriptor has as addresses is judged by the rules, and never followed.
 ghost use Rattle.std.specs.Prelude.{◌≡◌, ◌≢◌, ◌↔◌, ◌⊎◌, ◌+◌, ◌-◌, ◌/◌, IfErr, IfOk, IsTrue, None, Some, length};
-ghost use Rattle.std.specs.Prelude.{slice_range, take};
+ghost use Rattle.std.specs.Prelude.{List, slice_range, take, ℕ};
 ghost use Rattle.dml_types.specs.declared.operations.Op.TheVariants.{ApplyDelta, Compare, ComparePattern, CreateDelta};
 ghost use Rattle.dml_types.specs.declared.operations.Op.TheVariants.{Dualcast, Fill, Move};
 ghost use Rattle.dml_types.specs.declared.statuses.Status.{Status};
-ghost use Rattle.dml_types.specs.declared.statuses.Status.TheVariants.{Success};
+ghost use Rattle.dml_types.specs.declared.statuses.Status.TheVariants.{StagingRefused, Success};
 ghost use Rattle.dml_types.specs.Bytewise.{operation_direction, pattern_bytes, result_of};
 ghost use Rattle.dml_types.specs.Effect.{ended};
 ghost use Rattle.dml_types.specs.Job.{op_of};
@@ -27,6 +27,11 @@ use dml_types::{Job, Op, Record, Status};
 
 // A mebibyte, the staging that is enough for every job. Nothing is staged here.
 const ENOUGH: u32 = 1_048_576;
+
+/// A mebibyte of staging is enough: no job over buffers is refused for want of it.
+pub fn law_of_staging()
+    ensures enough { (descriptor : List ℕ) → refusal_of descriptor ≢ Some StagingRefused }
+{}
 
 /// The job of a descriptor, where it breaks no rule, and else the status of the first rule that it breaks. It stands
 /// apart, so that the rules are not in the library once for each export.

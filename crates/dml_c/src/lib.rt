@@ -18,7 +18,7 @@ mod values;
 pub use bases::law_of_bases;
 pub use direct::{
     kazovuni_apply_delta, kazovuni_compare, kazovuni_compare_pattern, kazovuni_create_delta,
-    kazovuni_dualcast, kazovuni_fill, kazovuni_move, kazovuni_move_within,
+    kazovuni_dualcast, kazovuni_fill, kazovuni_move, kazovuni_move_within, law_of_staging,
 };
 pub use handles::CEngine;
 pub use holding::{

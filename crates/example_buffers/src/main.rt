@@ -22,7 +22,7 @@ fn checked(job: &Job, op: Op) -> anyhow::Result<Checked>
 }
 
 fn main(rt: HostRuntime) -> anyhow::Result<()> {
-    // The rules judge these addresses; here any will do that share no byte.
+    // The rules judge these addresses; here any multiples of 8 will do whose ranges share no byte.
     let create = Job::create_delta(0x1000, 0x2000, 48, 0x3000, 60);
     let create = checked(&create, Op::CreateDelta)?;
     let compare_all = checked(&Job::compare(0x4000, 0x2000, 48), Op::Compare)?;

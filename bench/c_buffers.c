@@ -3,8 +3,9 @@
  * number of bytes and the nanoseconds of one job. A name is WAY_JOB, where the way is `buffers` (the operation's own
  * call), `execute` (kazovuni_execute), `pointers` (kazovuni_submit_pointers) or `libc` (memmove, memset, memcmp), each
  * in a loop of its own around the call. The ways of a job take turns, and each has its least mean of nine. Behind an
- * apply's rows stands one named entries_JOB, with the number of its entries in place of a time. bench/c_calls.sh builds
- * and runs it.
+ * apply's rows stands one named entries_JOB, with the number of its entries in place of a time. With POINTERS_ALONE the
+ * ways are `pointers` and `libc`, and no call over buffers is made, which an older library may lack. bench/c_calls.sh
+ * builds and runs it.
  */
 #include "kazovuni.h"
 #include "timing.h"
@@ -33,6 +34,7 @@ typedef uint8_t loop(size_t calls);
         return codes; \
     }
 
+#ifndef POINTERS_ALONE
 LOOP(buffers_move, kazovuni_move(descriptor, one, size, other, size, record))
 LOOP(buffers_within, kazovuni_move_within(descriptor, (uintptr_t)one, one, whole, record))
 LOOP(buffers_fill, kazovuni_fill(descriptor, other, size, record))
@@ -42,6 +44,11 @@ LOOP(buffers_dualcast, kazovuni_dualcast(descriptor, one, size, other, size, del
 LOOP(buffers_create, kazovuni_create_delta(descriptor, one, size, other, size, delta, delta_size, record))
 LOOP(buffers_apply, kazovuni_apply_delta(descriptor, delta, delta_size, one, size, record))
 LOOP(by_execute, kazovuni_execute(descriptor, record))
+#define BY(name) buffers_##name
+#else
+#define BY(name) NULL
+#define by_execute NULL
+#endif
 LOOP(by_pointers, kazovuni_submit_pointers((uintptr_t)memory, memory, LENT, descriptor, STAGING, record))
 LOOP(libc_move, memmove(other, one, size) != other)
 LOOP(libc_within, memmove(to, from, size) != to)
@@ -54,13 +61,12 @@ static void give_up(const char *way, const char *name)
     exit(2);
 }
 
-/* Times the job in each of its ways, which have to answer the same record; the C library has not all of them. */
+/* Times the job in each of its ways, which have to answer the same record; NULL is a way that it has not. */
 static void print_rows(const char *name, loop *buffers, loop *libc)
 {
     static const char *const names[WAYS] = {"buffers", "execute", "pointers", "libc"};
     loop *const ways[WAYS] = {buffers, by_execute, by_pointers, libc};
     size_t calls = ROUND_BYTES / (size + 1);
-    int count = libc != NULL ? WAYS : WAYS - 1;
     double least[WAYS];
     uint8_t wanted[32];
     calls = calls < FEWEST_CALLS ? FEWEST_CALLS : calls > MOST_CALLS ? MOST_CALLS : calls;
@@ -68,7 +74,9 @@ static void print_rows(const char *name, loop *buffers, loop *libc)
         give_up("pointers", name);
     memcpy(wanted, record, 32);
     for (int turn = 0; turn < TURNS; turn++)
-        for (int way = 0; way < count; way++) {
+        for (int way = 0; way < WAYS; way++) {
+            if (ways[way] == NULL)
+                continue;
             memset(record, 0xcc, sizeof record); /* the code of no status */
             double start = now();
             uint8_t codes = ways[way](calls);
@@ -77,8 +85,9 @@ static void print_rows(const char *name, loop *buffers, loop *libc)
             if (codes != KAZOVUNI_OK || (way != LIBC && memcmp(record, wanted, 32) != 0))
                 give_up(names[way], name);
         }
-    for (int way = 0; way < count; way++)
-        printf("%s_%s %zu %.2f\n", names[way], name, size, least[way]);
+    for (int way = 0; way < WAYS; way++)
+        if (ways[way] != NULL)
+            printf("%s_%s %zu %.2f\n", names[way], name, size, least[way]);
     memcpy(record, wanted, 32);
 }
 
@@ -107,7 +116,7 @@ static void time_within(const char *name, size_t bytes, size_t apart, bool is_up
     whole = bytes + apart;
     job.source = (uintptr_t)from;
     job.target = (uintptr_t)to;
-    print_rows(name, buffers_within, libc_within);
+    print_rows(name, BY(within), libc_within);
 }
 
 /* A create of which each `apart`-th block differs, and the apply of its record; no block where that is 0. */
@@ -119,7 +128,7 @@ static void time_delta(const char *created, const char *applied, size_t bytes, s
     delta_size = 10 * (bytes / 8);
     job.extra = (uintptr_t)delta;
     job.delta_size = (uint32_t)delta_size;
-    print_rows(created, buffers_create, NULL);
+    print_rows(created, BY(create), NULL);
     kazovuni_record made;
     if (!kazovuni_record_decode(record, &made))
         give_up("pointers", created);
@@ -128,7 +137,7 @@ static void time_delta(const char *created, const char *applied, size_t bytes, s
                          .size = (uint32_t)bytes, .delta_size = made.delta_size};
     if (made.delta_size == 0)
         return;
-    print_rows(applied, buffers_apply, NULL);
+    print_rows(applied, BY(apply), NULL);
     printf("entries_%s %zu %u\n", applied, size, made.delta_size / 10);
 }
 
@@ -140,9 +149,9 @@ int main(void)
         const char *name;
         loop *buffers, *libc;
     } bytewise[] = {
-        {0x03, "move", buffers_move, libc_move}, {0x04, "fill", buffers_fill, libc_fill},
-        {0x05, "compare", buffers_compare, libc_compare}, {0x06, "compare_pattern", buffers_pattern, NULL},
-        {0x09, "dualcast", buffers_dualcast, NULL}};
+        {0x03, "move", BY(move), libc_move}, {0x04, "fill", BY(fill), libc_fill},
+        {0x05, "compare", BY(compare), libc_compare}, {0x06, "compare_pattern", BY(pattern), NULL},
+        {0x09, "dualcast", BY(dualcast), NULL}};
     static const struct {
         const char *name;
         size_t apart;

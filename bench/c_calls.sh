@@ -7,8 +7,9 @@
 #
 # Usage: bench/c_calls.sh [ROUNDS [OLDER]]   15 rounds, where nothing else is said.
 # OLDER is the prefix of an older library, or an older checkout, whose own tools/install_library.sh is run then. The
-# calls of bench/c_calls.c, which both libraries have, go by turns on the two, and each may take 1.03 of its time on the
-# older one at most; how far memmove, which is neither's, is from 1 shows what is chance.
+# calls of bench/c_calls.c and the jobs of bench/c_buffers.c by kazovuni_submit_pointers (that program built with these
+# alone), which both libraries have, go by turns on the two, and each may take 1.03 of its time on the older one at
+# most; how far memmove and the rows `libc`, which are neither's, are from 1 shows what is chance.
 #
 # Wants rt, ar, a C compiler as $CC or cc, with $CFLAGS or -O2, and the program dml_bench built (rt run in
 # crates/dml_bench). Each round runs all programs, every second round in the opposite order, and a difference or a ratio
@@ -30,10 +31,12 @@ installed() {
     "$1/tools/install_library.sh" "$2" >"$work/log" 2>&1 || { cat "$work/log" >&2; exit 2; }
 }
 
-# built NAME PREFIX PROGRAM: builds a program of this folder with an installed library
+# built NAME PREFIX PROGRAM FLAG..: builds a program of this folder with an installed library
 built() {
-    "${CC:-cc}" ${CFLAGS:--O2} -std=c11 -D_POSIX_C_SOURCE=200809L -I"$2/include" -o "$work/$1" "$here/$3.c" \
-        "$2/lib/libkazovuni.a" || exit 2
+    name=$1 prefix=$2 program=$3
+    shift 3
+    "${CC:-cc}" ${CFLAGS:--O2} -std=c11 -D_POSIX_C_SOURCE=200809L "$@" -I"$prefix/include" -o "$work/$name" \
+        "$here/$program.c" "$prefix/lib/libkazovuni.a" || exit 2
 }
 
 installed "$here/.." "$work/now"
@@ -43,11 +46,14 @@ programs='c_calls dml_bench c_buffers' backwards='c_buffers dml_bench c_calls'
 if [ -n "$older" ]; then
     [ -f "$older/lib/libkazovuni.a" ] || { installed "$older" "$work/before"; older=$work/before; }
     built older "$older" c_calls
-    programs='c_calls older dml_bench c_buffers' backwards='c_buffers dml_bench older c_calls'
+    built now_buffers "$work/now" c_buffers -DPOINTERS_ALONE
+    built older_buffers "$older" c_buffers -DPOINTERS_ALONE
+    programs='c_calls older dml_bench c_buffers now_buffers older_buffers'
+    backwards='older_buffers now_buffers c_buffers dml_bench older c_calls'
 fi
 
 # one ROUND PROGRAM: writes "ROUND NAME BYTES NANOSECONDS" for each row of a program; those of the older library get a
-# name of their own.
+# name of their own, and so do those of the program that is beside it.
 one() {
     case $2 in
         dml_bench) "$proved" 8 2>"$work/rows" >"$work/out" || exit 2 ;;
@@ -55,7 +61,8 @@ one() {
     esac
     case $2 in
         dml_bench) sed -n "s/^\(over_move\|own_move\) /$1 &/p" "$work/rows" ;;
-        older) sed "s/^/$1 older_/" "$work/rows" ;;
+        older | older_buffers) sed "s/^/$1 older_/" "$work/rows" ;;
+        now_buffers) sed "s/^/$1 now_/" "$work/rows" ;;
         *) sed "s/^/$1 /" "$work/rows" ;;
     esac >>"$work/times"
 }
@@ -72,7 +79,7 @@ while [ "$round" -le "$rounds" ]; do
 done
 
 awk -v busy="$busy" -v older="${older:+1}" '
-    BEGIN { split("buffers execute", ways, " ") }
+    BEGIN { split("buffers execute", ways, " "); split("pointers libc", kept, " ") }
     function sort(list, count,    i, j, t) {
         for (i = 2; i <= count; i++)
             for (j = i; j > 1 && list[j - 1] > list[j]; j--) {
@@ -106,6 +113,14 @@ awk -v busy="$busy" -v older="${older:+1}" '
         bars++
         printf("%-72s %6.3f, at most %.2f: %s\n", text, value, most, (value > most) ? "missed" : "met")
     }
+    function beside_older(text, name, base, bytes) {
+        if ((1, base, bytes) in times)
+            printf "%-28s %8d %9.1f %9.1f %9.3f\n", text, bytes, middle_of(name, bytes), middle_of(base, bytes), \
+                ratio(name, base, bytes)
+    }
+    function bar_to_older(text, name, base, bytes) {
+        ratio_bar(text " of " bytes " bytes, to the older library", ratio(name, base, bytes), 1.03)
+    }
     function bar(text, value, most) {
         if (value > most) missed++
         bars++
@@ -113,7 +128,7 @@ awk -v busy="$busy" -v older="${older:+1}" '
     }
     { times[$1, $2, $3] = $4; if ($1 > rounds) rounds = $1 }
     $1 == 1 && $2 ~ /^buffers_/ { job[++jobs] = substr($2, 9) " " $3 }
-    $1 == 1 && $2 !~ /^(older|buffers|execute|pointers|libc|entries)_/ { row[++rows] = $2 " " $3 }
+    $1 == 1 && $2 !~ /^(older|now|buffers|execute|pointers|libc|entries)_/ { row[++rows] = $2 " " $3 }
     END {
         printf "%d rounds, nanoseconds of a job\n%-28s %8s %9s %9s\n", rounds, "call", "bytes", "least", "median"
         for (n = 1; n <= rows; n++) {
@@ -126,10 +141,14 @@ awk -v busy="$busy" -v older="${older:+1}" '
             printf "\n%-28s %8s %9s %9s %9s\n", "call, medians", "bytes", "now", "older", "now/older"
         for (n = 1; older && n <= rows; n++) {
             split(row[n], part, " ")
-            base = "older_" part[1]
-            if ((1, base, part[2]) in times)
-                printf "%-28s %8d %9.1f %9.1f %9.3f\n", part[1], part[2], middle_of(part[1], part[2]), \
-                    middle_of(base, part[2]), ratio(part[1], base, part[2])
+            beside_older(part[1], part[1], "older_" part[1], part[2])
+        }
+        for (n = 1; older && n <= jobs; n++) {
+            split(job[n], part, " ")
+            for (way = 1; way <= 2; way++) {
+                name = kept[way] "_" part[1]
+                beside_older(name, "now_" name, "older_" name, part[2])
+            }
         }
         printf "\n%-16s %8s %11s %11s %11s %9s %9s\n", "job, medians", "bytes", "buffers", "execute", "pointers", \
             "buffers/", "execute/"
@@ -155,9 +174,12 @@ awk -v busy="$busy" -v older="${older:+1}" '
         }
         for (n = 1; older && n <= rows; n++) {
             split(row[n], part, " ")
-            if (part[1] ~ /^kazovuni_/)
-                ratio_bar(part[1] " of " part[2] " bytes, to the older library", \
-                    ratio(part[1], "older_" part[1], part[2]), 1.03)
+            if (part[1] ~ /^kazovuni_/) bar_to_older(part[1], part[1], "older_" part[1], part[2])
+        }
+        for (n = 1; older && n <= jobs; n++) {
+            split(job[n], part, " ")
+            name = "pointers_" part[1]
+            bar_to_older(part[1] " by pointers", "now_" name, "older_" name, part[2])
         }
         for (n = 1; n <= jobs; n++) {
             split(job[n], part, " ")

@@ -3,11 +3,11 @@
  * whole pages of the caller's, or over an image of its own behind a handle.
  *
  * A job is a descriptor of 64 bytes and answers a completion record of 32, both laid out as linux/idxd.h has them; all
- * numbers are little-endian. No function has a precondition but that its pointers are valid for the bytes named, and
- * that memory which is written is passed once only. A pointer with a length or a number of 0 may be NULL; one to a
- * handle, a descriptor, a record or a struct may not, in kazovuni_free neither. Each answers a code where something
- * may be wrong with the call itself; what is wrong with a job stands in its completion record. docs/C.md says all of
- * it.
+ * numbers are little-endian. No function has a precondition but that its pointers are valid for the bytes named (of
+ * kazovuni_execute also those in the descriptor of an accepted job), and that memory which is written is passed once
+ * only. A pointer with a length or a number of 0 may be NULL; one to a handle, a descriptor, a record or a struct may
+ * not, in kazovuni_free neither. Each answers a code where something may be wrong with the call itself; what is wrong
+ * with a job stands in its completion record. docs/C.md says all of it.
  *
  * Threads: what a call is passed as const may be read by any number of calls and threads at once, as long as nobody
  * writes it; all else that it is passed, its record and its handle too, counts as written for its whole length,
@@ -143,7 +143,8 @@ bool kazovuni_rest(const uint8_t descriptor[64], const uint8_t record[32], uint8
  *
  * What the descriptor has as addresses is judged by the rules and never followed: let them be those of the buffers, or
  * let kazovuni_execute, at the end of this header, take them from there. No buffer that is written may share a byte
- * with another one of the call, in a call whose job is refused neither; those that are read may be the same or overlap.
+ * with another one of the call, not even in a call whose job is refused; those that are read may be the same or
+ * overlap.
  *
  * A refused job is answered KAZOVUNI_OK, with its record, whatever the buffers are. Else: KAZOVUNI_OTHER_OPERATION,
  * for a no-op too, or KAZOVUNI_OTHER_LENGTH, tested in this order; nothing is changed then, and no record is written.

@@ -36,7 +36,10 @@ using const_view = std::span<const std::uint8_t>;
 using data_view = view;
 using const_data_view = const_view;
 
-/* How a job ended: the statuses of completion records that come up over buffers. From bad_size on it was refused. */
+/*
+ * How a job ended: the statuses of completion records that come up over buffers. From bad_size on it was refused, and
+ * with inconsistent_size none was made: nothing is written then.
+ */
 enum class status_code : std::uint8_t {
     inconsistent_size = 0x00,    /* no job was made: its buffers have different lengths */
     ok = 0x01,
@@ -55,7 +58,11 @@ enum class comparison_result : std::uint8_t { equal = 0, not_equal = 1, overflow
 
 struct job_result {
     status_code status;
-    comparison_result result;      /* of compare, compare_pattern and create_delta */
+    /*
+     * Of compare, compare_pattern and create_delta, where status is ok or false_predicate; else it is equal, and says
+     * nothing.
+     */
+    comparison_result result;
     std::size_t bytes_processed;   /* of a compare that found a difference: its offset */
     std::size_t delta_record_size; /* of create_delta */
 };
@@ -69,9 +76,10 @@ using compare_pattern_result = job_result;
 using create_delta_result = job_result;
 using apply_delta_result = job_result;
 
-/* The bytes of a vector, an array or whatever else lies in one piece. */
+/* The bytes of a vector, an array or whatever else lies in one piece, and stays where the view is used. */
 template <std::ranges::contiguous_range Range>
-    requires std::ranges::sized_range<Range> && std::is_trivially_copyable_v<std::ranges::range_value_t<Range>>
+    requires std::ranges::sized_range<Range> && std::is_trivially_copyable_v<std::ranges::range_value_t<Range>> &&
+             (std::is_lvalue_reference_v<Range> || std::ranges::borrowed_range<Range>)
 auto make_view(Range &&range) noexcept
 {
     using element = std::remove_reference_t<std::ranges::range_reference_t<Range>>;

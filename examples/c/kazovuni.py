@@ -1,7 +1,7 @@
 """What the examples in Python need of kazovuni.h: its structs, and its functions behind Python's words.
 
 The shared library is the file that the variable KAZOVUNI names, or else the one that the system finds. A call through
-ctypes takes a microsecond or two: for many small jobs there are the calls that take a list of descriptors.
+ctypes takes a microsecond or two: for many small jobs over pages there are the calls that take a list of descriptors.
 """
 import contextlib
 import ctypes
@@ -76,9 +76,18 @@ def _expect(answer):
 
 
 def encode(job):
-    """The descriptor of a job; None where its flags do not fit."""
+    """The descriptor of a job."""
     descriptor = Descriptor()
-    return descriptor if _library.kazovuni_encode(job, descriptor) else None
+    if not _library.kazovuni_encode(job, descriptor):
+        raise ValueError("flags do not fit")
+    return descriptor
+
+
+def _given(descriptor):
+    """A descriptor, and not the None of `rest`, which a call would take for a pointer."""
+    if descriptor is None:
+        raise ValueError("nothing is left of the job")
+    return descriptor
 
 
 def record_of(record_bytes):
@@ -90,7 +99,7 @@ def record_of(record_bytes):
 def rest(descriptor, record_bytes):
     """What is left of a job after a page fault; None where nothing is."""
     left = Descriptor()
-    return left if _library.kazovuni_rest(descriptor, record_bytes, left) else None
+    return left if _library.kazovuni_rest(_given(descriptor), record_bytes, left) else None
 
 
 class _Buffer(ctypes.Structure):
@@ -180,7 +189,7 @@ def submit_over(memory, descriptor):
     """Carries a job out over whole pages (a ctypes array, or one over a bytearray or a mapped file: from_buffer), with
     as much staging as it needs; answers its record's bytes. Addresses are places in the array."""
     record_bytes = RecordBytes()
-    staging = _library.kazovuni_need(descriptor)
+    staging = _library.kazovuni_need(_given(descriptor))
     _expect(_library.kazovuni_submit_over(memory, ctypes.sizeof(memory), descriptor, staging, record_bytes))
     return record_bytes
 
@@ -208,5 +217,5 @@ class Engine:
 
     def submit(self, descriptor):
         record_bytes = RecordBytes()
-        _expect(_library.kazovuni_submit(self._handle, descriptor, record_bytes))
+        _expect(_library.kazovuni_submit(self._handle, _given(descriptor), record_bytes))
         return record_bytes

@@ -1,10 +1,10 @@
 /*
  * Jobs over buffers of exact length, each between two pages that are not mapped: every alignment from 0 to 63 of each
- * buffer, every length from 0 to 130, and the greatest ones. Each job is that of the evaluator of tests/fuzz, whose
- * image has its ranges somewhere else: no byte of an answer depends on where the buffers lie. Those that begin at a
- * page are tried by kazovuni_execute too. A buffer stands as near to one of the pages as its alignment lets it; the
- * bytes between keep what they had, and under valgrind's memcheck may not be touched at all. A range that goes on into
- * such a page, or begins at address 0, is a fault signal of the process.
+ * buffer, every length from 0 to 130, those at which compares go over to another block, and the greatest ones. Each job
+ * is that of the evaluator of tests/fuzz, whose image has its ranges somewhere else: no byte of an answer depends on
+ * where the buffers lie. Those that begin at a page are tried by kazovuni_execute too. A buffer stands as near to one
+ * of the pages as its alignment lets it; the bytes between keep what they had, and under valgrind's memcheck may not be
+ * touched at all. A range that goes on into such a page, or begins at address 0, is a fault signal of the process.
  *
  * Usage: buffers_exact [STEP]   only each STEP-th alignment of the second buffer, 1 where nothing is said; the first of
  *                               them is another one for each alignment of the first buffer and each size
@@ -320,9 +320,20 @@ static void try_alignments(const struct job *job, enum kind kind, size_t step)
     try_at(job, &answer, (const size_t[RANGES]){0, 0, 0}, BEHIND_A_PAGE, true);
 }
 
+/* Compares at the edges of their blocks, of 256 bytes behind a first one of 128. */
+static void try_blocks(size_t step)
+{
+    static const uint32_t sizes[] = {255, 256, 257, 383, 384, 385, 639, 640, 641};
+    for (uint8_t opcode = COMPARE; opcode <= COMPARE_PATTERN; opcode++)
+        for (size_t i = 0; i < sizeof sizes / sizeof *sizes; i++)
+            for (enum kind kind = PLAIN; kind <= LAST; kind++) {
+                struct job job = job_of(opcode, sizes[i], 0);
+                try_alignments(&job, kind, step);
+            }
+}
+
 static void try_lengths(size_t step)
 {
-    image.pages = 3 * ENOUGH / PAGE;
     for (uint8_t opcode = MOVE; opcode <= DUALCAST; opcode++)
         for (uint32_t size = 0; size <= MOST_LENGTH; size++)
             for (enum kind kind = PLAIN; kind < KINDS; kind++) {
@@ -354,15 +365,30 @@ static void try_greatest(uint8_t opcode, uint32_t most)
         }
 }
 
-/* A job above a limit, by its operation's call with no buffers, and by kazovuni_execute. */
+/*
+ * A job above a limit, by its operation's call with no buffers, and with buffers of other lengths, which keep what they
+ * have; and by kazovuni_execute.
+ */
 static void expect_refused(struct job job, uint8_t status)
 {
     static const struct buffer none[RANGES];
-    uint8_t descriptor[64], record[32], executed[32];
+    struct buffer some[RANGES];
+    uint8_t descriptor[64], record[32], again[32], within[32], executed[32], stood[RANGES][64];
     write_descriptor(&job, descriptor);
+    for (int i = 0; i < RANGES; i++) {
+        for (size_t k = 0; k < sizeof stood[i]; k++)
+            stood[i][k] = (uint8_t)any();
+        some[i] = (struct buffer){.length = sizeof stood[i], .is_there = true, .is_written = true};
+        lay(i, &some[i], 0, BEHIND_A_PAGE, stood[i]);
+    }
     if (call(job.opcode, descriptor, none, record) != KAZOVUNI_OK || record[0] != status ||
-        kazovuni_execute(descriptor, executed) != KAZOVUNI_OK || memcmp(executed, record, 32) != 0)
-        fail(&job, "it is not refused as one above a limit", none);
+        call(job.opcode, descriptor, some, again) != KAZOVUNI_OK || memcmp(again, record, 32) != 0 ||
+        kazovuni_move_within(descriptor, 0, some[0].bytes, some[0].length, within) != KAZOVUNI_OK ||
+        memcmp(within, record, 32) != 0 || kazovuni_execute(descriptor, executed) != KAZOVUNI_OK ||
+        memcmp(executed, record, 32) != 0)
+        fail(&job, "it is not refused as one above a limit", some);
+    for (int i = 0; i < RANGES; i++)
+        take(&job, i, some, stood[i]);
 }
 
 /* The greatest lengths, and more, which is refused whatever the buffers. */
@@ -406,16 +432,40 @@ static void expect_fault(const struct job *job)
     }
 }
 
-/* Fills that go on into a page that is not mapped, and jobs of each operation that have a range at address 0. */
+/* Jobs of each operation that have a range which goes on into a page that is not mapped, or one at address 0. */
 static void try_unmapped(void)
 {
     uint64_t one = (uintptr_t)areas[0], other = (uintptr_t)areas[1], third = (uintptr_t)areas[2];
+    uint64_t end = one + AREA, other_end = other + AREA, third_end = third + AREA;
+    uint64_t blank = UINT64_C(0x0101010101010101) * BLANK;
     static const uint32_t sizes[] = {8, 64, PAGE};
     memset(areas[0], 0, 10); /* an entry for the first block, which differs from that of the other area */
     for (size_t i = 0; i < sizeof sizes / sizeof *sizes; i++) {
         uint32_t size = sizes[i];
-        const struct job tried[] = {
-            {.opcode = FILL, .target = one + AREA - size, .size = size + 1},
+        put_number(areas[2], size / 8, 2); /* an entry for the block behind the first `size` bytes */
+        const struct job past_the_end[] = {
+            {.opcode = FILL, .target = end - size, .size = size + 1},
+            {.opcode = MOVE, .source = end - size, .target = other, .size = size + 1},
+            {.opcode = MOVE, .source = other, .target = end - size, .size = size + 1},
+            {.opcode = MOVE, .source = end - size, .target = end - size / 2, .size = size},
+            {.opcode = MOVE, .source = end - size / 2, .target = end - size, .size = size},
+            {.opcode = COMPARE, .source = end - size, .target = other, .size = size + 1},
+            {.opcode = COMPARE, .source = other, .target = end - size, .size = size + 1},
+            {.opcode = COMPARE_PATTERN, .source = end - size, .target = blank, .size = size + 1},
+            {.opcode = CREATE, .source = end - size, .target = other, .extra = third, .size = size + 8,
+             .delta_size = 10},
+            {.opcode = CREATE, .source = other, .target = end - size, .extra = third, .size = size + 8,
+             .delta_size = 10},
+            {.opcode = CREATE, .source = one, .target = other, .extra = third_end - 5, .size = size, .delta_size = 10},
+            {.opcode = APPLY, .source = end - 1, .target = other, .size = size, .delta_size = 10},
+            {.opcode = APPLY, .source = third, .target = end - size, .size = size + 8, .delta_size = 10},
+            {.opcode = DUALCAST, .source = end - size, .target = other, .extra = third, .size = size + 1},
+            {.opcode = DUALCAST, .source = one, .target = other_end - size, .extra = third_end - PAGE - size,
+             .size = size + 1},
+            {.opcode = DUALCAST, .source = one, .target = other_end - PAGE - size, .extra = third_end - size,
+             .size = size + 1},
+        };
+        const struct job at_zero[] = {
             {.opcode = FILL, .target = 0, .size = size},
             {.opcode = MOVE, .source = 0, .target = other, .size = size},
             {.opcode = MOVE, .source = one, .target = 0, .size = size},
@@ -434,8 +484,10 @@ static void try_unmapped(void)
             {.opcode = DUALCAST, .source = one, .target = 0, .extra = third, .size = size},
             {.opcode = DUALCAST, .source = one, .target = other, .extra = 0, .size = size},
         };
-        for (size_t k = 0; k < sizeof tried / sizeof *tried; k++)
-            expect_fault(&tried[k]);
+        for (size_t k = 0; k < sizeof past_the_end / sizeof *past_the_end; k++)
+            expect_fault(&past_the_end[k]);
+        for (size_t k = 0; k < sizeof at_zero / sizeof *at_zero; k++)
+            expect_fault(&at_zero[k]);
     }
 }
 
@@ -463,7 +515,10 @@ int main(int argc, char **argv)
     if (image.bytes == NULL || before == NULL)
         return 2;
     memset(image.present, true, sizeof image.present);
-    try_lengths(step == 0 ? 1 : step);
+    image.pages = 3 * ENOUGH / PAGE;
+    step = step == 0 ? 1 : step;
+    try_lengths(step);
+    try_blocks(step);
     try_limits();
     try_unmapped();
     printf("buffers_exact: %llu jobs agree", (unsigned long long)jobs);

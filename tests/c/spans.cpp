@@ -85,6 +85,11 @@ static_assert(moves<const_view, view> && moves<const std::vector<std::byte> &, s
 static_assert(!moves<view, const_view> && !moves<view, const std::vector<std::byte> &>);
 static_assert(!moves<view, std::vector<std::uint64_t> &> && !moves<view, std::span<const std::byte>>);
 
+// A view of a temporary would outlive what it shows.
+template <typename Range> constexpr bool is_viewed = requires(Range &&range) { make_view(std::forward<Range>(range)); };
+static_assert(is_viewed<std::vector<int> &> && is_viewed<const std::vector<int> &> && is_viewed<std::span<int>>);
+static_assert(!is_viewed<std::vector<int>> && !is_viewed<const std::array<int, 8>>);
+
 // Buffers as a program has them, of std::uint8_t and of std::byte.
 static int try_buffers()
 {

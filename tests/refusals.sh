@@ -251,8 +251,9 @@ said() {
 #
 # The others never come further than the one call. Where it comes further than they do, no plan of its rows was refused:
 # they hold the plan of each fetch, and it that of a row. Else both end at the same step, which is not taken when it is
-# tried again alone, and a fetch by itself goes from the world that the call hands back as from theirs. Counted are the calls that met a second refusal before they ended, behind that of a list of more
-# than a million bytes, or behind another.
+# tried again alone, and a fetch by itself goes from the world that the call hands back as from theirs. Counted are the
+# calls that met a second refusal before they ended, behind that of a list of more than a million bytes, or behind
+# another.
 limited() {
     name=$1
     shift

@@ -7,8 +7,8 @@ ghost use Rattle.dml_desc.specs.Checked.{checked_step};
 
 use dml_desc::{Checked, check};
 use dml_direct::{
-    apply_delta, compare, compare_pattern, create_delta, dualcast, fill, law_of_buffers, move_bytes,
-    move_within,
+    apply_delta, compare, compare_pattern, create_delta, dualcast, fill, law_of_buffers,
+    move_bytes, move_within,
 };
 use dml_types::{Job, Op, Record, Status};
 use std::process::Abort;

@@ -40,7 +40,7 @@ pub fn first_difference(a: &[u8], b: &[u8]) -> usize
     at
 }
 
-/// How many bytes two slices of one length begin with that are equal, in whole steps, as far as these are compared.
+/// Some bytes, in whole steps, in which two slices of one length are equal from the front.
 #[inline(always)]
 fn equal_steps(a: &[u8], b: &[u8]) -> usize
     requires { length a.now ≡ length b.now }
@@ -54,7 +54,7 @@ fn equal_steps(a: &[u8], b: &[u8]) -> usize
     while a.len() - at >= BLOCK && is_equal_block(a, b, at) {
         at += BLOCK;
     }
-    while a.len() - at >= STEP && is_equal_step(a, b, at) {
+    if a.len() - at >= STEP && is_equal_step(a, b, at) {
         at += STEP;
     }
     at

@@ -8,7 +8,7 @@ returns c =
     let second = loaded _ _ _ _ c.load-3.ensures c.load-4.ensures in
     let third = loaded _ _ _ _ c.load-5.ensures c.load-6.ensures in
     let fourth = loaded _ _ _ _ c.load-7.ensures c.load-8.ensures in (
-      λ zero. (let parts = c.all_of.ensures.0 zero in
+      λ full. (let parts = c.all_of.ensures.0 full in
           step.0 (
             first.0 (c.alike-first.ensures.0 parts.0),
             second.0 (c.alike-second.ensures.0 parts.1),

@@ -8,8 +8,6 @@ loop-at-preserved c = record {
   alike = alike_more c.args.a.now c.args.b.now c.loop-at.at 256 c.loop-at.invariant.alike (c.is_equal_block.ensures.0 c.if-is_equal_block.true);
 }
 
-pub loop-at-2-preserved : goal.loop-at-2-preserved
-loop-at-2-preserved c = record {
-  within = omega (arith, c.loop-at-2-test.true, c.loop-at-2.invariant.within);
-  alike = alike_more c.args.a.now c.args.b.now c.loop-at-2.at 128 c.loop-at-2.invariant.alike (c.is_equal_step-in-loop-at-2.ensures.0 c.if-is_equal_step.true);
-}
+pub returns-then-is_equal_step-clause-alike : goal.returns-then-is_equal_step-clause-alike
+returns-then-is_equal_step-clause-alike c =
+    alike_more c.args.a.now c.args.b.now c.loop-at.at 128 c.loop-at.invariant.alike (c.is_equal_step-then-a-at-ge-STEP.ensures.0 c.if-is_equal_step.true)

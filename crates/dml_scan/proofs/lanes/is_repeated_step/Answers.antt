@@ -5,7 +5,7 @@ use Rattle.dml_scan.proofs.lanes.is_repeated_step.Goals as goal
 pub returns : goal.returns
 returns c =
     let step = step_repeated c.args.bytes.now c.args.repeated c.args.at c.requires c.fits-repeated.0 in (
-      λ zero. (let parts = c.all_of.ensures.0 (c.is_full.ensures.0 zero) in
+      λ full. (let parts = c.all_of.ensures.0 (c.is_full.ensures.0 full) in
           step.0 (
             sym c.load.ensures ∙ c.alike-first.ensures.0 parts.0,
             sym c.load-2.ensures ∙ c.alike-second.ensures.0 parts.1,

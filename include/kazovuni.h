@@ -6,7 +6,7 @@
  * numbers are little-endian. No function has a precondition but that its pointers are valid for the bytes named (of
  * kazovuni_execute also those in the descriptor of an accepted job), and that memory which is written is passed once
  * only. A pointer with a length or a number of 0 may be NULL; one to a handle, a descriptor, a record or a struct may
- * not, in kazovuni_free neither. Each answers a code where something may be wrong with the call itself; what is wrong
+ * not, not even in kazovuni_free. Each answers a code where something may be wrong with the call itself; what is wrong
  * with a job stands in its completion record. docs/C.md says all of it.
  *
  * Threads: what a call is passed as const may be read by any number of calls and threads at once, as long as nobody

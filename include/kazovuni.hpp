@@ -76,7 +76,7 @@ using compare_pattern_result = job_result;
 using create_delta_result = job_result;
 using apply_delta_result = job_result;
 
-/* The bytes of a vector, an array or whatever else lies in one piece, and stays where the view is used. */
+/* The bytes of a vector, an array or whatever else lies in one piece, and outlives the view. */
 template <std::ranges::contiguous_range Range>
     requires std::ranges::sized_range<Range> && std::is_trivially_copyable_v<std::ranges::range_value_t<Range>> &&
              (std::is_lvalue_reference_v<Range> || std::ranges::borrowed_range<Range>)

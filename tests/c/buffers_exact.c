@@ -320,10 +320,10 @@ static void try_alignments(const struct job *job, enum kind kind, size_t step)
     try_at(job, &answer, (const size_t[RANGES]){0, 0, 0}, BEHIND_A_PAGE, true);
 }
 
-/* Compares at the edges of their blocks, of 256 bytes behind a first one of 128. */
+/* Compares at the edges of their steps, of 128 bytes, and of blocks of four steps. */
 static void try_blocks(size_t step)
 {
-    static const uint32_t sizes[] = {255, 256, 257, 383, 384, 385, 639, 640, 641};
+    static const uint32_t sizes[] = {255, 256, 257, 383, 384, 385, 511, 512, 513, 639, 640, 641};
     for (uint8_t opcode = COMPARE; opcode <= COMPARE_PATTERN; opcode++)
         for (size_t i = 0; i < sizeof sizes / sizeof *sizes; i++)
             for (enum kind kind = PLAIN; kind <= LAST; kind++) {

@@ -1,5 +1,5 @@
 """A buffer of 4 GiB and some bytes, by the words of examples/c/kazovuni.py: a length that was cut to 32 bits would be
-that of a job that is accepted. And flags that a descriptor has no room for, by which no call is made.
+that of a job that is accepted. And flags that a descriptor has no room for, with which no call is made.
 `tests/c_examples.sh` runs it, at the top of the repository."""
 import mmap
 import sys

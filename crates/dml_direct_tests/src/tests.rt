@@ -79,7 +79,7 @@ fn moves(rt: HostRuntime) {
     assert_eq!(rt; target, source);
 }
 
-/// A move of a buffer and a compare of the copy with it, as a list of two jobs: the records that the jobs have one after
+/// A move of a buffer and a compare of the copy with it, as a list of two jobs: the records that they have one after
 /// another, on each memory that holds the buffers.
 fn move_and_compare(
     moving: &Checked,

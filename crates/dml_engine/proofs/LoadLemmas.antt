@@ -1,5 +1,5 @@
 -- How many bytes workers share at most.
-use Rattle.std.proofs.Common.{◌≡◌, ℕ, ◌+◌, ◌<◌, ◌≤◌, ◌⊎◌, inl, inr, ⊎_elim, Bool, true, false, cond, refl, List, [], ◌∷◌, map, fold, Option, None, Some, arith}
+use Rattle.std.proofs.Common.{◌≡◌, ℕ, ◌+◌, ◌<◌, ◌≤◌, ⊎_elim, true, false, cond, List, [], ◌∷◌, map, fold, Option, None, Some, arith}
 use Rattle.std.proofs.lemmas.Bool.{cases_lt}
 use Rattle.std.specs.Prelude.{bit_and, is_some, nat_lt}
 use Rattle.std.proofs.lemmas.List.Sums.{sum_by-cons}

@@ -127,7 +127,8 @@ impl<G> Engine<G> {
         self.is_watched() || self.is_worth_waves(jobs, fences)
     }
 
-    /// Whether a list of jobs may be given more than one worker, by what the jobs name, before any of them is checked.
+    /// Whether a list of jobs may be given more than one worker where no gate was given, by what the jobs name, before
+    /// any of them is checked.
     pub(crate) fn may_pay(&self, jobs: &[Job]) -> bool
         ensures { IsTrue result ↔ ((1 < self.now.settings.workers) × (1572864 ≤ shareable jobs.now)) }
     {

@@ -9,9 +9,10 @@
 #   answer; or it does without, and answers as with ample memory;
 # - a test passes: it takes the call's right answer, or want of memory with nothing changed.
 #
-# Where a test has to make something before its call, a test set_up_of_NAME beside refused_NAME makes it alone. The
-# growths of that run come first in refused_NAME too; they are neither refused nor counted, so that each refusal meets
-# the call. Each test has a set-up, or stands in the list of those that need none, since their first growth is the call's.
+# Where a test has to make something before its call, a test set_up_of_NAME beside refused_NAME makes it alone, or that
+# of another test that makes the same. The growths of that run come first in refused_NAME too; they are neither refused
+# nor counted, so that each refusal meets the call. Each test has a set-up, or stands in the list of those that need
+# none, since their first growth is the call's.
 #
 # A row of the table names the calls that it is about (the first cell), a test or a run of the program by a key, and
 # behind it how many growths there are: a number, or `A to B` where they depend on how workers share their tasks. Each
@@ -54,6 +55,14 @@ take_none='dml_image:refused_second_bring dml_engine:refused_submit dml_engine:r
 make_nothing='dml_arena:refused_new dml_image:refused_new dml_grammar:refused_read_script dml_script:refused_job_text
 dml_script:refused_out_text_of_a_job dml_script:refused_out_text_of_a_batch dml_script:refused_push_byte
 dml_script:refused_run_script dml_command:refused_command_of dml_command:refused_parse_words dmljob:refused_description'
+
+# The tests that make before their call what another one makes: TEST=SET_UP.
+share_set_up='dml_core:refused_made_rows_by_steps=made_rows dml_engine:refused_bring=submit
+dml_engine:refused_second_bring=submit dml_engine:refused_list_alone=submit dml_engine:refused_batch_alone=submit
+dml_engine:refused_submit_into=submit_on_workers dml_engine:refused_submit_list=submit_on_workers
+dml_engine:refused_submit_batch=submit_on_workers dml_engine:refused_waves_of_a_batch=waves
+dml_engine:refused_later_growths_of_a_batch=later_growths dml_pool:refused_run_wave_of_three=run_wave
+dml_wave:refused_carry_out_wave_of_three=carry_out_wave dml_command:refused_read_request=parse_arguments'
 
 # The tests of lists and batches that take no want of memory for an answer. The last growth of their set-up is the list
 # of records, which in their run is the first growth of the call: where it is refused too, they have to fail by want of
@@ -142,16 +151,26 @@ program() {
     counted "$key" "$((number - 1))"
 }
 
-# set_up_of TEST: the name of the test that makes alone what this one makes before its call
+# set_up_of KEY TEST: the name of the test that makes alone what this one makes before its call
 set_up_of() {
-    printf '%s' "${1%refused_*}set_up_of_${1##*refused_}"
+    for pair in $share_set_up; do
+        if [ "${pair%=*}" = "$1" ]; then
+            sed -n "s/^\([a-z_:]*::set_up_of_${pair#*=}\): test$/\1/p" "$work/list"
+            return
+        fi
+    done
+    printf '%s' "${2%refused_*}set_up_of_${2##*refused_}"
 }
 
-# has_set_up KEY TEST: whether there is such a test; one of the two, that or an entry of the list, has to be there
+# has_set_up KEY TEST: whether there is such a test; one of the two, that or an entry of the list, has to be there, and
+# none of its own where it shares another one's
 has_set_up() {
+    own=${2%refused_*}set_up_of_${2##*refused_}
+    [ "$(set_up_of "$1" "$2")" = "$own" ] || ! grep -qxF "$own: test" "$work/list" ||
+        complain "$1: has a set-up, and is said to share another one's"
     listed=0
     is_in "$1" "$make_nothing" && listed=1
-    if grep -qxF "$(set_up_of "$2"): test" "$work/list"; then
+    if grep -qxF "$(set_up_of "$1" "$2"): test" "$work/list"; then
         [ "$listed" = 0 ] || complain "$1: has a set-up, and is listed as one that needs none"
         return 0
     fi
@@ -159,13 +178,23 @@ has_set_up() {
     return 1
 }
 
+# comes N BINARY TEST: whether the test asks for an Nth growth
+comes() {
+    refused "$@" >/dev/null 2>&1 </dev/null
+    [ -f "$work/log" ]
+}
+
 # growths BINARY TEST: how many growths a test takes
 growths() {
     taken=0
-    while :; do
-        refused "$((taken + 1))" "$1" "$2" >/dev/null 2>&1 </dev/null
-        [ -f "$work/log" ] || break
-        taken=$((taken + 1))
+    none=1
+    while comes "$none" "$@"; do
+        taken=$none
+        none=$((none * 2))
+    done
+    while [ "$((taken + 1))" -lt "$none" ]; do
+        middle=$(((taken + none) / 2))
+        if comes "$middle" "$@"; then taken=$middle; else none=$middle; fi
     done
     echo "$taken"
 }
@@ -183,7 +212,7 @@ wants_records() {
 # says_ends KEY BINARY TEST: it ended at the steps that its set-up says and at no other, in that order: once where it
 # says `grows at N`, once or more where it says `plans at N`
 says_ends() {
-    "$2" "$(set_up_of "$3")" </dev/null >"$work/wanted"
+    "$2" "$(set_up_of "$1" "$3")" </dev/null >"$work/wanted"
     awk '
         NR == FNR { end[++ends] = $1; next }
         /^(grows|plans) at / { steps++; if (end[++at] != $3) wrong = 1 }
@@ -206,7 +235,7 @@ library() {
         key=${1%_tests}:${test##*:}
         before=0
         if has_set_up "$key" "$test"; then
-            before=$(growths "$binary" "$(set_up_of "$test")")
+            before=$(growths "$binary" "$(set_up_of "$key" "$test")")
         fi
         number=$((before + 1))
         : >"$work/ends"
@@ -233,13 +262,22 @@ library() {
 
 # ---- rows of the core under a limit on all memory
 
-# under BYTES NAME WAY: takes a schedule of the core's in this way with so many bytes left behind those of its making,
-# whose growths are $before: what it says stands in the file `out`, and a line for each refusal in the file `log`
+# made NAME WAY: how many growths `limited` takes for this schedule and this way
+made() {
+    (export LIMITED="$*"; growths "$core_tests" tests::limits::limited)
+}
+
+# under BYTES BEHIND NAME WAY: takes a schedule of the core's in this way with so many bytes left behind those of its
+# making, whose growths are $before; none of the first BEHIND growths is refused. What it says stands in the file `out`,
+# and a line for each refusal in the file `log`.
 under() {
+    left=$1
+    behind=$2
+    shift 2
     : >"$work/log"
-    LIMITED="$2 $3" REFUSE_ABOVE=$1 REFUSE_FROM=$((before + 1)) REFUSE_LOG=$work/log LD_PRELOAD=$work/refuse.so \
-        "$core_tests" tests::limits::limited >"$work/out" 2>&1 </dev/null ||
-        complain "limited $2 $3: with $1 bytes: fails: $(cat "$work/out")"
+    LIMITED="$*" REFUSE_ABOVE=$left REFUSE_FROM=$((before + 1)) REFUSE_BEHIND=$behind REFUSE_LOG=$work/log \
+        LD_PRELOAD=$work/refuse.so "$core_tests" tests::limits::limited >"$work/out" 2>&1 </dev/null ||
+        complain "limited $*: with $left bytes: fails: $(cat "$work/out")"
 }
 
 # said WORD: the number behind that word
@@ -247,44 +285,69 @@ said() {
     sed -n "s/.*$1 \([0-9]*\).*/\1/p" "$work/out"
 }
 
+# fetch_behind: how the fetch by itself went
+fetch_behind() {
+    grep '^then fetched ' "$work/out"
+}
+
+# is_end_of_row NAME BYTES STEP: whether a step that wants memory may be the end of the one call, which made no plan
+# since its row began: it is the one at which calls of one step each end that begin there, or one behind that, whose
+# list grows
+is_end_of_row() {
+    LIMITED="$1 row $3" "$core_tests" tests::limits::limited >"$work/out" </dev/null
+    begin=$(said 'row from')
+    grows=$(said grows)
+    under "$2" "$(made "$1" only_afresh "$begin")" "$1" alone "$begin"
+    [ "$3" = "$(said 'ended at')" ] || { [ "$3" -gt "$(said 'ended at')" ] && [ "$grows" = 1 ]; }
+}
+
 # limited NAME BYTES..: takes steps by one call, and by calls of one step each, with so many bytes left.
 #
-# The others never come further than the one call. Where it comes further than they do, no plan of its rows was refused:
-# they hold the plan of each fetch, and it that of a row. Else both end at the same step, which is not taken when it is
-# tried again alone, and a fetch by itself goes from the world that the call hands back as from theirs. Counted are the
-# calls that met a second refusal before they ended, behind that of a list of more than a million bytes, or behind
-# another.
+# Both end at the same step, and a fetch by itself then goes alike; or the one call comes further, past a row whose
+# plan fits, as the others hold the plan of each fetch beside the next one's: then it ends behind all steps, or at the
+# step at which calls of one step each end that begin where its row does, or at one behind that, whose list grows. The
+# step at which it ends is not taken when it is tried again alone, and a fetch by itself goes from the world that it
+# hands back as from one that took as many steps with ample memory. Counted are the calls that came further, and those
+# that met a second refusal before they ended, behind that of a list of more than a million bytes, or behind another.
 limited() {
     name=$1
     shift
-    before=$(export LIMITED="$name only_made"; growths "$core_tests" tests::limits::limited)
+    before=$(made "$name" only_made)
     behind_list=0
     behind_other=0
+    further=0
     ends=
     for bytes in "$@"; do
-        under "$bytes" "$name" alone
+        under "$bytes" 0 "$name" alone
         alone=$(said 'ended at')
-        fetched=$(said 'then fetched')
-        under "$bytes" "$name" by_one_call
+        fetch_of_others=$(fetch_behind)
+        under "$bytes" 0 "$name" by_one_call
         whole=$(said 'ended at')
+        fetch=$(fetch_behind)
         ends="$ends $whole"
         more=$(said 'then took')
         first=$(sed -n '1s/.* //p' "$work/log")
         refusals=$(($(wc -l <"$work/log") - 1 + ${more:-1} - $(said short)))
         what="limited $name, with $bytes bytes: one call ends at $whole, the others at $alone"
-        [ "$whole" -ge "$alone" ] || complain "$what"
-        [ "$whole" -le "$alone" ] || [ "$refusals" -lt 2 ] || complain "$what, with $refusals refusals"
-        [ "$whole" -gt "$alone" ] || [ "$(said 'then fetched')" = "$fetched" ] || complain "$what: then no like fetch"
         [ "${more:-0}" = 0 ] || complain "$what: then $more steps"
         [ -n "$more" ] || [ "$refusals" = 0 ] || complain "$what: a refusal is not answered"
+        under "$bytes" "$(made "$name" only_afresh "$whole")" "$name" afresh "$whole"
+        [ "$(fetch_behind)" = "$fetch" ] || complain "$what: then $fetch, afresh $(fetch_behind)"
+        if [ "$whole" = "$alone" ]; then
+            [ "$fetch" = "$fetch_of_others" ] || complain "$what: then $fetch, theirs $fetch_of_others"
+        else
+            further=$((further + 1))
+            [ "$whole" -gt "$alone" ] || complain "$what"
+            [ -z "$more" ] || is_end_of_row "$name" "$bytes" "$whole" || complain "$what, which is no end of its row"
+        fi
         if [ "$refusals" -gt 1 ] && [ "$first" -gt 1000000 ]; then
             behind_list=$((behind_list + 1))
         elif [ "$refusals" -gt 1 ]; then
             behind_other=$((behind_other + 1))
         fi
     done
-    printf 'refusals: dml_core, limited %s: %s limits, %s with two refusals and more, %s of these behind a large list\n' \
-        "$name" "$#" "$((behind_list + behind_other))" "$behind_list"
+    printf 'refusals: dml_core, limited %s: %s limits, %s further, %s with two refusals and more, %s behind a large list\n' \
+        "$name" "$#" "$further" "$((behind_list + behind_other))" "$behind_list"
 }
 
 # ended FIRST LAST: one of these calls ended at a step between them
@@ -303,27 +366,34 @@ ended 1000 1000
 limited fetches 131072 160000 200000
 [ "$behind_other" = 3 ] || complain 'limited fetches: no step was refused behind a plan'
 limited full_list 2000 16000 32000 65536 100000 107500 131072 262144
+ended 0 399
+ended 410 410
 [ "$behind_list" -gt 0 ] || complain 'limited full_list: no plan was refused behind a list'
-limited two_rows 2000 16000 52000 131072 200000 262144 284500 300000 308500 311500 400000
+limited two_rows 2000 16000 52000 131072 200000 262144 274000 276000 284500 300000 308500 311500 400000
 ended 0 1599
-ended 2100 2299
+ended 2100 2100
+ended 2101 2299
 ended 2300 2300
 # From some 123,000 bytes on the list of the submits has its room beside the plan of the fetches before them, but not
 # beside what the making of this plan takes.
-limited long_row 2000 16000 32000 56000 100000 122900 123000 123500 126000 130000 400000
+limited long_row 2000 16000 32000 56000 100000 122900 123000 123500 126000 130000 151000 400000
 ended 0 199
 ended 2047 2047
 ended 2048 2048
-limited bad_end 2000 16000 32000 56000 100000 122900 123000 123500 126000 130000 400000
+limited bad_end 2000 16000 32000 52000 56000 100000 122900 123000 123500 126000 130000 400000
 ended 0 199
 ended 200 1999
 ended 2000 2000
-# From some 90,000 bytes on the list of the submits has its room, and would not beside the plan before the row.
-limited old_plan 2000 16000 32000 56000 80000 89000 91000 95000 98000 100000 400000
+# From 98,304 bytes on the list of the submits has its room, and would not beside the plan before the row.
+limited old_plan 2000 16000 32000 56000 80000 89000 91000 95000 98000 98900 100000 400000
 ended 0 1024
 ended 1027 1027
 # Nor beside the committed waves of a plan that is not over.
 limited part_plan 2000 16000 32000 56000 80000 89000 91000 95000 98000 100000 400000
+ended 0 0
+ended 1025 1025
+ended 1026 1026
+ended 1027 1027
 
 # ---- the program
 
@@ -371,7 +441,8 @@ done
 for twice in $(cut -d ' ' -f 1 "$work/counts" | sort | uniq -d); do
     complain "two tests of one crate are named $twice"
 done
-for wanted in $take_none $make_nothing $want_records $end_each $say_ends $in_parts; do
+shared=$(printf '%s' "$share_set_up" | sed 's/=[a-z_]*//g')
+for wanted in $take_none $make_nothing $want_records $end_each $say_ends $in_parts $shared; do
     grep -q "^$wanted " "$work/counts" || complain "there is no test $wanted"
 done
 

@@ -5,8 +5,9 @@
    asked for fewer.
 
    With REFUSE_ABOVE=BYTES it refuses each by which the program would hold more than so many bytes
-   over what it held when it asked for the growth numbered REFUSE_FROM; none before that one. A line
-   is written for each. A block counts with the size that was asked for.
+   over what it held when it asked for the growth numbered REFUSE_FROM; none before that one, and with
+   REFUSE_BEHIND=N none up to the one numbered N. A line is written for each. A block counts with the
+   size that was asked for.
 
    A growth is a call of malloc, calloc or realloc from the program's own code, but for one that makes
    a block no larger: that is neither counted nor refused, and so is what the C library asks for on its
@@ -31,8 +32,10 @@ static uintptr_t program_end;
 static unsigned long wanted;
 static unsigned long growths;
 
-/* The growth from which on there is a limit, how many bytes it leaves, and the most that may be held. */
+/* The growth from which on there is a limit, the last one before the first that it may refuse, how many
+   bytes it leaves, and the most that may be held. */
 static unsigned long limited_from;
+static unsigned long limited_behind;
 static size_t allowance;
 static size_t most_bytes = SIZE_MAX;
 
@@ -72,8 +75,10 @@ __attribute__((constructor)) static void begin(void)
     wanted = number ? strtoul(number, NULL, 10) : 0;
     const char *above = getenv("REFUSE_ABOVE");
     const char *from = getenv("REFUSE_FROM");
+    const char *behind = getenv("REFUSE_BEHIND");
     allowance = above ? strtoul(above, NULL, 10) : 0;
     limited_from = above && from ? strtoul(from, NULL, 10) : 0;
+    limited_behind = behind ? strtoul(behind, NULL, 10) : 0;
     dl_iterate_phdr(note_program, NULL);
 }
 
@@ -153,7 +158,7 @@ static int is_refused(size_t size, size_t before)
         most_bytes = held_bytes + allowance;
     size_t rest = held_bytes - before;
     int is_wanted = growths == wanted;
-    int is_above = limited_from && (rest > most_bytes || size > most_bytes - rest);
+    int is_above = limited_from && growths > limited_behind && (rest > most_bytes || size > most_bytes - rest);
     if (is_wanted || is_above)
         log_refusal(growths, size, is_wanted ? O_EXCL : O_APPEND);
     return is_wanted || is_above;

@@ -444,11 +444,6 @@ fn refused_run_wave(rt: HostRuntime) {
 }
 
 #[test]
-fn set_up_of_run_wave_of_three(rt: HostRuntime) -> Result<(), Fail> {
-    made_and_dropped(&rt, rt.alloc())
-}
-
-#[test]
 fn refused_run_wave_of_three(rt: HostRuntime) {
     wave_or_refused(&rt, rt.alloc(), 3);
 }

@@ -58,12 +58,6 @@ fn refused_parse_arguments(rt: HostRuntime) -> Result<(), Fail> {
 }
 
 #[test]
-fn set_up_of_read_request(rt: HostRuntime) -> Result<(), Fail> {
-    assert_eq!(rt; arguments(rt.alloc())?.len(), 4);
-    Ok(())
-}
-
-#[test]
 fn refused_read_request(rt: HostRuntime) -> Result<(), Fail> {
     let list = arguments(rt.alloc())?;
     let asked = read_request(rt.alloc(), Ok(list));

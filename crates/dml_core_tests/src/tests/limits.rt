@@ -1,8 +1,8 @@
 //! Rows of submits and fetches under a limit on all memory, which tests/refusals.sh sets from the first request on that
 //! comes behind those of the schedule's making: taken by one call, and by calls of one step each. What both print is
-//! compared there.
+//! compared there, also with what a world says that took as many steps with ample memory.
 
-use super::rows::{Counts, expect_counts, replayed};
+use super::rows::{Counts, expect_counts, replayed, row_end, wanting};
 use super::{idle, world};
 use dml_core::{Step, World};
 use dml_types::Job;
@@ -111,7 +111,7 @@ fn bad_end(alloc: Global) -> Option<Schedule> {
 /// A row behind a plan of a thousand jobs, all of which are committed.
 fn old_plan(alloc: Global) -> Option<Schedule> {
     let mut first = Vec::new(alloc);
-    push_submits(&mut first, 0, 1002)?;
+    push_submits(&mut first, 0, 1003)?;
     push_fetches(&mut first, 0, 1000)?;
     first.push(Step::Commit).ok()?;
     let mut steps = Vec::new(alloc);
@@ -125,7 +125,7 @@ fn old_plan(alloc: Global) -> Option<Schedule> {
 fn part_plan(alloc: Global) -> Option<Schedule> {
     let mut first = Vec::new(alloc);
     let job = Job::fill(1, 0, 8);
-    for _ in 0..602 {
+    for _ in 0..603 {
         first.push(Step::Submit { client: 0, job }).ok()?;
     }
     push_fetches(&mut first, 0, 600)?;
@@ -172,20 +172,22 @@ fn expect_whole(
     say_fetch(rt, alloc, world)
 }
 
-/// The steps by calls of one step each, up to the first for which memory is wanting, and then a fetch by itself.
+/// So many of the first steps by one call, and those behind them by calls of one step each, up to the first for which
+/// memory is wanting, and then a fetch by itself.
 fn expect_alone(
     rt: &(impl Abort + std::io::Print),
     alloc: Global,
     schedule: Schedule,
+    count: usize,
 ) -> Option<()> {
     let Schedule {
         world,
         before,
         steps,
     } = schedule;
-    let mut world = world;
-    let mut end = 0;
-    for i in 0..steps.len() {
+    let (mut world, mut end, _) = replayed(alloc, world, steps.get(..count)?);
+    assert_eq!(rt; end, count);
+    for i in count..steps.len() {
         let (next, more, _) = replayed(alloc, world, steps.get(i..i.saturating_add(1))?);
         world = next;
         if more == 0 {
@@ -196,6 +198,52 @@ fn expect_alone(
     println!(rt; "ended at {end}").ok()?;
     expect_counts(rt, &world, before, steps.get(..end)?);
     say_fetch(rt, alloc, world)
+}
+
+/// So many of the first steps by one call, and then, where it is asked for, a fetch by itself.
+fn expect_afresh(
+    rt: &(impl Abort + std::io::Print),
+    alloc: Global,
+    schedule: Schedule,
+    count: usize,
+    is_fetched: bool,
+) -> Option<()> {
+    let Schedule {
+        world,
+        before,
+        steps,
+    } = schedule;
+    let first = steps.get(..count)?;
+    let (world, taken, _) = replayed(alloc, world, first);
+    assert_eq!(rt; taken, count);
+    expect_counts(rt, &world, before, first);
+    if is_fetched {
+        say_fetch(rt, alloc, world)?;
+    }
+    Some(())
+}
+
+/// Where the row begins in which this step lies, or the step itself where it lies in none; and whether its list grows.
+fn say_row(
+    rt: &impl std::io::Print,
+    alloc: Global,
+    schedule: &Schedule,
+    step: usize,
+) -> Option<()> {
+    let steps = &schedule.steps;
+    let mut begin = step;
+    let mut end = 0;
+    for (i, one) in steps.iter().enumerate().take(step.saturating_add(1)) {
+        if i >= end && matches!(*one, Step::Fetch { .. }) {
+            end = row_end(steps, i);
+            if step < end {
+                begin = i;
+            }
+        }
+    }
+    let (_, wants) = wanting(alloc, schedule.before, steps)?;
+    let grows = wants.iter().any(|want| want.step == step && !want.plans);
+    println!(rt; "row from {begin} grows {}", u8::from(grows)).ok()
 }
 
 /// The schedule of this name.
@@ -212,30 +260,43 @@ fn named(alloc: Global, name: &str) -> Option<Schedule> {
     }
 }
 
-/// Takes the steps of a schedule `by_one_call` or `alone`; else it is only made.
+/// Takes the steps of a schedule `by_one_call`, or, behind the first so many of them, `alone`; or these first ones
+/// `afresh`, or `only_afresh`, which is without the fetch behind them; or says of which `row` a step is. A schedule
+/// that is `only_made` takes none.
 fn take(
     rt: &(impl Abort + std::io::Print),
     alloc: Global,
     name: &str,
     way: &str,
-) -> Result<(), Fail> {
-    let schedule = named(alloc, name).ok_or("no memory")?;
+    count: usize,
+) -> Option<()> {
+    let schedule = named(alloc, name)?;
     match way {
-        "by_one_call" => expect_whole(rt, alloc, schedule).ok_or("no output")?,
-        "alone" => expect_alone(rt, alloc, schedule).ok_or("no output")?,
-        _ => expect_counts(rt, &schedule.world, schedule.before, &[]),
+        "by_one_call" => expect_whole(rt, alloc, schedule),
+        "alone" => expect_alone(rt, alloc, schedule, count),
+        "afresh" => expect_afresh(rt, alloc, schedule, count, true),
+        "only_afresh" => expect_afresh(rt, alloc, schedule, count, false),
+        "row" => say_row(rt, alloc, &schedule, count),
+        "only_made" => {
+            expect_counts(rt, &schedule.world, schedule.before, &[]);
+            Some(())
+        }
+        _ => None,
     }
-    Ok(())
 }
 
-/// The schedule and the way that LIMITED has in the environment, as `two_rows alone`; without it each by one call.
+/// The schedule and the way that LIMITED has in the environment, as `two_rows alone` or `two_rows afresh 200`; without
+/// it each by one call.
 #[test]
 fn limited(rt: HostRuntime) -> Result<(), Fail> {
     let mut words = [0; 64];
     if let Ok(len) = rt.var("LIMITED", &mut words) {
         let text = std::str::from_utf8(&words[..len])?;
-        let (name, way) = text.split_once(' ').ok_or("no way is named")?;
-        return take(&rt, rt.alloc(), name, way);
+        let (name, words) = text.split_once(' ').ok_or("no way is named")?;
+        let (way, count) = words.split_once(' ').unwrap_or((words, "0"));
+        let count = count.parse::<usize>().map_err(|_| "no number of steps")?;
+        take(&rt, rt.alloc(), name, way, count).ok_or("no memory or no such way")?;
+        return Ok(());
     }
     for name in [
         "fetches",
@@ -246,7 +307,7 @@ fn limited(rt: HostRuntime) -> Result<(), Fail> {
         "old_plan",
         "part_plan",
     ] {
-        take(&rt, rt.alloc(), name, "by_one_call")?;
+        take(&rt, rt.alloc(), name, "by_one_call", 0).ok_or("no memory")?;
     }
     Ok(())
 }

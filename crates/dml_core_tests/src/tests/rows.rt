@@ -94,9 +94,9 @@ fn add_one(counts: &mut [usize; 3], client: u32) {
 
 /// A step that wants memory: since its list is full, or for the plan of the row whose last fetch it is.
 #[derive(Clone, Copy)]
-struct Want {
-    step: usize,
-    plans: bool,
+pub(super) struct Want {
+    pub(super) step: usize,
+    pub(super) plans: bool,
 }
 
 /// A world, the steps that it is to take, and what is expected of them.
@@ -154,7 +154,7 @@ fn steps_of_row(alloc: Global, dice: &mut Dice) -> Option<Vec<Step>> {
 }
 
 /// The place behind the row that begins at a place: behind the last fetch of as many steps as a row may have.
-fn row_end(steps: &[Step], first: usize) -> usize {
+pub(super) fn row_end(steps: &[Step], first: usize) -> usize {
     let mut end = first;
     for (i, step) in steps.iter().enumerate().skip(first).take(MOST_STEPS) {
         if matches!(*step, Step::Fetch { .. }) {
@@ -167,7 +167,7 @@ fn row_end(steps: &[Step], first: usize) -> usize {
 /// How many steps are allowed behind those that were counted, and which of them want memory, in the order in which they
 /// do: the submits behind a row's last fetch want theirs behind its plan, and those in front of a fetch that is not
 /// allowed once more there, since they are taken back before.
-fn wanting(alloc: Global, before: Counts, steps: &[Step]) -> Option<(usize, Vec<Want>)> {
+pub(super) fn wanting(alloc: Global, before: Counts, steps: &[Step]) -> Option<(usize, Vec<Want>)> {
     let mut counts = before;
     let mut wants = Vec::new(alloc);
     let mut row = 0..0;
@@ -344,13 +344,5 @@ fn refused_made_rows_by_steps(rt: HostRuntime) -> Result<(), Fail> {
         }
         expect_counts(&rt, &world, before, steps.get(..allowed).ok_or("no step")?);
     }
-    Ok(())
-}
-
-/// What `refused_made_rows_by_steps` does before its calls.
-#[test]
-fn set_up_of_made_rows_by_steps(rt: HostRuntime) -> Result<(), Fail> {
-    let rows = made_rows(rt.alloc()).ok_or("no memory")?;
-    assert_eq!(rt; rows.len(), 40);
     Ok(())
 }

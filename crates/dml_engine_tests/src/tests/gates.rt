@@ -333,11 +333,6 @@ fn refused_waves(rt: HostRuntime) -> Result<(), Fail> {
 }
 
 #[test]
-fn set_up_of_waves_of_a_batch(rt: HostRuntime) -> Result<(), Fail> {
-    made_and_dropped(&rt, rt.alloc())
-}
-
-#[test]
 fn refused_waves_of_a_batch(rt: HostRuntime) -> Result<(), Fail> {
     expect_waves(&rt, rt.alloc(), true)
 }

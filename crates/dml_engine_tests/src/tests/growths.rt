@@ -2,8 +2,7 @@
 //! levels are found by cells, and batches with fences.
 
 use super::{
-    USUAL, answer, engine, engine_with, expect_at, expect_made, expect_nothing, made_and_dropped,
-    no_records, page_of,
+    USUAL, answer, engine, engine_with, expect_at, expect_made, expect_nothing, no_records, page_of,
 };
 use dml_engine::Engine;
 use dml_image::ImageError;
@@ -15,11 +14,6 @@ use std::test::Fail;
 
 // The refused_* below hold whichever growth is refused: they are also run with each refused in turn, from the first one
 // behind those that their set-up takes.
-
-#[test]
-fn set_up_of_bring(rt: HostRuntime) -> Result<(), Fail> {
-    made_and_dropped(&rt, rt.alloc())
-}
 
 /// Brings the second page, which is there then, or absent as before; the other page stays.
 fn expect_brought(rt: &impl Abort, engine: &mut Engine) {
@@ -40,11 +34,6 @@ fn refused_bring(rt: HostRuntime) -> Result<(), Fail> {
     let mut engine = engine(rt.alloc()).ok_or("no memory")?;
     expect_brought(&rt, &mut engine);
     Ok(())
-}
-
-#[test]
-fn set_up_of_second_bring(rt: HostRuntime) -> Result<(), Fail> {
-    made_and_dropped(&rt, rt.alloc())
 }
 
 /// A page that is present is overwritten without memory.
@@ -68,11 +57,6 @@ fn expect_two_fills(rt: &impl Abort, engine: &Engine, records: &[Record]) {
     expect_at(rt, engine, &[(0, 2)]);
 }
 
-#[test]
-fn set_up_of_list_alone(rt: HostRuntime) -> Result<(), Fail> {
-    made_and_dropped(&rt, rt.alloc())
-}
-
 /// A list that is worth no worker takes memory for its records alone.
 #[test]
 fn refused_list_alone(rt: HostRuntime) -> Result<(), Fail> {
@@ -82,11 +66,6 @@ fn refused_list_alone(rt: HostRuntime) -> Result<(), Fail> {
         Err(error) => expect_nothing(&rt, &engine, error),
     }
     Ok(())
-}
-
-#[test]
-fn set_up_of_batch_alone(rt: HostRuntime) -> Result<(), Fail> {
-    made_and_dropped(&rt, rt.alloc())
 }
 
 /// Nor does a batch with a fence take more.

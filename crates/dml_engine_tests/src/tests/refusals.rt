@@ -105,11 +105,6 @@ fn refused_submit_on_workers(rt: HostRuntime) -> Result<(), Fail> {
     Ok(())
 }
 
-#[test]
-fn set_up_of_submit_into(rt: HostRuntime) -> Result<(), Fail> {
-    watched_set_up(&rt, rt.alloc())
-}
-
 /// A list is carried out, with workers or without.
 #[test]
 fn refused_submit_into(rt: HostRuntime) -> Result<(), Fail> {
@@ -121,11 +116,6 @@ fn refused_submit_into(rt: HostRuntime) -> Result<(), Fail> {
     Ok(())
 }
 
-#[test]
-fn set_up_of_submit_list(rt: HostRuntime) -> Result<(), Fail> {
-    watched_set_up(&rt, rt.alloc())
-}
-
 /// The right records, or want of memory with nothing changed.
 #[test]
 fn refused_submit_list(rt: HostRuntime) -> Result<(), Fail> {
@@ -135,11 +125,6 @@ fn refused_submit_list(rt: HostRuntime) -> Result<(), Fail> {
         Err(error) => expect_nothing(&rt, &engine, error),
     }
     Ok(())
-}
-
-#[test]
-fn set_up_of_submit_batch(rt: HostRuntime) -> Result<(), Fail> {
-    watched_set_up(&rt, rt.alloc())
 }
 
 /// The right records, or want of memory with nothing changed.
@@ -170,13 +155,6 @@ fn refused_later_growths(rt: HostRuntime) -> Result<(), Fail> {
     let (mut engine, _records) = watched_engine(rt.alloc()).ok_or("no memory")?;
     let records = engine.submit_list(&rt, rt.alloc(), &small_jobs())?;
     expect_small_jobs(&rt, &engine, &records);
-    Ok(())
-}
-
-#[test]
-fn set_up_of_later_growths_of_a_batch(rt: HostRuntime) -> Result<(), Fail> {
-    watched_set_up(&rt, rt.alloc())?;
-    no_records(&rt, rt.alloc(), small_jobs().len())?;
     Ok(())
 }
 

@@ -485,11 +485,6 @@ fn refused_carry_out_wave(rt: HostRuntime) {
 }
 
 #[test]
-fn set_up_of_carry_out_wave_of_three(rt: HostRuntime) {
-    let _scene = Scene::new(rt.alloc());
-}
-
-#[test]
 fn refused_carry_out_wave_of_three(rt: HostRuntime) {
     wave_or_refused(&rt, rt.alloc(), 3);
 }

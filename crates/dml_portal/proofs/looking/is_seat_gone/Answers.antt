@@ -1,7 +1,0 @@
-use Rattle.std.proofs.Common.{ap}
-use Rattle.std.proofs.Math.Seq.{map-set_same}
-use Rattle.dml_portal.specs.Whole.{late_of}
-use Rattle.dml_portal.proofs.looking.is_seat_gone.Goals as goal
-
-pub returns-clause-late : goal.returns-clause-late
-returns-clause-late c = map-set_same late_of c.args.lanes.now.items c.args.client _ c.index_mut.result.now (ap late_of c.index_mut.ensures.value)

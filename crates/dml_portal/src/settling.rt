@@ -5,7 +5,7 @@ use crate::errors::{PortalError, SettleFault};
 use crate::logs::Log;
 use crate::looking::{are_drained, have_finished};
 use crate::seats::Done;
-use crate::servers::ServerOver;
+use crate::servers::Server;
 use dml_core::law_of_rounds;
 use dml_image::Image;
 use dml_pool::Gate;
@@ -16,17 +16,14 @@ use std::thread::Threads;
 
 /// What a portal leaves: the engine's image, and the log of all that was carried out.
 #[derive(Drop)]
-pub struct SettledOver<'a> {
+pub struct Settled {
     /// The image behind all jobs of the log.
-    pub image: Image<'a>,
+    pub image: Image<'static>,
     /// Every job that was carried out, with its client and its record.
     pub log: Log,
 }
 
-/// What a portal over an image that borrows nothing that ends leaves.
-pub type Settled = SettledOver<'static>;
-
-impl<G> ServerOver<'_, G> {
+impl<G> Server<G> {
     ghost use Rattle.std.specs.Prelude.{IsFalse, IsTrue};
     ghost use Rattle.dml_portal.specs.Lanes.{AreSameLanes};
     ghost use Rattle.dml_portal.specs.Settled.{AreSeatsOf, AreUnusedSeats, EachDone, HasJobsLeft, IsSettled};
@@ -46,23 +43,23 @@ impl<G> ServerOver<'_, G> {
     }
 }
 
-impl<'a, G: Drop> ServerOver<'a, G> {
+impl<G: Drop> Server<G> {
     ghost use Rattle.dml_portal.specs.Servers.{image_of, log_of};
 
     /// What it leaves.
-    fn into_settled(self) -> SettledOver<'a>
+    fn into_settled(self) -> Settled
         ensures image { result.image ≡ image_of self.entry }
         ensures log { result.log ≡ log_of self.entry }
     {
-        let ServerOver { engine, log, .. } = self;
-        SettledOver {
+        let Server { engine, log, .. } = self;
+        Settled {
             image: engine.into_image(),
             log: Log { list: log },
         }
     }
 }
 
-impl<G: Gate + Sync> ServerOver<'_, G> {
+impl<G: Gate + Sync> Server<G> {
     ghost use Rattle.std.specs.Prelude.{OnErr, OnOk, length, take};
     ghost use Rattle.dml_types.specs.Step.{memory_after, records_of};
     ghost use Rattle.dml_portal.specs.Log.{added, answers_in, jobs_in};
@@ -101,7 +98,7 @@ impl<G: Gate + Sync> ServerOver<'_, G> {
     }
 }
 
-impl<'a, G: Gate + Sync + Drop> ServerOver<'a, G> {
+impl<G: Gate + Sync + Drop> Server<G> {
     ghost use Rattle.std.specs.Prelude.{◌↔◌, false, true, IfErr, IfOk, OnOk, length, take};
     ghost use Rattle.dml_types.specs.Step.{memory_after, records_of};
     ghost use Rattle.dml_portal.specs.Log.{added, answers_in, jobs_in};
@@ -123,7 +120,7 @@ impl<'a, G: Gate + Sync + Drop> ServerOver<'a, G> {
         rt: &R,
         alloc: Global,
         dones: Vec<Done>,
-    ) -> Result<SettledOver<'a>, (ServerOver<'a, G>, Vec<Done>, SettleFault)>
+    ) -> Result<Settled, (Server<G>, Vec<Done>, SettleFault)>
         requires seats { AreSeatsOf (lanes_of self) dones.items }
         ensures settled { IfOk result (λ settled. EachDone (IsSettled settled.log) dones.items) }
         ensures strangers { IfErr result (λ kept. (kept.2 ≡ SettleFault.Strangers) ↔ (have_finished (clients_of self.entry) dones.items ≡ false)) }

@@ -54,7 +54,8 @@ take_none='dml_image:refused_second_bring dml_engine:refused_submit dml_engine:r
 # The tests that make nothing before their call.
 make_nothing='dml_arena:refused_new dml_image:refused_new dml_grammar:refused_read_script dml_script:refused_job_text
 dml_script:refused_out_text_of_a_job dml_script:refused_out_text_of_a_batch dml_script:refused_push_byte
-dml_script:refused_run_script dml_command:refused_command_of dml_command:refused_parse_words dmljob:refused_description'
+dml_script:refused_run_script dml_command:refused_command_of dml_command:refused_parse_words dmljob:refused_description
+dml_engine:refused_run_list_over dml_engine:refused_run_batch_over'
 
 # The tests that make before their call what another one makes: TEST=SET_UP.
 share_set_up='dml_core:refused_made_rows_by_steps=made_rows dml_engine:refused_bring=submit
@@ -463,7 +464,8 @@ rows() {
 }
 
 # Of a library's files, lib.rt first: the exported calls that take an allocator or answer an error, which may be want of
-# memory, a method behind the name of its type; of the library for C only what is exported to C.
+# memory, a method behind the name of its type, or of an exported alias of that; of the library for C only what is
+# exported to C.
 calls() {
     awk -v for_c="$([ "$1" = dml_c ] && echo 1)" '
         FNR == 1 { type = "" }
@@ -476,6 +478,11 @@ calls() {
             }
             if (/;/) is_use = 0
         }
+        /^pub type / {
+            short = $3; sub(/[^A-Za-z0-9_].*/, "", short)
+            long = $0; sub(/^.* = /, "", long); sub(/[^A-Za-z0-9_].*/, "", long)
+            if (short in exported) alias[long] = short
+        }
         /^impl/ {
             type = $0; sub(/^impl(<[^>]*>)? /, "", type); sub(/^.* for /, "", type); sub(/[^A-Za-z0-9_].*/, "", type)
         }
@@ -486,10 +493,16 @@ calls() {
             is_inside = 1
         }
         is_inside && /alloc: Global|Result<.*[A-Za-z]Error>/ {
-            if (is_exported) print is_method ? type "::" name : name
+            if (is_exported) { types[++calls] = is_method ? type : ""; names[calls] = name }
             is_inside = 0
         }
         is_inside && /^ *(\{|requires|ensures)|\{ *$|;$/ { is_inside = 0 }
+        END {
+            for (i = 1; i <= calls; i++) {
+                type = types[i] in alias ? alias[types[i]] : types[i]
+                print type ? type "::" names[i] : names[i]
+            }
+        }
     ' "crates/$1/src/lib.rt" $(find "crates/$1/src" -name '*.rt' ! -name lib.rt ! -path '*tests*' | sort)
 }
 

@@ -1,17 +1,19 @@
-//! Jobs over the caller's own pages.
-ghost use Rattle.std.specs.Prelude.{◌≡◌, ◌≢◌, ◌↔◌, ◌<◌, ◌≤◌, IfOk, IfSome, IsErr, IsSome, IsTrue, None, length, map};
+//! Jobs over the caller's own pages, and what they share with those over pages in one piece of any size.
+ghost use Rattle.std.specs.Prelude.{◌≡◌, ◌≢◌, ◌↔◌, ◌<◌, ◌≤◌, ◌⊎◌, IfOk, IfSome, IsErr, IsSome, IsTrue, None, length, map};
 ghost use Rattle.dml_types.specs.Refusal.{need};
 ghost use Rattle.dml_types.specs.Step.{memory_after, records_of, step};
 ghost use Rattle.dml_desc.specs.Descriptor.{bytes_of_record, decoded};
 ghost use Rattle.dml_c.specs.Bases as bases;
 ghost use Rattle.dml_c.specs.Needs.{IsEnough, IsGreatestNeed, IsOwnNeed, TakesSome, room_of};
-ghost use Rattle.dml_effect.specs.Pages.{IsPages, all_present};
+ghost use Rattle.dml_effect.specs.Pages.{IsPages, IsWholePages, all_present};
 ghost use Rattle.dml_effect.specs.Straight.{TakesStaging};
 
 use crate::bases::{answered_at, counted};
 use crate::codes::{DONE, NO_MEMORY, NOT_AS_MANY, NOT_PAGES};
 use dml_arena::{Arena, ArenaError};
-use dml_effect::{are_pages, by_fields, submit_over, submit_straight_over, takes_staging};
+use dml_effect::{
+    are_pages, by_fields, submit_over_whole, submit_straight_over_whole, takes_staging,
+};
 use dml_types::{Job, Record, Status};
 use std::alloc::Global;
 
@@ -66,6 +68,27 @@ pub extern "C" fn kazovuni_submit_list_over(
     if !are_pages(bytes) {
         return NOT_PAGES;
     }
+    submit_list(alloc, bytes, descriptors, staging, answers)
+}
+
+/// Carries out a list behind the test of its pages, and answers the call's code.
+pub fn submit_list(
+    alloc: Global,
+    bytes: &mut [u8],
+    descriptors: &[[u8; 64]],
+    staging: u32,
+    answers: &mut [[u8; 32]],
+) -> u8
+    requires pages { IsWholePages bytes.old }
+    ensures codes { (result ≡ 0) ⊎ (result ≡ 2) ⊎ (result ≡ 3) }
+    ensures not_as_many { (result ≢ 3) ↔ (length answers.old ≡ length descriptors.now) }
+    ensures no_memory { result ≡ 2 → TakesSome descriptors.now staging }
+    ensures content { result ≡ 0 → bytes.new
+        ≡ (memory_after (all_present bytes.old) (map decoded descriptors.now) staging).bytes }
+    ensures records { result ≡ 0 → answers.new
+        ≡ map bytes_of_record (records_of (all_present bytes.old) (map decoded descriptors.now) staging) }
+    ensures unchanged { result ≢ 0 → (bytes.new ≡ bytes.old) × (answers.new ≡ answers.old) }
+{
     if descriptors.len() != answers.len() {
         return NOT_AS_MANY;
     }
@@ -84,7 +107,7 @@ fn submit_all(
     staging: u32,
     answers: &mut [[u8; 32]],
 )
-    requires pages { IsPages bytes.old }
+    requires pages { IsWholePages bytes.old }
     requires staging { IsEnough (room_of arena.old) descriptors.now staging }
     requires as_many { length answers.old ≡ length descriptors.now }
     ensures content { bytes.new ≡ (memory_after (all_present bytes.old) (map decoded descriptors.now) staging).bytes }
@@ -133,7 +156,7 @@ fn greatest_need(descriptors: &[[u8; 64]], staging: u32) -> u32
 /// Carries out a job of a list, whose arena has room for it. The room is asked for again: a descriptor is read twice,
 /// and another thread of C's may have written it in between, against the rule. Such a job is refused.
 fn submit_one(bytes: &mut [u8], arena: &mut Option<Arena>, job: &Job, staging: u32) -> Record
-    requires pages { IsPages bytes.old }
+    requires pages { IsWholePages bytes.old }
     requires staging { TakesStaging job.now staging → need job.now ≤ room_of arena.old }
     ensures content { bytes.new ≡ (step (all_present bytes.old) job.now staging).0.bytes }
     ensures answer { result ≡ (step (all_present bytes.old) job.now staging).1 }
@@ -158,21 +181,21 @@ fn lacks_room(arena: &Option<Arena>, job: &Job, staging: u32) -> bool
 
 /// Carries out a job, in an arena or, where it takes no staging, without one.
 fn submit_in(bytes: &mut [u8], arena: &mut Option<Arena>, job: &Job, staging: u32) -> Record
-    requires pages { IsPages bytes.old }
+    requires pages { IsWholePages bytes.old }
     requires staging { TakesStaging job.now staging → need job.now ≤ room_of arena.old }
     ensures content { bytes.new ≡ (step (all_present bytes.old) job.now staging).0.bytes }
     ensures answer { result ≡ (step (all_present bytes.old) job.now staging).1 }
     ensures arena { arena.new ≡ arena.old }
 {
     match arena {
-        Some(arena) => submit_over(bytes, arena, job, staging),
-        None => submit_straight_over(bytes, job, staging),
+        Some(arena) => submit_over_whole(bytes, arena, job, staging),
+        None => submit_straight_over_whole(bytes, job, staging),
     }
 }
 
 /// Carries out a job in an arena of its own; `None` where there is no memory for it.
-fn submit_alone(alloc: Global, bytes: &mut [u8], job: &Job, staging: u32) -> Option<Record>
-    requires pages { IsPages bytes.old }
+pub fn submit_alone(alloc: Global, bytes: &mut [u8], job: &Job, staging: u32) -> Option<Record>
+    requires pages { IsWholePages bytes.old }
     ensures content { IsSome result → bytes.new ≡ (step (all_present bytes.old) job.now staging).0.bytes }
     ensures answer { IfSome result (λ answer. answer ≡ (step (all_present bytes.old) job.now staging).1) }
     ensures no_memory { result ≡ None → TakesStaging job.now staging × (bytes.new ≡ bytes.old) }

@@ -10,9 +10,9 @@ use crate::values::{CJob, CRecord};
 /// The version of the header: the major number in the upper 16 bits, the minor one in the lower.
 #[unsafe(no_mangle)]
 pub extern "C" fn kazovuni_version() -> u32
-    ensures { result ≡ 65537 }
+    ensures { result ≡ 65538 }
 {
-    0x0001_0001
+    0x0001_0002
 }
 
 /// 0 where the job of a descriptor is accepted, else the code of the first rule that it breaks.

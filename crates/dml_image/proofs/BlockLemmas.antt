@@ -101,7 +101,7 @@ module _ (target : ℕ) (entries : List ℕ) where
     pub block_fits : (i : ℕ) → IsMemory memory → i < length entries / 10 → target + 8 * block_number entries i + 8 ≤ length memory.bytes
     block_fits i good below = has_all_within memory (target + 8 * block_number entries i) 8 good.whole (block_present i below) (omega arith)
 
-    pub address_fits : (i : ℕ) → IsMemory memory → i < length entries / 10 → target + 8 * block_number entries i + 8 ≤ 16777216
+    pub address_fits : (i : ℕ) → IsMemory memory → i < length entries / 10 → target + 8 * block_number entries i + 8 ≤ 17592186044416
     address_fits i good below = omega (arith, block_fits i good below, good.whole.each_page, good.most_pages)
 
 -- what an image keeps, after the puts of entries

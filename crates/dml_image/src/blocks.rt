@@ -14,7 +14,7 @@ const ENTRY: usize = dml_types::ENTRY as usize;
 /// Puts blocks from entry `first` on into the bytes that begin at the address `begin`, and stops before the first one
 /// that is not all among them. Returns how many entries there are up to there.
 pub fn put_inside(bytes: &mut [u8], begin: u64, target: u64, entries: &[u8], first: usize) -> usize
-    requires target { target ≤ 16777216 }
+    requires target { target ≤ 17592186044416 }
     requires first { first ≤ length entries.now / 10 }
     ensures within { (first ≤ result) × (result ≤ length entries.now / 10) }
     ensures inside { AreInside begin (length bytes.old)

@@ -17,5 +17,5 @@ pub use errors::{Full, PortalError, SettleFault};
 pub use logs::{Log, LogEntry};
 pub use opening::Portal;
 pub use seats::{Done, Seat};
-pub use servers::Server;
-pub use settling::Settled;
+pub use servers::{Server, ServerOver};
+pub use settling::{Settled, SettledOver};

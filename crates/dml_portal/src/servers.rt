@@ -9,17 +9,18 @@ use crate::fetching::{MOST_OF_A_CLIENT, fetch_round};
 use crate::lanes::Lane;
 use crate::logs::LogEntry;
 use dml_core::law_of_rounds;
-use dml_engine::Engine;
+use dml_engine::EngineOver;
 use dml_pool::{Free, Gate};
 use dml_types::{Job, Record, law_of_folds};
 use std::alloc::{AllocError, Global};
 use std::sync::Wait;
 use std::thread::Threads;
 
-/// An engine that carries out what the clients of a portal submit, and the log of that.
+/// An engine that carries out what the clients of a portal submit, and the log of that. Its image may be memory that a
+/// caller lends for the server's life.
 #[derive(Drop)]
-pub struct Server<G = Free> {
-    pub(crate) engine: Engine<G>,
+pub struct ServerOver<'a, G = Free> {
+    pub(crate) engine: EngineOver<'a, G>,
     pub(crate) lanes: Vec<Lane>,
     pub(crate) log: Vec<LogEntry>,
     room: Room,
@@ -28,6 +29,9 @@ pub struct Server<G = Free> {
     ghost popped: { ArePopped lanes.items log.items },
     ghost pushed: { ArePushed lanes.items log.items },
 }
+
+/// A server over an image that borrows nothing that ends.
+pub type Server<G = Free> = ServerOver<'static, G>;
 
 /// Lists for the jobs and the records of a round, which keep their room from round to round.
 #[derive(Drop)]
@@ -53,12 +57,16 @@ impl Room {
     }
 }
 
-impl<G> Server<G> {
+impl<'a, G> ServerOver<'a, G> {
     ghost use Rattle.dml_types.specs.Memory.{IsWhole};
     ghost use Rattle.dml_portal.specs.Lanes.{IsNewLane, EachLane};
 
     /// A server over lanes that were not used yet.
-    pub(crate) fn new(alloc: Global, engine: Engine<G>, lanes: Vec<Lane>) -> Server<G>
+    pub(crate) fn new(
+        alloc: Global,
+        engine: EngineOver<'a, G>,
+        lanes: Vec<Lane>,
+    ) -> ServerOver<'a, G>
         requires few { length lanes.items ≤ 8 }
         requires unused { EachLane (λ _ lane. IsNewLane lane) lanes.items }
         ensures engine { result.engine ≡ engine.entry }
@@ -66,7 +74,7 @@ impl<G> Server<G> {
         ensures log { result.log.items ≡ [] }
     {
         let _ = engine.settings();
-        Server {
+        ServerOver {
             engine,
             lanes,
             log: Vec::new(alloc),
@@ -85,7 +93,7 @@ impl<G> Server<G> {
     }
 }
 
-impl<G: Gate + Sync> Server<G> {
+impl<G: Gate + Sync> ServerOver<'_, G> {
     ghost use Rattle.std.specs.Prelude.{IfErr, OnErr, map, take};
     ghost use Rattle.dml_types.specs.Step.{memory_after, records_of};
     ghost use Rattle.dml_portal.specs.Log.{added, answers_in, jobs_in, sent_for};

@@ -5,7 +5,7 @@ use crate::errors::{PortalError, SettleFault};
 use crate::logs::Log;
 use crate::looking::{are_drained, have_finished};
 use crate::seats::Done;
-use crate::servers::Server;
+use crate::servers::ServerOver;
 use dml_core::law_of_rounds;
 use dml_image::Image;
 use dml_pool::Gate;
@@ -16,14 +16,17 @@ use std::thread::Threads;
 
 /// What a portal leaves: the engine's image, and the log of all that was carried out.
 #[derive(Drop)]
-pub struct Settled {
+pub struct SettledOver<'a> {
     /// The image behind all jobs of the log.
-    pub image: Image<'static>,
+    pub image: Image<'a>,
     /// Every job that was carried out, with its client and its record.
     pub log: Log,
 }
 
-impl<G> Server<G> {
+/// What a portal over an image that borrows nothing that ends leaves.
+pub type Settled = SettledOver<'static>;
+
+impl<G> ServerOver<'_, G> {
     ghost use Rattle.std.specs.Prelude.{IsFalse, IsTrue};
     ghost use Rattle.dml_portal.specs.Lanes.{AreSameLanes};
     ghost use Rattle.dml_portal.specs.Settled.{AreSeatsOf, AreUnusedSeats, EachDone, HasJobsLeft, IsSettled};
@@ -43,23 +46,23 @@ impl<G> Server<G> {
     }
 }
 
-impl<G: Drop> Server<G> {
+impl<'a, G: Drop> ServerOver<'a, G> {
     ghost use Rattle.dml_portal.specs.Servers.{image_of, log_of};
 
     /// What it leaves.
-    fn into_settled(self) -> Settled
+    fn into_settled(self) -> SettledOver<'a>
         ensures image { result.image ≡ image_of self.entry }
         ensures log { result.log ≡ log_of self.entry }
     {
-        let Server { engine, log, .. } = self;
-        Settled {
+        let ServerOver { engine, log, .. } = self;
+        SettledOver {
             image: engine.into_image(),
             log: Log { list: log },
         }
     }
 }
 
-impl<G: Gate + Sync> Server<G> {
+impl<G: Gate + Sync> ServerOver<'_, G> {
     ghost use Rattle.std.specs.Prelude.{OnErr, OnOk, length, take};
     ghost use Rattle.dml_types.specs.Step.{memory_after, records_of};
     ghost use Rattle.dml_portal.specs.Log.{added, answers_in, jobs_in};
@@ -98,7 +101,7 @@ impl<G: Gate + Sync> Server<G> {
     }
 }
 
-impl<G: Gate + Sync + Drop> Server<G> {
+impl<'a, G: Gate + Sync + Drop> ServerOver<'a, G> {
     ghost use Rattle.std.specs.Prelude.{◌↔◌, false, true, IfErr, IfOk, OnOk, length, take};
     ghost use Rattle.dml_types.specs.Step.{memory_after, records_of};
     ghost use Rattle.dml_portal.specs.Log.{added, answers_in, jobs_in};
@@ -120,7 +123,7 @@ impl<G: Gate + Sync + Drop> Server<G> {
         rt: &R,
         alloc: Global,
         dones: Vec<Done>,
-    ) -> Result<Settled, (Server<G>, Vec<Done>, SettleFault)>
+    ) -> Result<SettledOver<'a>, (ServerOver<'a, G>, Vec<Done>, SettleFault)>
         requires seats { AreSeatsOf (lanes_of self) dones.items }
         ensures settled { IfOk result (λ settled. EachDone (IsSettled settled.log) dones.items) }
         ensures strangers { IfErr result (λ kept. (kept.2 ≡ SettleFault.Strangers) ↔ (have_finished (clients_of self.entry) dones.items ≡ false)) }

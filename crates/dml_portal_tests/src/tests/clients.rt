@@ -5,7 +5,7 @@ ghost use Rattle.dml_portal.specs.Seats.{IsSameSeat};
 use super::portals::Two;
 use super::{done, engine};
 use dml_pool::Free;
-use dml_portal::{LogEntry, Seat, Server, Settled};
+use dml_portal::{LogEntry, Seat, Server, ServerOver, Settled};
 use dml_types::{Job, Record};
 use std::alloc::Global;
 use std::process::Abort;
@@ -133,11 +133,11 @@ fn polled(rt: &impl Abort, alloc: Global, seat: Seat, list: &[(Job, Record)]) ->
 }
 
 /// Serves rounds for so many turns.
-fn served<R: Abort + Threads + Wait + Sync>(
+fn served<'a, R: Abort + Threads + Wait + Sync>(
     rt: &R,
     alloc: Global,
-    server: Server<Free>,
-) -> Server<Free>
+    server: ServerOver<'a, Free>,
+) -> ServerOver<'a, Free>
     ensures { AreSameLanes server.entry.lanes.items result.lanes.items }
 {
     let mut server = server;
@@ -189,12 +189,12 @@ fn expect_all_polled<R: Abort + Threads + Wait + Sync>(
 }
 
 /// The second client polls on a thread of its own, while the server serves rounds on this one.
-fn polled_and_served<R: Abort + Threads + Wait + Sync>(
+fn polled_and_served<'a, R: Abort + Threads + Wait + Sync>(
     rt: &R,
     alloc: Global,
-    server: Server<Free>,
+    server: ServerOver<'a, Free>,
     second: Seat,
-) -> (Server<Free>, Seat, Vec<Record>)
+) -> (ServerOver<'a, Free>, Seat, Vec<Record>)
     ensures lanes { AreSameLanes server.entry.lanes.items result.0.lanes.items }
     ensures seat { IsSameSeat second result.1 }
 {
@@ -203,7 +203,7 @@ fn polled_and_served<R: Abort + Threads + Wait + Sync>(
         || -> (Seat, Vec<Record>)
             ensures { IsSameSeat second result.0 }
         { polled(rt, alloc, second, &second_list()) },
-        || -> Server<Free>
+        || -> ServerOver<'_, Free>
             ensures { AreSameLanes server.entry.lanes.items result.lanes.items }
         { served(rt, alloc, server) },
     );

@@ -1,20 +1,24 @@
 //! Jobs over the caller's own pages, and what they share with those over pages in one piece of any size.
-ghost use Rattle.std.specs.Prelude.{◌≡◌, ◌≢◌, ◌↔◌, ◌<◌, ◌≤◌, ◌⊎◌, IfOk, IfSome, IsErr, IsSome, IsTrue, None, length, map};
+ghost use Rattle.std.specs.Prelude.{◌≡◌, ◌≢◌, ◌↔◌, ◌+◌, ◌<◌, ◌≤◌, ◌⊎◌, IfOk, IfSome, IsErr, IsSome, IsTrue, None, Some};
+ghost use Rattle.std.specs.Prelude.{length, map};
+ghost use Rattle.dml_types.specs.declared.operations.Op.TheVariants.{Move};
+ghost use Rattle.dml_types.specs.Job.{op_of};
 ghost use Rattle.dml_types.specs.Refusal.{need};
 ghost use Rattle.dml_types.specs.Step.{memory_after, records_of, step};
 ghost use Rattle.dml_desc.specs.Descriptor.{bytes_of_record, decoded};
 ghost use Rattle.dml_c.specs.Bases as bases;
-ghost use Rattle.dml_c.specs.Needs.{IsEnough, IsGreatestNeed, IsOwnNeed, TakesSome, room_of};
+ghost use Rattle.dml_c.specs.Needs.{IsEnough, IsGreatestNeed, TakesSome, room_of};
 ghost use Rattle.dml_effect.specs.Pages.{IsPages, IsWholePages, all_present};
 ghost use Rattle.dml_effect.specs.Straight.{TakesStaging};
 
 use crate::bases::{answered_at, counted};
 use crate::codes::{DONE, NO_MEMORY, NOT_AS_MANY, NOT_PAGES};
 use dml_arena::{Arena, ArenaError};
+use dml_direct::move_within;
 use dml_effect::{
     are_pages, by_fields, submit_over_whole, submit_straight_over_whole, takes_staging,
 };
-use dml_types::{Job, Record, Status};
+use dml_types::{Job, Op, Record, Status};
 use std::alloc::Global;
 
 /// Carries out the job of a descriptor over the caller's bytes, whose addresses begin at 0 and whose pages are all
@@ -153,9 +157,26 @@ fn greatest_need(descriptors: &[[u8; 64]], staging: u32) -> u32
     most
 }
 
-/// Carries out a job of a list, whose arena has room for it. The room is asked for again: a descriptor is read twice,
-/// and another thread of C's may have written it in between, against the rule. Such a job is refused.
+/// Carries out a job of a list, whose arena has room for it.
+#[inline(always)]
 fn submit_one(bytes: &mut [u8], arena: &mut Option<Arena>, job: &Job, staging: u32) -> Record
+    requires pages { IsWholePages bytes.old }
+    requires staging { TakesStaging job.now staging → need job.now ≤ room_of arena.old }
+    ensures content { bytes.new ≡ (step (all_present bytes.old) job.now staging).0.bytes }
+    ensures answer { result ≡ (step (all_present bytes.old) job.now staging).1 }
+    ensures arena { arena.new ≡ arena.old }
+{
+    if let Some(Op::Move) = job.op() {
+        return submit_move(bytes, job, staging);
+    }
+    let other = *job;
+    by_fields(submit_one_other(bytes, arena, &other, staging))
+}
+
+/// The same for a job of any operation. The room is asked for again: a descriptor is read twice, and another thread of
+/// C's may have written it in between, against the rule. Such a job is refused.
+#[inline(never)]
+fn submit_one_other(bytes: &mut [u8], arena: &mut Option<Arena>, job: &Job, staging: u32) -> Record
     requires pages { IsWholePages bytes.old }
     requires staging { TakesStaging job.now staging → need job.now ≤ room_of arena.old }
     ensures content { bytes.new ≡ (step (all_present bytes.old) job.now staging).0.bytes }
@@ -194,30 +215,78 @@ fn submit_in(bytes: &mut [u8], arena: &mut Option<Arena>, job: &Job, staging: u3
 }
 
 /// Carries out a job in an arena of its own; `None` where there is no memory for it.
+#[inline(always)]
 pub fn submit_alone(alloc: Global, bytes: &mut [u8], job: &Job, staging: u32) -> Option<Record>
     requires pages { IsWholePages bytes.old }
     ensures content { IsSome result → bytes.new ≡ (step (all_present bytes.old) job.now staging).0.bytes }
     ensures answer { IfSome result (λ answer. answer ≡ (step (all_present bytes.old) job.now staging).1) }
     ensures no_memory { result ≡ None → TakesStaging job.now staging × (bytes.new ≡ bytes.old) }
 {
-    let Ok(mut arena) = job_arena(alloc, job, staging) else {
-        return None;
-    };
-    Some(by_fields(submit_in(bytes, &mut arena, job, staging)))
+    if let Some(Op::Move) = job.op() {
+        return Some(submit_move(bytes, job, staging));
+    }
+    let other = *job;
+    submit_other(alloc, bytes, &other, staging)
 }
 
-/// The arena of a single job, of as many bytes as it needs; none where it takes no staging.
-///
-/// # Errors
-/// There is no memory.
-fn job_arena(alloc: Global, job: &Job, staging: u32) -> Result<Option<Arena>, ArenaError>
-    ensures size { IfOk result (λ arena. IsOwnNeed (room_of arena) job.now staging) }
-    ensures no_memory { IsErr result → TakesStaging job.now staging }
+/// The same for a job of any operation. It stands apart and is given a copy of the job, so that a move has none of its
+/// frame, and is kept in registers.
+#[inline(never)]
+fn submit_other(alloc: Global, bytes: &mut [u8], job: &Job, staging: u32) -> Option<Record>
+    requires pages { IsWholePages bytes.old }
+    ensures content { IsSome result → bytes.new ≡ (step (all_present bytes.old) job.now staging).0.bytes }
+    ensures answer { IfSome result (λ answer. answer ≡ (step (all_present bytes.old) job.now staging).1) }
+    ensures no_memory { result ≡ None → TakesStaging job.now staging × (bytes.new ≡ bytes.old) }
 {
     if !takes_staging(job, staging) {
-        return Ok(None);
+        return Some(by_fields(submit_straight_over_whole(bytes, job, staging)));
     }
-    Ok(Some(Arena::new(alloc, dml_desc::need(job) as u32)?))
+    let Ok(mut arena) = Arena::new(alloc, dml_desc::need(job) as u32) else {
+        return None;
+    };
+    Some(by_fields(submit_over_whole(bytes, &mut arena, job, staging)))
+}
+
+/// Carries out a move, or answers its refusal.
+#[inline(always)]
+fn submit_move(bytes: &mut [u8], job: &Job, staging: u32) -> Record
+    requires pages { IsWholePages bytes.old }
+    requires operation { op_of job.now ≡ Some Move }
+    ensures content { bytes.new ≡ (step (all_present bytes.old) job.now staging).0.bytes }
+    ensures answer { result ≡ (step (all_present bytes.old) job.now staging).1 }
+{
+    match dml_desc::check(job, staging) {
+        Ok(checked) => {
+            if lies_within(bytes, job.source, job.size)
+                && lies_within(bytes, job.target, job.size)
+            {
+                return move_within(&checked, 0, bytes);
+            }
+            let past = *job;
+            submit_past(bytes, &past, staging)
+        }
+        Err(status) => Record::refused(status),
+    }
+}
+
+/// Whether a range of so many bytes from an address on lies within a slice.
+#[inline(always)]
+fn lies_within(bytes: &[u8], address: u64, size: u32) -> bool
+    ensures { IsTrue result ↔ (address + size ≤ length bytes.now) }
+{
+    let len = bytes.len() as u64;
+    address <= len && u64::from(size) <= len - address
+}
+
+/// Carries out a move of which a range may lie past the pages' end.
+#[inline(never)]
+fn submit_past(bytes: &mut [u8], job: &Job, staging: u32) -> Record
+    requires pages { IsWholePages bytes.old }
+    requires operation { op_of job.now ≡ Some Move }
+    ensures content { bytes.new ≡ (step (all_present bytes.old) job.now staging).0.bytes }
+    ensures answer { result ≡ (step (all_present bytes.old) job.now staging).1 }
+{
+    submit_straight_over_whole(bytes, job, staging)
 }
 
 /// As `kazovuni_submit_over`, where the descriptor's addresses are the caller's own, and the pages begin at `base`.

@@ -12,6 +12,11 @@ use Rattle.dml_effect.specs.Straight.{TakesStaging}
 abbrev pub room_of : Option Block → ℕ
 room_of arena = option_map_or (λ block. block.size) arena 0
 
+-- just what a job needs where it takes staging, and 0 where it takes none
+pub record IsOwnNeed (bytes : ℕ) (job : Job) (staging : ℕ) : Type 0 where
+  pub exact : TakesStaging job staging → bytes ≡ need job
+  pub only : 0 < bytes → TakesStaging job staging
+
 -- some job takes staging at this limit
 abbrev pub TakesSome : List (List ℕ) → ℕ → Type 0
 TakesSome descriptors staging = Any (λ d. TakesStaging (decoded d) staging) descriptors

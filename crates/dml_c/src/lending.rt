@@ -7,7 +7,7 @@ ghost use Rattle.dml_types.specs.Refusal.{need};
 ghost use Rattle.dml_types.specs.Step.{memory_after, records_of, step};
 ghost use Rattle.dml_desc.specs.Descriptor.{bytes_of_record, decoded};
 ghost use Rattle.dml_c.specs.Bases as bases;
-ghost use Rattle.dml_c.specs.Needs.{IsEnough, IsGreatestNeed, TakesSome, room_of};
+ghost use Rattle.dml_c.specs.Needs.{IsEnough, IsGreatestNeed, IsOwnNeed, TakesSome, room_of};
 ghost use Rattle.dml_effect.specs.Pages.{IsPages, IsWholePages, all_present};
 ghost use Rattle.dml_effect.specs.Straight.{TakesStaging};
 
@@ -42,7 +42,7 @@ pub extern "C" fn kazovuni_submit_over(
     if !are_pages(bytes) {
         return NOT_PAGES;
     }
-    let Some(record) = submit_alone(alloc, bytes, &dml_desc::decode(descriptor), staging) else {
+    let Some(record) = submit_short(alloc, bytes, &dml_desc::decode(descriptor), staging) else {
         return NO_MEMORY;
     };
     *answer = dml_desc::record_bytes(&record);
@@ -215,8 +215,22 @@ fn submit_in(bytes: &mut [u8], arena: &mut Option<Arena>, job: &Job, staging: u3
 }
 
 /// Carries out a job in an arena of its own; `None` where there is no memory for it.
+fn submit_alone(alloc: Global, bytes: &mut [u8], job: &Job, staging: u32) -> Option<Record>
+    requires pages { IsWholePages bytes.old }
+    ensures content { IsSome result → bytes.new ≡ (step (all_present bytes.old) job.now staging).0.bytes }
+    ensures answer { IfSome result (λ answer. answer ≡ (step (all_present bytes.old) job.now staging).1) }
+    ensures no_memory { result ≡ None → TakesStaging job.now staging × (bytes.new ≡ bytes.old) }
+{
+    let Ok(mut arena) = job_arena(alloc, job, staging) else {
+        return None;
+    };
+    Some(by_fields(submit_in(bytes, &mut arena, job, staging)))
+}
+
+/// The same, where a move within the pages goes a shorter way. Any other job is given as a copy: so a move has no frame
+/// but its own, and is kept in registers.
 #[inline(always)]
-pub fn submit_alone(alloc: Global, bytes: &mut [u8], job: &Job, staging: u32) -> Option<Record>
+pub fn submit_short(alloc: Global, bytes: &mut [u8], job: &Job, staging: u32) -> Option<Record>
     requires pages { IsWholePages bytes.old }
     ensures content { IsSome result → bytes.new ≡ (step (all_present bytes.old) job.now staging).0.bytes }
     ensures answer { IfSome result (λ answer. answer ≡ (step (all_present bytes.old) job.now staging).1) }
@@ -226,25 +240,21 @@ pub fn submit_alone(alloc: Global, bytes: &mut [u8], job: &Job, staging: u32) ->
         return Some(submit_move(bytes, job, staging));
     }
     let other = *job;
-    submit_other(alloc, bytes, &other, staging)
+    submit_alone(alloc, bytes, &other, staging)
 }
 
-/// The same for a job of any operation. It stands apart and is given a copy of the job, so that a move has none of its
-/// frame, and is kept in registers.
-#[inline(never)]
-fn submit_other(alloc: Global, bytes: &mut [u8], job: &Job, staging: u32) -> Option<Record>
-    requires pages { IsWholePages bytes.old }
-    ensures content { IsSome result → bytes.new ≡ (step (all_present bytes.old) job.now staging).0.bytes }
-    ensures answer { IfSome result (λ answer. answer ≡ (step (all_present bytes.old) job.now staging).1) }
-    ensures no_memory { result ≡ None → TakesStaging job.now staging × (bytes.new ≡ bytes.old) }
+/// The arena of a single job, of as many bytes as it needs; none where it takes no staging.
+///
+/// # Errors
+/// There is no memory.
+fn job_arena(alloc: Global, job: &Job, staging: u32) -> Result<Option<Arena>, ArenaError>
+    ensures size { IfOk result (λ arena. IsOwnNeed (room_of arena) job.now staging) }
+    ensures no_memory { IsErr result → TakesStaging job.now staging }
 {
     if !takes_staging(job, staging) {
-        return Some(by_fields(submit_straight_over_whole(bytes, job, staging)));
+        return Ok(None);
     }
-    let Ok(mut arena) = Arena::new(alloc, dml_desc::need(job) as u32) else {
-        return None;
-    };
-    Some(by_fields(submit_over_whole(bytes, &mut arena, job, staging)))
+    Ok(Some(Arena::new(alloc, dml_desc::need(job) as u32)?))
 }
 
 /// Carries out a move, or answers its refusal.

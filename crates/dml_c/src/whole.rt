@@ -7,7 +7,7 @@ ghost use Rattle.dml_effect.specs.Pages.{IsWholePages, all_present};
 ghost use Rattle.dml_effect.specs.Straight.{TakesStaging};
 
 use crate::codes::{DONE, NO_MEMORY, NOT_PAGES};
-use crate::lending::{submit_alone, submit_list};
+use crate::lending::{submit_list, submit_short};
 use dml_effect::are_whole_pages;
 use std::alloc::Global;
 
@@ -32,7 +32,7 @@ pub extern "C" fn kazovuni_submit_whole(
     if !are_whole_pages(bytes) {
         return NOT_PAGES;
     }
-    let Some(record) = submit_alone(alloc, bytes, &dml_desc::decode(descriptor), staging) else {
+    let Some(record) = submit_short(alloc, bytes, &dml_desc::decode(descriptor), staging) else {
         return NO_MEMORY;
     };
     *answer = dml_desc::record_bytes(&record);

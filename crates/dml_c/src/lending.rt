@@ -272,8 +272,8 @@ fn submit_move(bytes: &mut [u8], job: &Job, staging: u32) -> Record
             {
                 return move_within(&checked, 0, bytes);
             }
-            let past = *job;
-            submit_past(bytes, &past, staging)
+            let past = *job; // a range may end behind the pages
+            by_fields(submit_in(bytes, &mut None, &past, staging))
         }
         Err(status) => Record::refused(status),
     }
@@ -286,17 +286,6 @@ fn lies_within(bytes: &[u8], address: u64, size: u32) -> bool
 {
     let len = bytes.len() as u64;
     address <= len && u64::from(size) <= len - address
-}
-
-/// Carries out a move of which a range may lie past the pages' end.
-#[inline(never)]
-fn submit_past(bytes: &mut [u8], job: &Job, staging: u32) -> Record
-    requires pages { IsWholePages bytes.old }
-    requires operation { op_of job.now ≡ Some Move }
-    ensures content { bytes.new ≡ (step (all_present bytes.old) job.now staging).0.bytes }
-    ensures answer { result ≡ (step (all_present bytes.old) job.now staging).1 }
-{
-    submit_straight_over_whole(bytes, job, staging)
 }
 
 /// As `kazovuni_submit_over`, where the descriptor's addresses are the caller's own, and the pages begin at `base`.

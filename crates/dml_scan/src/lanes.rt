@@ -1,7 +1,7 @@
 //! How far bytes are alike from the front, those of two slices or those of a slice and a repeated pattern.
 //!
-//! They are compared in steps of four vectors with one test, those of two slices in blocks of two steps with one test,
-//! from the second step on; then a vector at a time, and at the end byte by byte.
+//! They are compared in steps of four vectors with one test, those of two slices in blocks of four steps with one test
+//! before; then a vector at a time, and at the end byte by byte.
 
 ghost use Rattle.std.specs.Prelude.{◌≡◌, ℕ, ◌+◌, ◌*◌, ◌<◌, ◌≤◌, ◌↔◌, IsTrue, length, slice_index, slice_range};
 ghost use Rattle.dml_types.specs.Bytewise.{pattern_byte};
@@ -17,8 +17,8 @@ const LANES: usize = 32;
 /// The bytes of a step of four vectors.
 const STEP: usize = 128;
 
-/// The bytes of a block of two steps.
-const BLOCK: usize = 256;
+/// The bytes of a block of four steps.
+const BLOCK: usize = 512;
 
 /// The first place at which two slices of one length differ; their length where they are equal.
 pub fn first_difference(a: &[u8], b: &[u8]) -> usize
@@ -26,7 +26,30 @@ pub fn first_difference(a: &[u8], b: &[u8]) -> usize
     ensures value { result ≡ lanes.first_difference a.now b.now }
     ensures within { result ≤ length a.now }
 {
-    let mut at = equal_steps(a, b);
+    let mut at = 0;
+    while a.len() - at >= BLOCK && is_equal_block(a, b, at) {
+        at += BLOCK;
+    }
+    if at == a.len() {
+        return at;
+    }
+    first_difference_from(a, b, at)
+}
+
+/// The same, where the bytes before a place are equal. It stands apart, so that a block that differs is read once more,
+/// and the loop over blocks keeps nothing of one in memory.
+#[inline(never)]
+fn first_difference_from(a: &[u8], b: &[u8], from: usize) -> usize
+    requires lengths { length a.now ≡ length b.now }
+    requires place { from ≤ length a.now }
+    requires alike { (i : ℕ) → i < from → slice_index a.now i ≡ slice_index b.now i }
+    ensures value { result ≡ lanes.first_difference a.now b.now }
+    ensures within { result ≤ length a.now }
+{
+    let mut at = from;
+    while a.len() - at >= STEP && is_equal_step(a, b, at) {
+        at += STEP;
+    }
     while a.len() - at >= LANES {
         let same = first_lane(load(a, at), load(b, at));
         at += same;
@@ -40,34 +63,24 @@ pub fn first_difference(a: &[u8], b: &[u8]) -> usize
     at
 }
 
-/// Some bytes, in whole steps, in which two slices of one length are equal from the front.
-#[inline(always)]
-fn equal_steps(a: &[u8], b: &[u8]) -> usize
-    requires { length a.now ≡ length b.now }
-    ensures alike { (i : ℕ) → i < result → slice_index a.now i ≡ slice_index b.now i }
-    ensures within { result ≤ length a.now }
-{
-    if a.len() < STEP || !is_equal_step(a, b, 0) {
-        return 0;
-    }
-    let mut at = STEP;
-    while a.len() - at >= BLOCK && is_equal_block(a, b, at) {
-        at += BLOCK;
-    }
-    if a.len() - at >= STEP && is_equal_step(a, b, at) {
-        at += STEP;
-    }
-    at
-}
-
 /// Whether a block of two slices, from a place on, is equal, by one test.
 #[inline(always)]
 fn is_equal_block(a: &[u8], b: &[u8], at: usize) -> bool
     requires first { at + BLOCK ≤ length a.now }
     requires second { at + BLOCK ≤ length b.now }
-    ensures { IsTrue result ↔ AreAlike a.now b.now at 256 }
+    ensures { IsTrue result ↔ AreAlike a.now b.now at 512 }
 {
-    is_full(both(alike_step(a, b, at), alike_step(a, b, at + STEP)))
+    is_full(both(alike_steps(a, b, at), alike_steps(a, b, at + 2 * STEP)))
+}
+
+/// Full lanes where all vectors of two steps of two slices, from a place on, are alike.
+#[inline(always)]
+fn alike_steps(a: &[u8], b: &[u8], at: usize) -> u8x32
+    requires first { at + 2 * STEP ≤ length a.now }
+    requires second { at + 2 * STEP ≤ length b.now }
+    ensures { AreFull result ↔ AreAlike a.now b.now at 256 }
+{
+    both(alike_step(a, b, at), alike_step(a, b, at + STEP))
 }
 
 /// Whether a step of two slices, from a place on, is equal.

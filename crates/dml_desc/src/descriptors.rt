@@ -21,7 +21,6 @@ fn read_u64(bytes: &[u8; 64], place: usize) -> u64
 }
 
 /// The job of the fields that stand in every descriptor.
-#[inline(always)]
 fn common_fields(bytes: &[u8; 64]) -> Job
     ensures { result ≡ layout.common_fields bytes.now }
 {
@@ -39,7 +38,6 @@ fn common_fields(bytes: &[u8; 64]) -> Job
 
 /// The job of a descriptor's 64 bytes. Bytes that its operation does not use are read past, so that every
 /// descriptor has a job; `check` judges it.
-#[inline(always)]
 #[tactic(auto, unfolding(crate::specs::Descriptor::decoded))]
 pub fn decode(bytes: &[u8; 64]) -> Job
     ensures { result ≡ layout.decoded bytes.now }

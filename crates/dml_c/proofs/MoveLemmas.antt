@@ -1,5 +1,5 @@
 -- Moves whose two ranges lie within a caller's pages.
-use Rattle.std.proofs.Common.{◌≡◌, ℕ, ◌+◌, ◌/◌, ◌%◌, true, false, List, length, drop, get_or, take, slice_range, sym, None, ◌∙◌, ap, arith, rules}
+use Rattle.std.proofs.Common.{◌≡◌, ℕ, ◌+◌, ◌/◌, ◌%◌, true, false, List, length, slice_range, sym, None, ◌∙◌, ap, arith, rules}
 use Rattle.std.proofs.lemmas.List.{get_or-replicate, places, same_lists}
 use Rattle.dml_types.specs.declared.jobs.Job.{Job}
 use Rattle.dml_types.specs.declared.records.Record.{Record}

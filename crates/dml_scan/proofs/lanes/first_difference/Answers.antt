@@ -1,4 +1,4 @@
-use Rattle.std.proofs.Common.{◌≤◌, arith}
+use Rattle.std.proofs.Common.{arith}
 use Rattle.dml_scan.proofs.LaneLemmas.{alike_more, slices_alike}
 use Rattle.dml_scan.proofs.lanes.first_difference.Goals as goal
 

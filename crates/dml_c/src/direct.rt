@@ -34,7 +34,7 @@ pub fn law_of_staging()
 {}
 
 /// The job of a descriptor, where it breaks no rule, and else the status of the first rule that it breaks. It stands
-/// apart, so that the rules are not in the library once for each export.
+/// apart, so that the rules of all operations are not in the library once for each export.
 #[inline(never)]
 fn checked(descriptor: &[u8; 64]) -> Result<Checked, Status>
     ensures same { IfOk result (λ job. job ≡ decoded descriptor.now) }

@@ -23,6 +23,7 @@ pub extern "C" fn kazovuni_check(descriptor: &[u8; 64], staging: u32) -> u8
 {
     let job = dml_desc::decode(descriptor);
     match job.op() {
+        // the same text three times: each has the rules of its operation alone
         Some(Op::Move) => code_of(&job, staging),
         Some(Op::Fill) => code_of(&job, staging),
         Some(Op::Compare) => code_of(&job, staging),

@@ -156,7 +156,7 @@ fn shares(a: Span, b: Span) -> bool
     u128::from(a.start.max(b.start)) < end(a).min(end(b))
 }
 
-/// Whether a range ends above 2^64: its last byte lies behind the last address.
+/// Whether a range ends above 2^64: it has a byte behind the last address.
 #[inline(always)]
 fn is_past(start: u64, len: u32) -> bool
     ensures { result ≡ range.is_past (range.span start len) }

@@ -1,7 +1,7 @@
 //! How far bytes are alike from the front, those of two slices or those of a slice and a repeated pattern.
 //!
-//! They are compared in steps of four vectors with one test, those of two slices in blocks of four steps with one test
-//! before; then a vector at a time, and at the end byte by byte.
+//! Two slices are first compared in blocks of four steps with one test each. What is left, as a slice and a pattern, is
+//! compared in steps of four vectors with one test, then a vector at a time, and at the end byte by byte.
 
 ghost use Rattle.std.specs.Prelude.{◌≡◌, ℕ, ◌+◌, ◌*◌, ◌<◌, ◌≤◌, ◌↔◌, IsTrue, length, slice_index, slice_range};
 ghost use Rattle.dml_types.specs.Bytewise.{pattern_byte};
@@ -36,8 +36,8 @@ pub fn first_difference(a: &[u8], b: &[u8]) -> usize
     first_difference_from(a, b, at)
 }
 
-/// The same, where the bytes before a place are equal. It stands apart, so that a block that differs is read once more,
-/// and the loop over blocks keeps nothing of one in memory.
+/// The same, where the bytes before a place are equal. A block that differs is read once more here. It stands apart, so
+/// that the loop over blocks keeps nothing of one in memory.
 #[inline(never)]
 fn first_difference_from(a: &[u8], b: &[u8], from: usize) -> usize
     requires lengths { length a.now ≡ length b.now }

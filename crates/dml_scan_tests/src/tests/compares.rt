@@ -81,7 +81,7 @@ fn compares_from_any_offset(rt: HostRuntime) -> Result<(), Fail> {
     Ok(())
 }
 
-/// A difference in each part of a first step and of the blocks of two steps behind it, and behind these.
+/// A difference in each step of two blocks of four, and behind them.
 #[test]
 fn compares_of_blocks(rt: HostRuntime) -> Result<(), Fail> {
     let mut arena = Arena::new(rt.alloc(), STAGING)?;

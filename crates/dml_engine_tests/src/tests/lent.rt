@@ -4,8 +4,8 @@ ghost use Rattle.dml_image.specs.Kept.{lent_memory};
 
 use super::{USUAL, answer};
 use dml_engine::EngineOver;
-use dml_image::Lent;
-use dml_types::{Job, Status, law_of_homes};
+use dml_image::{Lent, Whole};
+use dml_types::{Job, Status, law_of_homes, law_of_loans};
 use std::alloc::Global;
 use std::process::Abort;
 use std::test::Fail;
@@ -48,6 +48,26 @@ fn lent_image_comes_back(rt: HostRuntime) -> Result<(), Fail> {
     drop(lent);
     for (place, byte) in [(4089, 0), (4090, 1), (4095, 6), (4096, 0)] {
         assert_eq!(rt; content.get(place), Some(&byte));
+    }
+    Ok(())
+}
+
+/// The same of memory in one piece.
+#[test]
+fn memory_in_one_piece_comes_back(rt: HostRuntime) -> Result<(), Fail> {
+    let mut content = [0; 8192];
+    let mut whole = Whole::new(&mut content);
+    assert!(rt; whole.is_memory());
+    let Ok(mut engine) = EngineOver::new(rt.alloc(), whole.take(), USUAL) else {
+        return Err("no memory".into());
+    };
+    law_of_loans();
+    let filled = engine.submit(&rt, rt.alloc(), Job::fill(0x0807_0605_0403_0201, 4090, 12));
+    assert_eq!(rt; filled, answer(Status::Success, 0, 12, 0));
+    whole.put(engine.into_image());
+    drop(whole);
+    for (place, byte) in [(4089, 0), (4090, 1), (4096, 7), (4101, 4), (4102, 0)] {
+        assert_eq!(rt; content[place], byte);
     }
     Ok(())
 }

@@ -113,19 +113,8 @@ impl<'a> Lent<'a> {
     {
         match self.present.get(page) {
             Some(present) => *present,
-            None => self.is_of_piece(page),
+            None => page < self.content.len() / PAGE_SIZE,
         }
-    }
-
-    /// Whether a page without a mark is one of memory in one piece. It stands apart, so that looks at pages with marks,
-    /// and at an image's own, are as short as they are without this kind.
-    #[inline(never)]
-    fn is_of_piece(&self, page: usize) -> bool
-        requires memory { IsMemory (loan_memory self.now) }
-        requires unmarked { length self.now.present.now ≤ page }
-        ensures { result ≡ has_page (loan_memory self.now) page }
-    {
-        page < self.content.len() / PAGE_SIZE
     }
 
     /// The bytes from this address on, `len` of them or as many as there are up to the end of the page.

@@ -396,6 +396,29 @@ ended 1025 1025
 ended 1026 1026
 ended 1027 1027
 
+# ---- a server that drops its log under a limit on all memory
+
+portal_tests=crates/dml_portal_tests/out/dml_portal_tests_tests
+
+# dropped BYTES LEAST MOST: with so many bytes left behind its first round, a server that stays up serves all its rounds,
+# dropping its log at least and at most so often
+dropped() {
+    log_test=tests::staying_growths::log_dropped_under_a_limit
+    before=$(growths "$portal_tests" "tests::staying_growths::set_up_of_${log_test##*:}")
+    REFUSE_ABOVE=$1 REFUSE_FROM=$((before + 1)) REFUSE_LOG=$work/log LD_PRELOAD=$work/refuse.so \
+        "$portal_tests" "$log_test" >"$work/out" 2>&1 </dev/null ||
+        complain "a log dropped under a limit: with $1 bytes: fails: $(cat "$work/out")"
+    times=$(sed -n 's/.*dropped \([0-9]*\) times.*/\1/p' "$work/out")
+    [ "${times:-0}" -ge "$2" ] && [ "${times:-0}" -le "$3" ] ||
+        complain "a log dropped under a limit: with $1 bytes: ${times:-not} times, and not $2 to $3"
+    printf 'refusals: dml_portal, with %s bytes left the log is dropped %s times\n' "$1" "${times:-no}"
+}
+
+dropped 0 400 400
+dropped 100000 1 399
+dropped 1000000 1 99
+dropped 100000000 0 0
+
 # ---- the program
 
 printf 'image 2\npage 0 0102\npoke 4 ff\nnoop\nfill 7 8 16\nmove 0 4 16\ndualcast 0 64 4160 8\nraw %0128d\nshow 0 32\n' 0 >"$work/small.script"

@@ -144,7 +144,10 @@ fn keep_rules(op: Op, job: &Job, staging: u32) -> Result<(), Status>
     refuse_if(rules::has_dualcast_bits(op, job), Status::DualcastBits)?;
     refuse_if(rules::has_overlap(op, job), Status::Overlap)?;
     refuse_if(rules::has_range_past(op, job), Status::RangePast)?;
-    refuse_if(operation_need(op, job) > u64::from(staging), Status::StagingRefused)
+    refuse_if(
+        operation_need(op, job) > u64::from(staging),
+        Status::StagingRefused,
+    )
 }
 
 /// The same for a job of a batch, where the fence is accepted: it breaks no rule and changes no other.

@@ -14,12 +14,13 @@ use std::alloc::Global;
 use std::sync::Wait;
 use std::thread::Threads;
 
-/// What a portal leaves: the engine's image, and the log of all that was carried out.
+/// What a portal leaves: the engine's image, and the log of what was carried out.
 #[derive(Drop)]
 pub struct SettledOver<'a> {
-    /// The image behind all jobs of the log.
+    /// The image, as the rounds, and what was written and brought between them, have left it.
     pub image: Image<'a>,
-    /// Every job that was carried out, with its client and its record.
+    /// Every job that was carried out, with its client and its record; of a server that stays up, those that were not
+    /// taken off its log.
     pub log: Log,
 }
 
@@ -49,8 +50,9 @@ impl<G> ServerOver<'_, G> {
 impl<'a, G: Drop> ServerOver<'a, G> {
     ghost use Rattle.dml_portal.specs.Servers.{image_of, log_of};
 
-    /// What it leaves.
-    fn into_settled(self) -> SettledOver<'a>
+    /// What it leaves: the image, and the log of all that was carried out so far. Nothing is asked of the seats; jobs
+    /// that wait in the rings are given up.
+    pub fn into_settled(self) -> SettledOver<'a>
         ensures image { result.image ≡ image_of self.entry }
         ensures log { result.log ≡ log_of self.entry }
     {
@@ -110,9 +112,9 @@ impl<'a, G: Gate + Sync + Drop> ServerOver<'a, G> {
     ghost use Rattle.dml_portal.specs.Servers.{clients_of, image_of, lanes_of, log_of, settings_of};
     ghost use Rattle.dml_portal.specs.Settled.{AreSeatsOf, AreUnusedSeats, EachDone, IsSettled, have_finished};
 
-    /// Serves rounds until the ring of each client is known to be empty, its seat being handed in, and gives the image and
-    /// the log. Each seat that is handed in has to be one of this portal. Of each, the client's part of the log is then what
-    /// the seat submitted, in that order, and what it polled is a front of that part's records.
+    /// Serves rounds until the ring of each client is known to be empty, its seat being handed in, and gives the image
+    /// and the log. Each seat that is handed in has to be one of this portal. Of each, the client's part of the log is
+    /// then what the seat submitted, in that order, and what it polled is a front of that part's records.
     ///
     /// # Errors
     /// `Strangers` where there is a client whose seat is not among those handed in; nothing is changed then. `NoMemory`

@@ -1,12 +1,18 @@
 //! The worked rows of portals, and their refusals.
 
+mod between;
 mod clients;
+mod endings;
 mod entering;
 mod gates;
 mod growths;
 mod lent;
 mod portals;
 mod rounds;
+mod staying;
+mod staying_clients;
+mod staying_growths;
+mod stays;
 mod steps;
 
 use dml_engine::Engine;

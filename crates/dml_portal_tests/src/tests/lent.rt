@@ -1,9 +1,11 @@
 //! Portals over memory that a caller lends.
 
-use super::portals::One;
+use super::portals::{One, Three};
+use super::rounds::{expect_fetched_in_turn, expect_settled_in_turn};
+use super::steps::{expect_polled, submit_all};
 use super::{Row, done};
 use dml_engine::EngineOver;
-use dml_image::{Image, Lent, Whole};
+use dml_image::{Image, ImageError, Lent, Whole};
 use dml_types::{Job, Record, Settings, Status};
 use std::alloc::Global;
 use std::process::Abort;
@@ -113,5 +115,75 @@ fn rows_over_one_piece(rt: HostRuntime) -> Result<(), Fail> {
         let portal = over(rt.alloc(), whole.take(), row).ok_or("no memory")?;
         row.expect(&rt, rt.alloc(), portal)?;
     }
+    Ok(())
+}
+
+/// A portal of three clients over an image.
+fn three_over<'a>(alloc: Global, image: Image<'a>, capacity: u32) -> Option<Three<'a>> {
+    let engine = EngineOver::new(alloc, image, SETTINGS).ok()?;
+    Three::over(alloc, engine, capacity)
+}
+
+/// Three clients are fetched in turn over lent memory as over an image's own pages.
+#[test]
+fn three_clients_over_lent_memory(rt: HostRuntime) -> Result<(), Fail> {
+    let (mut content, mut other) = ([0; 4096], [0; 4096]);
+    let mut lent = Lent::new(&[true], &mut content);
+    assert!(rt; lent.is_memory());
+    let portal = three_over(rt.alloc(), lent.take(), 200).ok_or("no memory")?;
+    expect_fetched_in_turn(&rt, rt.alloc(), portal)?;
+    let mut lent = Lent::new(&[true], &mut other);
+    assert!(rt; lent.is_memory());
+    let portal = three_over(rt.alloc(), lent.take(), 130).ok_or("no memory")?;
+    expect_settled_in_turn(&rt, rt.alloc(), portal)
+}
+
+/// The same in one piece.
+#[test]
+fn three_clients_over_one_piece(rt: HostRuntime) -> Result<(), Fail> {
+    let (mut content, mut other) = ([0; 4096], [0; 4096]);
+    let mut whole = Whole::new(&mut content);
+    assert!(rt; whole.is_memory());
+    let portal = three_over(rt.alloc(), whole.take(), 200).ok_or("no memory")?;
+    expect_fetched_in_turn(&rt, rt.alloc(), portal)?;
+    let mut whole = Whole::new(&mut other);
+    assert!(rt; whole.is_memory());
+    let portal = three_over(rt.alloc(), whole.take(), 130).ok_or("no memory")?;
+    expect_settled_in_turn(&rt, rt.alloc(), portal)
+}
+
+/// A server that stays up over an image of two pages, the second of which is absent and lent, brings no page, and a
+/// client's job faults on it.
+fn expect_stays_up<R: Abort + Threads + Wait + Sync>(
+    rt: &R,
+    alloc: Global,
+    image: Image<'_>,
+) -> Result<(), Fail> {
+    let engine = EngineOver::new(alloc, image, SETTINGS).ok();
+    let portal = One::over(alloc, engine.ok_or("no memory")?, 4).ok_or("no memory")?;
+    let One { server, mut seat } = portal;
+    let mut server = server.stay_up(4).ok().ok_or("no memory")?;
+    assert_eq!(rt; server.bring(1, &[0; 4096]), Err(ImageError::NoMemory));
+    submit_all(rt, &mut seat, &[Job::fill(7, 4092, 8)]);
+    assert_eq!(rt; server.serve_round(rt, alloc), Ok(1));
+    let fault = Record {
+        completed: 4,
+        fault: 4096,
+        ..Record::refused(Status::WriteFault)
+    };
+    expect_polled(rt, &mut seat, &[fault]);
+    assert_eq!(rt; server.give_up().log.list.len(), 1);
+    Ok(())
+}
+
+/// What a client's job writes stands in the caller's memory.
+#[test]
+fn stays_up_over_lent_memory(rt: HostRuntime) -> Result<(), Fail> {
+    let mut content = [0; 8192];
+    let mut lent = Lent::new(&[true, false], &mut content);
+    assert!(rt; lent.is_memory());
+    expect_stays_up(&rt, rt.alloc(), lent.take())?;
+    drop(lent);
+    assert_eq!(rt; (content[4092], content[4096]), (7, 0));
     Ok(())
 }

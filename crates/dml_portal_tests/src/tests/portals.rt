@@ -36,8 +36,8 @@ pub(super) struct Two {
 
 /// A portal of three clients.
 #[derive(Drop)]
-pub(super) struct Three {
-    pub(super) server: Server<Free>,
+pub(super) struct Three<'a> {
+    pub(super) server: ServerOver<'a, Free>,
     pub(super) first: Seat,
     pub(super) second: Seat,
     pub(super) third: Seat,
@@ -196,10 +196,15 @@ impl Two {
     }
 }
 
-impl Three {
+impl<'a> Three<'a> {
     /// A portal over a page of zeros.
-    pub(super) fn open(alloc: Global, capacity: u32) -> Option<Three> {
-        let Ok((server, mut seats)) = Portal::open(alloc, engine(alloc)?, 3, capacity) else {
+    pub(super) fn open(alloc: Global, capacity: u32) -> Option<Three<'static>> {
+        Three::over(alloc, engine(alloc)?, capacity)
+    }
+
+    /// A portal over an engine.
+    pub(super) fn over(alloc: Global, engine: EngineOver<'a>, capacity: u32) -> Option<Three<'a>> {
+        let Ok((server, mut seats)) = Portal::open(alloc, engine, 3, capacity) else {
             return None;
         };
         let third = seats.pop()?;
@@ -241,7 +246,11 @@ impl Three {
     }
 
     /// The clients finish, and the portal is settled.
-    pub(super) fn settle<R: Threads + Wait + Sync>(self, rt: &R, alloc: Global) -> Option<Settled> {
+    pub(super) fn settle<R: Threads + Wait + Sync>(
+        self,
+        rt: &R,
+        alloc: Global,
+    ) -> Option<SettledOver<'a>> {
         let Three {
             server,
             first,

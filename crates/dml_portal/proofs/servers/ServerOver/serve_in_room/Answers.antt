@@ -5,13 +5,13 @@ use Rattle.dml_portal.specs.Blocks.{AreBlocks}
 use Rattle.dml_portal.proofs.BlockLemmas.{blocks_along}
 use Rattle.dml_portal.proofs.LaneLemmas.{popped_along, pushed_along, same_lanes}
 use Rattle.dml_portal.proofs.ServedLemmas.{front_is, round_left, round_log, whole_is}
-use Rattle.dml_portal.proofs.TakenLemmas.{taken_along}
+use Rattle.dml_portal.proofs.TakenLemmas.{taken_along, taken_unheld}
 use Rattle.dml_portal.proofs.servers.ServerOver.serve_in_room.Goals as goal
 
 pub push_round-requires-clause-popped : goal.push_round-requires-clause-popped
 push_round-requires-clause-popped g c =
     subst (ArePopped c.fetch_round.new.lanes.items) (sym c.as_slice-2.ensures.value)
-    (popped_along c.fetch_round.new.lanes.items c.fetch_round.new.log.items c.answer_round.new.log.items c.answer_round.ensures.sent c.fetch_round.ensures.popped)
+    (popped_along c.fetch_round.new.lanes.items c.fetch_round.new.log.items c.answer_round.new.log.items c.answer_round.ensures.sent (c.fetch_round.ensures.popped c.args.self.now.popped))
 
 pub push_round-requires-clause-pushed : goal.push_round-requires-clause-pushed
 push_round-requires-clause-pushed g c =
@@ -24,7 +24,7 @@ push_round-requires-clause-pushed g c =
     ∙ (c.answer_round.ensures.earlier
     ∙ (ap (λ n. take n fetched) start_is ∙ front_is log fetched c.fetch_round.ensures.fetched.0 c.fetch_round.ensures.fetched.1)) in
     subst (ArePushed c.fetch_round.new.lanes.items) (sym (whole_is log now front) ∙ sym c.as_slice-2.ensures.value)
-    (pushed_along c.fetch_round.new.lanes.items log (added log now) c.fetch_round.ensures.pushed)
+    (pushed_along c.fetch_round.new.lanes.items log (added log now) (c.fetch_round.ensures.pushed c.args.self.now.pushed))
 
 pub push_round-requires-clause-blocks : goal.push_round-requires-clause-blocks
 push_round-requires-clause-blocks g c =
@@ -135,4 +135,4 @@ returns-clause-taken g c =
     let round = round_log log c.fetch_round.new.log.items c.answer_round.new.log.items entries
     c.fetch_round.ensures.fetched.1 c.answer_round.ensures.sent front in
     taken_along lanes lanes c.fetch_round.new.lanes.items c.push_all_answers.new.lanes.items
-    entries (added log c.answer_round.new.log.items) refl (c.push_all_answers.ensures.waiting ∙ c.push_round.ensures.waiting) round.sent c.fetch_round.ensures.fetched.5
+    entries (added log c.answer_round.new.log.items) refl (c.push_all_answers.ensures.waiting ∙ c.push_round.ensures.waiting) round.sent (taken_unheld lanes entries c.fetch_round.new.lanes.items c.fetch_round.ensures.fetched.5)

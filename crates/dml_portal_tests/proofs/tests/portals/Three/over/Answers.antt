@@ -2,7 +2,7 @@ use Rattle.std.specs.Prelude.{IfOk, Some}
 use Rattle.std.specs.List.{All}
 use Rattle.std.proofs.lemmas.List.Elements.{All-pop}
 use Rattle.dml_portal.specs.Lanes.{IsSeatOf}
-use Rattle.dml_portal_tests.proofs.tests.portals.Three.open.Goals as goal
+use Rattle.dml_portal_tests.proofs.tests.portals.Three.over.Goals as goal
 
 pub invariant_of-result : goal.invariant_of-result
 invariant_of-result c =

@@ -198,7 +198,9 @@ done
 for program in "$top"/crates/example_*/src/main.rt; do
     file=${program#"$top"/}
     [ "${1:-}" = write ] || grep -qx -e "$file" "$work/programs" || complain "docs/GUIDE.md does not show $file"
-    [ "$(wc -l <"$program")" -lt 60 ] || complain "$file: 60 lines or more"
+    most=60
+    [ "$file" != crates/example_pool/src/main.rt ] || most=130 # a pool, its replica and what goes between them
+    [ "$(wc -l <"$program")" -lt "$most" ] || complain "$file: $most lines or more"
 done
 
 links=0

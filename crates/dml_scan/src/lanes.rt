@@ -169,6 +169,13 @@ pub fn first_unlike(bytes: &[u8], pattern: u64, from: u32) -> usize
     ensures within { result ≤ length bytes.now }
 {
     let repeated = repeated_from(pattern, from);
+    if bytes.len() >= BLOCK {
+        // a page that is looked through for zeros mostly differs at once: the first vector goes alone
+        let same = first_lane(load(bytes, 0), repeated);
+        if same < LANES {
+            return same;
+        }
+    }
     let mut at = 0;
     while bytes.len() - at >= BLOCK && is_repeated_block(bytes, repeated, at) {
         at += BLOCK;

@@ -7,11 +7,11 @@ ghost use Rattle.dml_effect.specs.Straight.{TakesStaging};
 
 use crate::carrying::{submit_straight_to, submit_to};
 use dml_arena::Arena;
-use dml_image::{PAGE_SIZE, Whole};
+use dml_image::{MAX_WHOLE_PAGES, PAGE_SIZE, Whole};
 use dml_types::{Job, Record};
 
 /// The most pages.
-const MOST: usize = u32::MAX as usize;
+const MOST: usize = MAX_WHOLE_PAGES as usize;
 
 /// Whether these bytes are 1 to 2^32 - 1 whole pages.
 pub fn are_whole_pages(content: &[u8]) -> bool

@@ -28,3 +28,6 @@ pub const PAGE_SIZE: usize = 4096;
 
 /// The most pages of an image, but where memory is lent in one piece.
 pub const MAX_PAGES: u32 = 4096;
+
+/// The most pages of memory that is lent in one piece.
+pub const MAX_WHOLE_PAGES: u32 = u32::MAX;

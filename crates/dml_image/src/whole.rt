@@ -2,12 +2,12 @@ ghost use Rattle.std.specs.Prelude.{◌≡◌, ◌↔◌, IsTrue};
 ghost use Rattle.dml_types.specs.Memory.{InOnePiece, IsMemory, is_in_one_piece};
 ghost use Rattle.dml_image.specs.Kept.{whole_memory};
 
-use crate::PAGE_SIZE;
 use crate::images::{Image, Pages};
 use crate::lent::Lent;
+use crate::{MAX_WHOLE_PAGES, PAGE_SIZE};
 
 /// The most pages.
-const MOST: usize = u32::MAX as usize;
+const MOST: usize = MAX_WHOLE_PAGES as usize;
 
 /// Memory of the caller's that is lent to an image in one piece: 1 to 2^32 - 1 whole pages, all present.
 ///

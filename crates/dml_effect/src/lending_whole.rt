@@ -7,18 +7,14 @@ ghost use Rattle.dml_effect.specs.Straight.{TakesStaging};
 
 use crate::carrying::{submit_straight_to, submit_to};
 use dml_arena::Arena;
-use dml_image::{MAX_WHOLE_PAGES, PAGE_SIZE, Whole};
+use dml_image::{Whole, are_whole};
 use dml_types::{Job, Record};
-
-/// The most pages.
-const MOST: usize = MAX_WHOLE_PAGES as usize;
 
 /// Whether these bytes are 1 to 2^32 - 1 whole pages.
 pub fn are_whole_pages(content: &[u8]) -> bool
     ensures { IsTrue result ↔ IsWholePages content.now }
 {
-    let len = content.len();
-    len % PAGE_SIZE == 0 && len >= PAGE_SIZE && len <= MOST * PAGE_SIZE
+    are_whole(content.len())
 }
 
 /// Checks a job and carries it out over the caller's bytes, which are 1 to 2^32 - 1 whole pages from address 0 on, all

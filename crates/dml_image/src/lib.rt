@@ -21,7 +21,7 @@ pub use errors::ImageError;
 pub use images::Image;
 pub use lent::Lent;
 pub use slices::{SHORT, copy_at, fill_at, write_at};
-pub use whole::Whole;
+pub use whole::{Whole, are_whole};
 
 /// The bytes of a page.
 pub const PAGE_SIZE: usize = 4096;

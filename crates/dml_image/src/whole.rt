@@ -1,4 +1,4 @@
-ghost use Rattle.std.specs.Prelude.{◌≡◌, ◌↔◌, IsTrue};
+ghost use Rattle.std.specs.Prelude.{◌≡◌, ◌*◌, ◌%◌, ◌≤◌, ◌↔◌, IsTrue};
 ghost use Rattle.dml_types.specs.Memory.{InOnePiece, IsMemory, is_in_one_piece};
 ghost use Rattle.dml_image.specs.Kept.{whole_memory};
 
@@ -8,6 +8,13 @@ use crate::{MAX_WHOLE_PAGES, PAGE_SIZE};
 
 /// The most pages.
 const MOST: usize = MAX_WHOLE_PAGES as usize;
+
+/// Whether so many bytes are 1 to 2^32 - 1 whole pages.
+pub fn are_whole(len: usize) -> bool
+    ensures { IsTrue result ↔ ((len % 4096 ≡ 0) × (4096 ≤ len) × (len ≤ 4294967295 * 4096)) }
+{
+    len % PAGE_SIZE == 0 && len >= PAGE_SIZE && len <= MOST * PAGE_SIZE
+}
 
 /// Memory of the caller's that is lent to an image in one piece: 1 to 2^32 - 1 whole pages, all present.
 ///
@@ -31,8 +38,7 @@ impl<'a> Whole<'a> {
     pub fn is_memory(&self) -> bool
         ensures { IsTrue result ↔ IsMemory (whole_memory self.now) }
     {
-        let len = self.content.len();
-        len % PAGE_SIZE == 0 && len >= PAGE_SIZE && len <= MOST * PAGE_SIZE
+        are_whole(self.content.len())
     }
 
     /// The memory as an image; until it is put back, nothing is left here.

@@ -17,7 +17,8 @@ IsOver (Some most) number = most < number
 abbrev pub still_late : Lane → Lane → List Record
 still_late lane now = drop (length (sent now.records)) (kept_by lane)
 
--- a client's jobs are taken, or it is held back and none is: where more records than the bound waited, and wait still
+-- a client's jobs are taken, or it is held back and none is: it may be held back where more records than the bound
+-- waited before, and is where more of them wait still
 pub record IsTakenOrHeld (most : Option ℕ) (lane now : Lane) (taken : List Job) : Type 0 where
   pub either : IsTaken (waiting lane) taken (waiting now) ⊎ ((taken ≡ []) × (waiting now ≡ waiting lane))
   pub few : (IsOver most (length (late_of lane)) → ⊥) → IsTaken (waiting lane) taken (waiting now)

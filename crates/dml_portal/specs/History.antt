@@ -42,7 +42,8 @@ AreAnsweredFrom staging image (event ∷ events) =
     IsAnsweredFrom staging image event × AreAnsweredFrom staging (image_behind staging image event) events
 
 -- such events lead from one image to another, and the log has the entries that they served, in order
-pub record HasHistory (staging : ℕ) (start : Memory) (events : List Event) (image : Memory) (log : List LogEntry) : Type 0 where
+pub record HasHistory
+    (staging : ℕ) (start : Memory) (events : List Event) (image : Memory) (log : List LogEntry) : Type 0 where
   pub image_is : image ≡ image_through staging start events
   pub log_is : log ≡ all_entries events
   pub answers : AreAnsweredFrom staging start events
@@ -54,7 +55,8 @@ Begins = (staging : ℕ) (start : Memory) → HasHistory staging start [] start 
 -- one event more: what a round, a write and a page that is brought each leave
 abbrev pub GoesOn : Type 0
 GoesOn =
-    (staging : ℕ) (start : Memory) (events : List Event) (event : Event) (image now : Memory) (log later : List LogEntry)
+    (staging : ℕ) (start : Memory) (events : List Event) (event : Event) (image now : Memory)
+    (log later : List LogEntry)
     → HasHistory staging start events image log → now ≡ image_behind staging image event
     → later ≡ log ++ entries_of event → IsAnsweredFrom staging image event
     → HasHistory staging start (events ++ event ∷ []) now later

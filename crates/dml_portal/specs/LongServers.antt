@@ -1,5 +1,5 @@
 -- What contracts see of a server that stays up.
-use Rattle.std.specs.Prelude.{ℕ, List, length}
+use Rattle.std.specs.Prelude.{ℕ, List, length, vec_capacity}
 use Rattle.dml_types.specs.Memory.{Memory}
 use Rattle.dml_engine.specs.State.{State}
 use Rattle.dml_portal.specs.Types.{LogEntry, Settings}
@@ -27,6 +27,10 @@ module _ {G : Type 0} where
   -- the entries that were not taken off its log
   abbrev pub log_of : LongServerOver G → List LogEntry
   log_of server = server.log.items
+
+  -- for how many entries its log has room
+  abbrev pub log_room_of : LongServerOver G → ℕ
+  log_room_of server = vec_capacity server.log
 
   -- the number of records beyond which a client is held back
   abbrev pub most_of : LongServerOver G → ℕ

@@ -45,7 +45,7 @@ impl<G> ServerOver<'_, G> {
 
 impl<G> LongServerOver<'_, G> {
     ghost use Rattle.dml_portal.specs.LongServers.{clients_of, engine_of, lanes_of, log_of, most_of};
-    ghost use Rattle.dml_portal.specs.Whole.{AreWhole, StayWhole, room_by};
+    ghost use Rattle.dml_portal.specs.Whole.{AreWhole, StayWhole, late_of, room_by};
 
     /// Whether all that one seat submitted is carried out, while the server goes on. Its part of what was taken off the
     /// log, followed by what is left of it, is then what it submitted, in that order, and what it polled is a front of
@@ -61,6 +61,7 @@ impl<G> LongServerOver<'_, G> {
         ensures log { log_of self.new ≡ log_of self.old }
         ensures bound { most_of self.new ≡ most_of self.old }
         ensures lanes { AreUnusedLanes (lanes_of self.old) (lanes_of self.new) }
+        ensures late { map late_of (lanes_of self.new) ≡ map late_of (lanes_of self.old) }
         ensures late_room { map room_by (lanes_of self.new) ≡ map room_by (lanes_of self.old) }
         ensures whole { StayWhole (lanes_of self.old) (log_of self.old) (lanes_of self.new) (log_of self.new) }
         ensures same { AreSameLanes (lanes_of self.old) (lanes_of self.new) }
@@ -76,6 +77,7 @@ impl<G> LongServerOver<'_, G> {
         ensures log { log_of self.new ≡ log_of self.old }
         ensures bound { most_of self.new ≡ most_of self.old }
         ensures lanes { AreUnusedLanes (lanes_of self.old) (lanes_of self.new) }
+        ensures late { map late_of (lanes_of self.new) ≡ map late_of (lanes_of self.old) }
         ensures late_room { map room_by (lanes_of self.new) ≡ map room_by (lanes_of self.old) }
         ensures whole { StayWhole (lanes_of self.old) (log_of self.old) (lanes_of self.new) (log_of self.new) }
         ensures same { AreSameLanes (lanes_of self.old) (lanes_of self.new) }

@@ -121,8 +121,8 @@ impl<'a, G: Gate + Sync + Drop> LongServerOver<'a, G> {
     ///
     /// # Errors
     /// `Strangers` where there is a client whose seat is not among those handed in; nothing is changed then. `NoMemory`
-    /// where there is no room for a round; the rounds before it are served. Both hand the same server and the same seats
-    /// back, and it may be settled again, with the same promise.
+    /// where there is no room for a round; the rounds before it are served. Both hand the same server and the same
+    /// seats back, and it may be settled again, with the same promise.
     pub fn settle<R: Threads + Wait + Sync>(
         self,
         rt: &R,

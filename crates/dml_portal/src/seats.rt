@@ -98,7 +98,8 @@ impl Seat {
 impl Done {
     ghost use Rattle.dml_portal.specs.Seats.{seat_of};
 
-    /// The same seat, to be used again, as by the next client that comes.
+    /// The same seat, to be used again, as by the next client that comes. Records of the earlier jobs that were not
+    /// polled come first.
     pub fn again(self) -> Seat
         ensures { result ≡ seat_of self }
     {

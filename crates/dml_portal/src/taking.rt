@@ -38,7 +38,8 @@ impl<'a, G> ServerOver<'a, G> {
     /// no memory.
     ///
     /// # Errors
-    /// `NoMemory` where there is no room for them. The server is handed back; nothing was fetched, pushed or carried out.
+    /// `NoMemory` where there is no room for them. The server is handed back; nothing was fetched, pushed or carried
+    /// out.
     pub fn stay_up(
         self,
         most: usize,
@@ -79,9 +80,10 @@ impl<'a, G> ServerOver<'a, G> {
 }
 
 impl<G> LongServerOver<'_, G> {
-    ghost use Rattle.dml_portal.specs.LongServers.{engine_of, lanes_of, log_of, most_of};
+    ghost use Rattle.dml_portal.specs.LongServers.{engine_of, lanes_of, log_of, log_room_of, most_of};
 
-    /// Takes off the whole log, behind the entries of a list. The call takes no memory where the list has room.
+    /// Takes off the whole log, behind the entries of a list, and keeps the room that the log has. The call takes no
+    /// memory where the list has room.
     ///
     /// # Errors
     /// `NoMemory` where the list has no room for them; nothing is changed then.
@@ -97,6 +99,7 @@ impl<G> LongServerOver<'_, G> {
         ensures lanes { lanes_of self.new ≡ lanes_of self.old }
         ensures engine { engine_of self.new ≡ engine_of self.old }
         ensures bound { most_of self.new ≡ most_of self.old }
+        ensures capacity { log_room_of self.new ≡ log_room_of self.old }
     {
         if into.extend_from_slice(self.log.as_slice()).is_err() {
             return Err(PortalError::NoMemory);
@@ -105,7 +108,7 @@ impl<G> LongServerOver<'_, G> {
         Ok(())
     }
 
-    /// Drops the whole log. The call takes no memory.
+    /// Drops the whole log, and keeps the room that it has. The call takes no memory.
     pub fn drop_log(&mut self)
         ensures left { log_of self.new ≡ [] }
         ensures whole { (earlier : List Entries) → AreWhole (lanes_of self.old) (earlier ++ log_of self.old)
@@ -113,6 +116,7 @@ impl<G> LongServerOver<'_, G> {
         ensures lanes { lanes_of self.new ≡ lanes_of self.old }
         ensures engine { engine_of self.new ≡ engine_of self.old }
         ensures bound { most_of self.new ≡ most_of self.old }
+        ensures capacity { log_room_of self.new ≡ log_room_of self.old }
     {
         self.log.clear();
     }

@@ -10,22 +10,23 @@ use std::alloc::Global;
 use std::sync::Wait;
 use std::thread::Threads;
 
-/// A turn of the server: a round, and the entries of its log put behind those of a list.
+/// A turn of the server: a round, whose log a list gets in place of what it had; where memory ends, it is dropped.
 fn turn<R: Threads + Wait + Sync>(
     rt: &R,
     alloc: Global,
     server: &mut LongServer,
     log: &mut Vec<LogEntry>,
-) -> anyhow::Result<()> {
-    server.serve_round(rt, alloc)?;
-    let from = log.len();
-    server.take_log(log)?;
-    for entry in log.iter().skip(from) {
+) {
+    log.clear();
+    if server.serve_round(rt, alloc).is_err() || server.take_log(log).is_err() {
+        server.drop_log();
+    }
+    for entry in log.iter() {
         if let Status::ReadFault | Status::WriteFault = entry.answer.status {
-            server.bring(u32::try_from(entry.answer.fault / 4096)?, &[0; 4096])?;
+            let page = u32::try_from(entry.answer.fault / 4096).unwrap_or(u32::MAX);
+            let _ = server.bring(page, &[0; 4096]);
         }
     }
-    Ok(())
 }
 
 fn main(rt: HostRuntime) -> anyhow::Result<()> {
@@ -35,8 +36,7 @@ fn main(rt: HostRuntime) -> anyhow::Result<()> {
         chunk: 4096,
         workers: 2,
     };
-    let image = Image::new(alloc, 2)?;
-    let engine = Engine::new(alloc, image, settings).map_err(|(_, error)| error)?;
+    let engine = Engine::new(alloc, Image::new(alloc, 2)?, settings).map_err(|(_, error)| error)?;
     let (server, seats) = Portal::open(alloc, engine, 2, 4).map_err(|(_, error)| error)?;
     let mut server = server.stay_up(64).map_err(|(_, error)| error)?;
     let mut log = Vec::new(alloc);
@@ -44,15 +44,15 @@ fn main(rt: HostRuntime) -> anyhow::Result<()> {
         let mut job = Job::fill(0x0707_0707_0707_0707, 4090, 12);
         for _ in 0..4 {
             seat.try_submit(job)?;
-            turn(&rt, alloc, &mut server, &mut log)?;
+            turn(&rt, alloc, &mut server, &mut log);
+            for entry in &log {
+                println!(rt; "client {}: {:?}", entry.client, entry.answer)?;
+            }
             match seat.poll().and_then(|answer| rest(&job, &answer)) {
                 Some(left) => job = left,
                 None => break,
             }
         }
-    }
-    for entry in &log {
-        println!(rt; "client {}: {:?}", entry.client, entry.answer)?;
     }
     println!(rt; "byte 4101: {:?}", server.give_up().image.byte(4101))?;
     Ok(())

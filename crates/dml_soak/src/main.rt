@@ -2,7 +2,8 @@
 //! behind each round. `tests/soak.sh` looks at how much memory it holds meanwhile.
 //!
 //! Its word is a number of parts, each of some hundred thousand jobs; behind each it prints how many jobs were carried
-//! out so far, the same at each run. Without a word it does one part.
+//! out so far, and behind how many rounds the last client was held back, the same at each run. Without a word it does
+//! one part.
 #![tactic(auto)]
 
 use dml_engine::Engine;
@@ -60,25 +61,36 @@ fn take_turn(seat: &mut Seat, turn: u32) {
     }
 }
 
-/// A part: the clients take their turns, a round is served, and the log is taken off. How many jobs it had.
+/// What was served so far.
+#[derive(Clone, Copy)]
+struct Served {
+    /// How many jobs were carried out.
+    jobs: u64,
+    /// Behind how many rounds the last client was held back.
+    held: u64,
+}
+
+/// A part: the clients take their turns, a round is served, and the log is taken off. What was served with it.
 fn serve_part<R: Threads + Wait + Sync>(
     rt: &R,
     alloc: Global,
     server: &mut LongServer,
     seats: &mut Vec<Seat>,
     log: &mut Vec<LogEntry>,
-) -> Result<u64, PortalError> {
-    let mut jobs = 0u64;
+    before: Served,
+) -> Result<Served, PortalError> {
+    let Served { mut jobs, mut held } = before;
     for turn in 0..ROUNDS {
         for seat in seats.iter_mut() {
             take_turn(seat, turn);
         }
         server.serve_round(rt, alloc)?;
+        held = held.saturating_add(u64::from(server.is_held_back(LAST)));
         log.clear();
         server.take_log(log)?;
         jobs = jobs.saturating_add(log.len() as u64);
     }
-    Ok(jobs)
+    Ok(Served { jobs, held })
 }
 
 /// The number that the first word writes, or one.
@@ -105,11 +117,13 @@ fn main(rt: HostRuntime) -> anyhow::Result<()> {
     )| error)?;
     let mut server = server.stay_up(MOST).map_err(|(_, error)| error)?;
     let mut log = Vec::new(alloc);
-    let mut jobs = 0u64;
+    let mut served = Served { jobs: 0, held: 0 };
     for _ in 0..parts(&rt)? {
-        let more = serve_part(&rt, alloc, &mut server, &mut seats, &mut log)?;
-        jobs = jobs.saturating_add(more);
-        println!(rt; "{jobs} jobs")?;
+        served = serve_part(&rt, alloc, &mut server, &mut seats, &mut log, served)?;
+        println!(rt;
+            "{} jobs, the last client held back behind {} rounds",
+            served.jobs, served.held
+        )?;
     }
     Ok(())
 }

@@ -93,8 +93,8 @@ pub fn run_batch_over<R: Threads + Wait + Sync>(
             whole.put(engine.into_image());
             Ok((answer, records))
         }
-        Err(image) => {
-            whole.put(image);
+        Err(kept) => {
+            whole.put(kept);
             Err(RunError::NoMemory)
         }
     }

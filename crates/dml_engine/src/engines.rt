@@ -25,8 +25,8 @@ use std::thread::Threads;
 /// A memory image, and what it takes to carry out jobs on it: a staging arena, which is taken when the engine is made,
 /// and the gate that its workers enter before each task.
 ///
-/// The image is one of any kind: its own pages, which is an [`Engine`], or memory that a caller lends for the engine's
-/// life, and that is the engine's alone so long.
+/// The image is one of any kind: its own pages, or memory that a caller lends for the engine's life, and that is the
+/// engine's alone so long. [`Engine`] is this over an image that borrows nothing that ends.
 #[derive(Drop)]
 pub struct EngineOver<'a, G = Free> {
     image: Image<'a>,

@@ -216,10 +216,11 @@ uint8_t kazovuni_submit_pointers(
 
 /*
  * As kazovuni_submit_over, over memory in one piece of any size: 1 to 2^32 - 1 whole pages, so the ranges of a job may
- * lie anywhere in it, however far apart. A call costs the same whatever the size is, and goes over the ranges of its
- * job alone: memory that is mapped to be read and written, and was not touched yet, may be passed. All of it is the
- * library's alone until the call returns, as said above: no other thread, no processor of a guest and no device may
- * read or write a byte of it meanwhile. KAZOVUNI_NOT_PAGES, or KAZOVUNI_NO_MEMORY.
+ * lie anywhere in it, however far apart. A call goes over the ranges of its job alone, so its work does not grow with
+ * the size; pages that no cache holds cost what they cost memmove, and some nanoseconds more. Memory that is mapped to
+ * be read and written, and was not touched yet, may be passed. All of it is the library's alone until the call returns,
+ * as said above: no other thread, no processor of a guest and no device may read or write a byte of it meanwhile.
+ * KAZOVUNI_NOT_PAGES, or KAZOVUNI_NO_MEMORY.
  */
 uint8_t kazovuni_submit_whole(
     uint8_t *bytes, size_t length, const uint8_t descriptor[64], uint32_t staging, uint8_t record[32]);

@@ -400,8 +400,8 @@ ended 1027 1027
 
 portal_tests=crates/dml_portal_tests/out/dml_portal_tests_tests
 
-# dropped BYTES LEAST MOST: with so many bytes left behind its first round, a server that stays up serves all its rounds,
-# dropping its log at least and at most so often
+# dropped BYTES LEAST MOST: with so many bytes left behind its first round, a server that stays up serves all its
+# rounds, dropping its log at least and at most so often
 dropped() {
     log_test=tests::staying_growths::log_dropped_under_a_limit
     before=$(growths "$portal_tests" "tests::staying_growths::set_up_of_${log_test##*:}")

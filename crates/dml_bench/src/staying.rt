@@ -113,8 +113,8 @@ fn time_taken<T: Threads + Wait + Sync + Clock + Eprint>(
     print_row(rt, "log_taken", ROUNDS, nanoseconds, turns, all)
 }
 
-/// Times rounds of both: rows of a name, the number of rounds, and the nanoseconds of all. With 50 turns they are of five
-/// million jobs.
+/// Times rounds of both: rows of a name, the number of rounds, and the nanoseconds of all. With 50 turns they are of
+/// five million jobs.
 pub(crate) fn time_logs<T: Threads + Wait + Sync + Clock + Eprint>(
     rt: &T,
     alloc: Global,

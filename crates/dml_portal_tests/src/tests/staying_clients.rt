@@ -17,9 +17,9 @@ use std::thread::{self, Threads};
 
 /// What a thread that serves rounds gives back: the server, and what was taken off its log.
 #[derive(Drop)]
-struct Up<'a> {
-    server: LongServerOver<'a, Free>,
-    log: Vec<LogEntry>,
+pub(super) struct Up<'a> {
+    pub(super) server: LongServerOver<'a, Free>,
+    pub(super) log: Vec<LogEntry>,
 }
 
 /// The same, with the second client's seat and what it has polled.
@@ -31,7 +31,7 @@ struct UpWith<'a> {
 }
 
 /// Serves rounds for so many turns, and takes the log off behind each.
-fn served<'a, R: Abort + Threads + Wait + Sync>(
+pub(super) fn served<'a, R: Abort + Threads + Wait + Sync>(
     rt: &R,
     alloc: Global,
     server: LongServerOver<'a, Free>,

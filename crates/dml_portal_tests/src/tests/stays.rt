@@ -1,5 +1,7 @@
 //! Portals of two clients whose server stays up.
+ghost use Rattle.std.specs.Prelude.{IfOk};
 ghost use Rattle.dml_portal.specs.Lanes.{IsSeatOf};
+ghost use Rattle.dml_portal.specs.Whole.{AreWhole};
 
 use super::portals::Two;
 use super::steps::expect_polled;
@@ -23,7 +25,9 @@ pub(super) struct Stay {
 
 impl Stay {
     /// The same portal, with a server that holds a client back for whom more records wait.
-    pub(super) fn of(portal: Two, most: usize) -> Result<Stay, (Two, PortalError)> {
+    pub(super) fn of(portal: Two, most: usize) -> Result<Stay, (Two, PortalError)>
+        ensures whole { IfOk result (λ stay. AreWhole stay.server.lanes.items stay.server.log.items) }
+    {
         let Two {
             server,
             first,

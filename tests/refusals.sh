@@ -62,7 +62,8 @@ share_set_up='dml_core:refused_made_rows_by_steps=made_rows dml_engine:refused_b
 dml_engine:refused_second_bring=submit dml_engine:refused_list_alone=submit dml_engine:refused_batch_alone=submit
 dml_engine:refused_submit_into=submit_on_workers dml_engine:refused_submit_list=submit_on_workers
 dml_engine:refused_submit_batch=submit_on_workers dml_engine:refused_waves_of_a_batch=waves
-dml_engine:refused_later_growths_of_a_batch=later_growths dml_pool:refused_run_wave_of_three=run_wave
+dml_engine:refused_later_growths_of_a_batch=later_growths
+dml_engine:refused_run_batch_over_on_workers=run_list_over_on_workers dml_pool:refused_run_wave_of_three=run_wave
 dml_wave:refused_carry_out_wave_of_three=carry_out_wave dml_command:refused_read_request=parse_arguments'
 
 # The tests of lists and batches that take no want of memory for an answer. The last growth of their set-up is the list

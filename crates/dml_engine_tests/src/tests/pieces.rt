@@ -5,7 +5,7 @@ use super::{USUAL, answer};
 use dml_effect::are_whole_pages;
 use dml_engine::{RunError, run_batch_over, run_list_over};
 use dml_types::{Job, Record, Settings, Status};
-use std::alloc::Global;
+use std::alloc::{AllocError, Global};
 use std::process::Abort;
 use std::sync::Wait;
 use std::test::Fail;
@@ -117,39 +117,96 @@ fn pages_beyond_own_ones(rt: HostRuntime) -> Result<(), Fail> {
 /// The bytes of a mebibyte.
 const MIB: usize = 1_048_576;
 
-/// A list of work enough for several workers.
-fn expect_shared<R: Abort + Threads + Wait + Sync>(
-    rt: &R,
-    alloc: Global,
-    settings: Settings,
-) -> Result<(), Fail> {
-    let jobs = [
+/// A pattern of sevens.
+const SEVENS: u64 = 0x0707_0707_0707_0707;
+
+/// Chunks of 64 KiB, so that few tasks are taken off what workers share.
+const SHARED: Settings = Settings {
+    chunk: 65_536,
+    ..USUAL
+};
+
+/// Jobs of a mebibyte each, of two levels. In chunks of 64 KiB a compare shares 999,424 bytes: the five are worth five
+/// workers, the one beside the writes a single one, and the four behind these are worth four.
+fn shared_jobs() -> [Job; 7] {
+    [
         Job::move_bytes(0, 4_194_304, 1_048_576),
-        Job::fill(0x0707_0707_0707_0707, 5_242_880, 1_048_576),
+        Job::fill(SEVENS, 5_242_880, 1_048_576),
+        Job::compare_pattern(1_048_576, 0, 1_048_576),
         Job::compare(0, 4_194_304, 1_048_576),
         Job::compare(0, 5_242_880, 1_048_576),
-        Job::compare_pattern(1_048_576, 0, 1_048_576),
-    ];
+        Job::compare_pattern(4_194_304, SEVENS, 1_048_576),
+        Job::compare_pattern(5_242_880, SEVENS, 1_048_576),
+    ]
+}
+
+/// Eight mebibytes, the first of them full of sevens.
+fn shared_content(alloc: Global) -> Result<Vec<u8>, AllocError> {
     let mut content = vec![in alloc; 0; 8 * MIB]?;
     for byte in content.iter_mut().take(MIB) {
         *byte = 7;
     }
-    assert!(rt; are_whole_pages(&content));
-    let records = run_list_over(rt, alloc, &mut content, settings, &jobs)?;
-    let want = [answer(Status::Success, 0, 1_048_576, 0); 5];
-    assert_eq!(rt; records.as_slice(), want.as_slice());
+    Ok(content)
+}
+
+/// These mebibytes are full of sevens, and the others of zeros.
+fn expect_sevens(rt: &impl Abort, content: &[u8], full: &[usize]) {
     for (mebibyte, bytes) in content.chunks_exact(MIB).enumerate() {
-        let byte = if [0, 4, 5].contains(&mebibyte) { 7 } else { 0 };
+        let byte = if full.contains(&mebibyte) { 7 } else { 0 };
         assert!(rt; bytes.iter().all(|there| *there == byte), "{mebibyte}");
+    }
+}
+
+/// All of the jobs were done.
+fn expect_shared(rt: &impl Abort, content: &[u8], records: &[Record]) {
+    let want = [answer(Status::Success, 0, 1_048_576, 0); 7];
+    assert_eq!(rt; records, want.as_slice());
+    expect_sevens(rt, content, &[0, 4, 5]);
+}
+
+/// A list of work enough for several workers.
+fn expect_shared_list<R: Abort + Threads + Wait + Sync>(
+    rt: &R,
+    alloc: Global,
+    workers: u32,
+) -> Result<(), Fail> {
+    let mut content = shared_content(alloc)?;
+    let settings = Settings { workers, ..SHARED };
+    assert!(rt; are_whole_pages(&content));
+    let records = run_list_over(rt, alloc, &mut content, settings, &shared_jobs())?;
+    expect_shared(rt, &content, &records);
+    Ok(())
+}
+
+/// With 1, 2 and 16 workers: all alike. How many of them are started is counted beside the tests.
+#[test]
+fn list_on_workers_over_one_piece(rt: HostRuntime) -> Result<(), Fail> {
+    for workers in [1, 2, 16] {
+        expect_shared_list(&rt, rt.alloc(), workers)?;
     }
     Ok(())
 }
 
-/// With 1, 2 and 16 workers: all alike.
+/// A batch of work enough for several workers.
+fn expect_shared_batch<R: Abort + Threads + Wait + Sync>(
+    rt: &R,
+    alloc: Global,
+    workers: u32,
+) -> Result<(), Fail> {
+    let mut content = shared_content(alloc)?;
+    let settings = Settings { workers, ..SHARED };
+    assert!(rt; are_whole_pages(&content));
+    let (own, records) = run_batch_over(rt, alloc, &mut content, settings, &shared_jobs())?;
+    assert_eq!(rt; (own.status, own.completed), (Status::Success, 7));
+    expect_shared(rt, &content, &records);
+    Ok(())
+}
+
+/// With 1, 2 and 16 workers: all alike. How many of them are started is counted beside the tests.
 #[test]
-fn list_on_workers_over_one_piece(rt: HostRuntime) -> Result<(), Fail> {
+fn batch_on_workers_over_one_piece(rt: HostRuntime) -> Result<(), Fail> {
     for workers in [1, 2, 16] {
-        expect_shared(&rt, rt.alloc(), Settings { workers, ..USUAL })?;
+        expect_shared_batch(&rt, rt.alloc(), workers)?;
     }
     Ok(())
 }
@@ -230,6 +287,47 @@ fn refused_run_batch_over(rt: HostRuntime) -> Result<(), Fail> {
             assert_eq!(rt; error, RunError::NoMemory);
             assert_eq!(rt; content, [0; 8192]);
         }
+    }
+    Ok(())
+}
+
+/// What the calls on workers do before.
+#[test]
+fn set_up_of_run_list_over_on_workers(rt: HostRuntime) -> Result<(), Fail> {
+    let content = shared_content(rt.alloc())?;
+    expect_sevens(&rt, &content, &[0]);
+    Ok(())
+}
+
+/// Nothing was done for want of memory.
+fn expect_refused(rt: &impl Abort, content: &[u8], error: RunError) {
+    assert_eq!(rt; error, RunError::NoMemory);
+    expect_sevens(rt, content, &[0]);
+}
+
+/// The right records, with workers or without, or want of memory with nothing changed.
+#[test]
+fn refused_run_list_over_on_workers(rt: HostRuntime) -> Result<(), Fail> {
+    let mut content = shared_content(rt.alloc())?;
+    assert!(rt; are_whole_pages(&content));
+    match run_list_over(&rt, rt.alloc(), &mut content, SHARED, &shared_jobs()) {
+        Ok(records) => expect_shared(&rt, &content, &records),
+        Err(error) => expect_refused(&rt, &content, error),
+    }
+    Ok(())
+}
+
+/// The right records, with workers or without, or want of memory with nothing changed.
+#[test]
+fn refused_run_batch_over_on_workers(rt: HostRuntime) -> Result<(), Fail> {
+    let mut content = shared_content(rt.alloc())?;
+    assert!(rt; are_whole_pages(&content));
+    match run_batch_over(&rt, rt.alloc(), &mut content, SHARED, &shared_jobs()) {
+        Ok((own, records)) => {
+            assert_eq!(rt; (own.status, own.completed), (Status::Success, 7));
+            expect_shared(&rt, &content, &records);
+        }
+        Err(error) => expect_refused(&rt, &content, error),
     }
     Ok(())
 }

@@ -111,22 +111,6 @@ repeats_more xs block pattern from at n whole repeats before more i below =
     ∙ (more (i - at) (omega arith) ∙ (ap (λ k. get_or block k 0) lane ∙ block_byte block pattern from i repeats)))
     (cases_lt i at)
 
-pub both_repeated : (xs block : List ℕ) (at n m : ℕ) → n % 32 ≡ 0 → AreRepeated xs block at (n + m) ↔ (AreRepeated xs block at n × AreRepeated xs block (at + n) m)
-both_repeated xs block at n m turn = (
-  λ whole. (
-    λ i below. whole i (omega arith),
-    λ i below. (let place : at + (n + i) ≡ at + n + i = omega arith in
-        let lane : (n + i) % 32 ≡ i % 32 = omega arith in
-        sym (ap (λ k. get_or xs k 0) place) ∙ (whole (n + i) (omega arith) ∙ ap (λ k. get_or block k 0) lane)),
-  ),
-  λ parts i below.
-      ⊎_elim (λ low. parts.0 i low) (λ high.
-      let place : at + n + (i - n) ≡ at + i = omega arith in
-      let lane : (i - n) % 32 ≡ i % 32 = omega arith in
-      sym (ap (λ k. get_or xs k 0) place) ∙ (parts.1 (i - n) (omega arith) ∙ ap (λ k. get_or block k 0) lane))
-      (cases_lt i n),
-)
-
 pub lanes_repeat : (xs block : List ℕ) (at k : ℕ) → at + 32 ≤ length xs → k ≡ first_difference (slice_range xs at (at + 32)) block → AreRepeated xs block at k
 lanes_repeat xs block at k within is i below =
     let f : ℕ → ℕ = λ j. get_or (slice_range xs at (at + 32)) j 0 in

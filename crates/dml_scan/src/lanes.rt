@@ -1,9 +1,9 @@
 //! How far bytes are alike from the front, those of two slices or those of a slice and a repeated pattern.
 //!
-//! They are compared in blocks of four steps with one test each. What is left is compared in steps of four vectors with
-//! one test, then a vector at a time, and at the end byte by byte.
+//! Two slices are first compared in blocks of four steps with one test each. What is left, as a slice and a pattern, is
+//! compared in steps of four vectors with one test, then a vector at a time, and at the end byte by byte.
 
-ghost use Rattle.std.specs.Prelude.{◌≡◌, ℕ, ◌+◌, ◌*◌, ◌%◌, ◌<◌, ◌≤◌, ◌↔◌, IsTrue, length, slice_index, slice_range};
+ghost use Rattle.std.specs.Prelude.{◌≡◌, ℕ, ◌+◌, ◌*◌, ◌<◌, ◌≤◌, ◌↔◌, IsTrue, length, slice_index, slice_range};
 ghost use Rattle.dml_types.specs.Bytewise.{pattern_byte};
 ghost use Rattle.dml_types.specs.Step as step;
 ghost use Rattle.dml_scan.specs.Lanes.{AreAlike, AreFull, AreRepeated};
@@ -107,6 +107,19 @@ fn alike_step(a: &[u8], b: &[u8], at: usize) -> u8x32
     all_of(first, second, third, fourth)
 }
 
+/// Whether a step of a slice, from a place on, repeats a vector.
+#[inline(always)]
+fn is_repeated_step(bytes: &[u8], repeated: u8x32, at: usize) -> bool
+    requires { at + STEP ≤ length bytes.now }
+    ensures { IsTrue result ↔ AreRepeated bytes.now repeated at 128 }
+{
+    let first = alike(load(bytes, at), repeated);
+    let second = alike(load(bytes, at + LANES), repeated);
+    let third = alike(load(bytes, at + 2 * LANES), repeated);
+    let fourth = alike(load(bytes, at + 3 * LANES), repeated);
+    is_full(all_of(first, second, third, fourth))
+}
+
 /// The bytes of a slice from a place on.
 #[inline(always)]
 fn load(bytes: &[u8], at: usize) -> u8x32
@@ -169,34 +182,7 @@ pub fn first_unlike(bytes: &[u8], pattern: u64, from: u32) -> usize
     ensures within { result ≤ length bytes.now }
 {
     let repeated = repeated_from(pattern, from);
-    if bytes.len() >= BLOCK {
-        // a page that is looked through for zeros mostly differs at once: the first vector goes alone
-        let same = first_lane(load(bytes, 0), repeated);
-        if same < LANES {
-            return same;
-        }
-    }
     let mut at = 0;
-    while bytes.len() - at >= BLOCK && is_repeated_block(bytes, repeated, at) {
-        at += BLOCK;
-    }
-    if at == bytes.len() {
-        return at;
-    }
-    first_unlike_from(bytes, pattern, from, at)
-}
-
-/// The same, where the bytes before a place repeat the pattern. It stands apart, as `first_difference_from` does.
-#[inline(never)]
-fn first_unlike_from(bytes: &[u8], pattern: u64, from: u32, start: usize) -> usize
-    requires place { start ≤ length bytes.now }
-    requires whole { start % 32 ≡ 0 }
-    requires repeats { (i : ℕ) → i < start → slice_index bytes.now i ≡ pattern_byte pattern (from + i) }
-    ensures value { result ≡ lanes.first_unlike bytes.now pattern from }
-    ensures within { result ≤ length bytes.now }
-{
-    let repeated = repeated_from(pattern, from);
-    let mut at = start;
     while bytes.len() - at >= STEP && is_repeated_step(bytes, repeated, at) {
         at += STEP;
     }
@@ -212,52 +198,6 @@ fn first_unlike_from(bytes: &[u8], pattern: u64, from: u32, start: usize) -> usi
         at += 1;
     }
     at
-}
-
-/// Whether a block of a slice, from a place on, repeats a vector, by one test.
-#[inline(always)]
-fn is_repeated_block(bytes: &[u8], repeated: u8x32, at: usize) -> bool
-    requires { at + BLOCK ≤ length bytes.now }
-    ensures { IsTrue result ↔ AreRepeated bytes.now repeated at 512 }
-{
-    is_full(both(
-        repeated_steps(bytes, repeated, at),
-        repeated_steps(bytes, repeated, at + 2 * STEP),
-    ))
-}
-
-/// Full lanes where all vectors of two steps of a slice, from a place on, are a vector that is repeated.
-#[inline(always)]
-fn repeated_steps(bytes: &[u8], repeated: u8x32, at: usize) -> u8x32
-    requires { at + 2 * STEP ≤ length bytes.now }
-    ensures { AreFull result ↔ AreRepeated bytes.now repeated at 256 }
-{
-    both(
-        repeated_step(bytes, repeated, at),
-        repeated_step(bytes, repeated, at + STEP),
-    )
-}
-
-/// Whether a step of a slice, from a place on, repeats a vector.
-#[inline(always)]
-fn is_repeated_step(bytes: &[u8], repeated: u8x32, at: usize) -> bool
-    requires { at + STEP ≤ length bytes.now }
-    ensures { IsTrue result ↔ AreRepeated bytes.now repeated at 128 }
-{
-    is_full(repeated_step(bytes, repeated, at))
-}
-
-/// Full lanes where all vectors of a step of a slice, from a place on, are a vector that is repeated.
-#[inline(always)]
-fn repeated_step(bytes: &[u8], repeated: u8x32, at: usize) -> u8x32
-    requires { at + STEP ≤ length bytes.now }
-    ensures { AreFull result ↔ AreRepeated bytes.now repeated at 128 }
-{
-    let first = alike(load(bytes, at), repeated);
-    let second = alike(load(bytes, at + LANES), repeated);
-    let third = alike(load(bytes, at + 2 * LANES), repeated);
-    let fourth = alike(load(bytes, at + 3 * LANES), repeated);
-    all_of(first, second, third, fourth)
 }
 
 /// The bytes of a pattern, low byte first, repeated from its byte `from` mod 8 on.

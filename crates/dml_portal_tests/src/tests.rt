@@ -7,7 +7,6 @@ mod entering;
 mod gates;
 mod growths;
 mod lent;
-mod parts;
 mod portals;
 mod rounds;
 mod staying;
@@ -15,7 +14,6 @@ mod staying_clients;
 mod staying_growths;
 mod stays;
 mod steps;
-mod vanishing;
 mod waiting_clients;
 
 use dml_engine::Engine;

@@ -14,8 +14,7 @@ use std::process::Abort;
 use std::sync::Wait;
 use std::thread::Threads;
 
-/// Expects what a row answers at all settings, with the engine's own gate and with one given, over each kind of memory,
-/// and without an engine.
+/// Expects what a row answers at all settings, with the engine's own gate and with one given, over each kind of memory.
 pub(super) fn everywhere<R: Abort + Threads + Wait + Sync>(
     rt: &R,
     alloc: Global,
@@ -29,10 +28,7 @@ pub(super) fn everywhere<R: Abort + Threads + Wait + Sync>(
             let own = engine.image();
             over_lent(rt, alloc, row, way, settings, given, own)?;
             in_one_piece(rt, alloc, row, way, settings, given, own)?;
-            // No gate can be given where there is no engine.
-            if !given {
-                without_engine(rt, alloc, row, way, settings, own)?;
-            }
+            without_engine(rt, alloc, row, way, settings, own)?;
         }
     }
     Some(())

@@ -22,7 +22,7 @@ const REPLICA: u64 = 64 * MIB;
 const RECORDS: u64 = 128 * MIB;
 
 /// What the database writes: some bytes of three pages, and all of a fourth.
-pub fn change(pool: &mut [u8])
+pub(crate) fn change(pool: &mut [u8])
     requires { 67108864 ≤ length pool.old }
 {
     pool[3 * PAGE + 17] = 0x61;
@@ -32,7 +32,7 @@ pub fn change(pool: &mut [u8])
 }
 
 /// For each page the job that finds how the pool's differs from the replica's, in a record of at most 1,020 bytes.
-pub fn creates(alloc: Global) -> Result<Vec<Job>, AllocError> {
+pub(crate) fn creates(alloc: Global) -> Result<Vec<Job>, AllocError> {
     let mut jobs = Vec::with_capacity(alloc, 1024)?;
     for page in 0..1024_u64 {
         let (ours, theirs) = (65_536 * page, REPLICA + 65_536 * page);
@@ -54,7 +54,11 @@ fn repair(create: &Job, found: &Record) -> Option<Job> {
 }
 
 /// The repairs of all pages that differ.
-pub fn repairs(alloc: Global, creates: &[Job], found: &[Record]) -> Result<Vec<Job>, AllocError> {
+pub(crate) fn repairs(
+    alloc: Global,
+    creates: &[Job],
+    found: &[Record],
+) -> Result<Vec<Job>, AllocError> {
     let mut jobs = Vec::new(alloc);
     for (create, answer) in creates.iter().zip(found) {
         if let Some(job) = repair(create, answer) {
@@ -66,7 +70,7 @@ pub fn repairs(alloc: Global, creates: &[Job], found: &[Record]) -> Result<Vec<J
 
 /// For each page the job that compares the replica's with the pool's. One that finds a difference has another status
 /// than success.
-pub fn compares(alloc: Global, creates: &[Job]) -> Result<Vec<Job>, AllocError> {
+pub(crate) fn compares(alloc: Global, creates: &[Job]) -> Result<Vec<Job>, AllocError> {
     let mut jobs = Vec::with_capacity(alloc, 1024)?;
     for create in creates {
         jobs.push(Job::compare(create.source, create.target, create.size).with_check(0))?;
@@ -75,7 +79,7 @@ pub fn compares(alloc: Global, creates: &[Job]) -> Result<Vec<Job>, AllocError> 
 }
 
 /// How many creates had this result.
-pub fn count(found: &[Record], wanted: u8) -> usize {
+pub(crate) fn count(found: &[Record], wanted: u8) -> usize {
     found
         .iter()
         .filter(|answer| answer.result == wanted)
@@ -83,7 +87,7 @@ pub fn count(found: &[Record], wanted: u8) -> usize {
 }
 
 /// How many bytes of deltas are applied; a move has none.
-pub fn delta_bytes(repairs: &[Job]) -> u32 {
+pub(crate) fn delta_bytes(repairs: &[Job]) -> u32 {
     repairs
         .iter()
         .fold(0, |bytes: u32, job| bytes.saturating_add(job.delta_size))

@@ -1,0 +1,10 @@
+use Rattle.std.specs.Prelude.{Some}
+use Rattle.std.proofs.lemmas.List.Elements.{All-pop}
+use Rattle.dml_portal.specs.Lanes.{IsSeatOf}
+use Rattle.dml_portal_tests.proofs.tests.portals.One.open.Goals as goal
+
+pub invariant_of-result : goal.invariant_of-result
+invariant_of-result c =
+    let opened = c.in-Ok in
+    let all = All-pop (IsSeatOf opened.server.lanes.items) opened.seats.items c.pop.new.self.items (Some c.in_ok-seat.seat) c.in_ok-seat.ensures.items opened.ensures.own_seats in
+    record { own_seat = all.1 }

@@ -1,7 +1,8 @@
 #!/bin/sh
 # Builds the C library and bench/c_calls.c, runs that and dml_bench alternately, and prints the least and the median of
 # the calls' times, and the bars of calls from C: a move of 4 KiB over memmove, and each call over the same one inside
-# Rattle (`submit_over` on the caller's pages, `submit_to` on an image's own). Then the jobs straight over buffers, by
+# Rattle (`submit_over` on the caller's pages, `submit_to` on an image's own); and moves of pages anywhere in 1 GiB in
+# one piece over memmove at the same places, by bench/c_whole.c. Then the jobs straight over buffers, by
 # bench/c_buffers.c, beside the same ones by kazovuni_submit_pointers, with their bars as ratios: of the operation's own
 # call (`buffers`) and of kazovuni_execute (`execute`), which checks the job twice.
 #
@@ -42,14 +43,15 @@ built() {
 installed "$here/.." "$work/now"
 built c_calls "$work/now" c_calls
 built c_buffers "$work/now" c_buffers
-programs='c_calls dml_bench c_buffers' backwards='c_buffers dml_bench c_calls'
+built c_whole "$work/now" c_whole
+programs='c_calls c_whole dml_bench c_buffers' backwards='c_buffers dml_bench c_whole c_calls'
 if [ -n "$older" ]; then
     [ -f "$older/lib/libkazovuni.a" ] || { installed "$older" "$work/before"; older=$work/before; }
     built older "$older" c_calls
     built now_buffers "$work/now" c_buffers -DPOINTERS_ALONE
     built older_buffers "$older" c_buffers -DPOINTERS_ALONE
-    programs='c_calls older dml_bench c_buffers now_buffers older_buffers'
-    backwards='older_buffers now_buffers c_buffers dml_bench older c_calls'
+    programs='c_calls older c_whole dml_bench c_buffers now_buffers older_buffers'
+    backwards='older_buffers now_buffers c_buffers dml_bench c_whole older c_calls'
 fi
 
 # one ROUND PROGRAM: writes "ROUND NAME BYTES NANOSECONDS" for each row of a program; those of the older library get a
@@ -166,6 +168,8 @@ awk -v busy="$busy" -v older="${older:+1}" '
             exit 2
         }
         bar("kazovuni_submit_over of 4096 bytes, over memmove", over("kazovuni_submit_over", "memmove", 4096), 60)
+        bar("kazovuni_submit_whole of 4096 bytes in 1 GiB, over memmove", \
+            over("kazovuni_submit_whole", "memmove_in_1_GiB", 4096), 20)
         for (bytes = 64; bytes <= 4096; bytes *= 64) {
             bar("kazovuni_submit_over of " bytes " bytes, over submit_over in Rattle", \
                 over("kazovuni_submit_over", "over_move", bytes), 20)
@@ -174,7 +178,8 @@ awk -v busy="$busy" -v older="${older:+1}" '
         }
         for (n = 1; older && n <= rows; n++) {
             split(row[n], part, " ")
-            if (part[1] ~ /^kazovuni_/) bar_to_older(part[1], part[1], "older_" part[1], part[2])
+            if (part[1] ~ /^kazovuni_/ && (1, "older_" part[1], part[2]) in times)
+                bar_to_older(part[1], part[1], "older_" part[1], part[2])
         }
         for (n = 1; older && n <= jobs; n++) {
             split(job[n], part, " ")

@@ -124,7 +124,8 @@ awk '
             "levels_shuffled:64 levels_shuffled:128 levels_shuffled:256 levels_shuffled:512 levels_shuffled:1024 " \
             "levels_dualcasts:64 levels_dualcasts:1024 levels_one_source:1024 levels_many_cells:1024 " \
             "levels_chain:1024 waves_in_order:1024 waves_chain:1024 ring_push:1024 seat_submit:1024 ring_pop:1024 " \
-            "seat_poll:1024 round_no_ops:1024 clients_list:128 clients_round:128 clients_whole:128", row)
+            "seat_poll:1024 round_no_ops:1024 clients_list:128 clients_round:128 clients_whole:128 " \
+            "log_kept:800 log_taken:800", row)
         for (n = 1; n <= rows; n++) {
             split(row[n], part, ":")
             printf "%-24s %9d %12.1f\n", part[1], part[2], middle(part[1], part[2])
@@ -186,5 +187,6 @@ awk '
         bar("round of 128 no-ops, in nanoseconds a job", middle("round_no_ops", 1024) / 1024, 150)
         bar("round of eight clients, of the list", ratio("clients_round", "clients_list", 128), 1.3)
         bar("the same with submits and polls, of the list", ratio("clients_whole", "clients_list", 128), 1.3)
+        atleast("rounds with the log taken off, of those that keep it", ratio("log_kept", "log_taken", 800), 1.5)
         exit missed
     }' "$work/times"

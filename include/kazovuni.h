@@ -35,12 +35,13 @@ extern "C" {
  * This header's version: the major number in the upper 16 bits, the minor one in the lower. A library fits where its
  * kazovuni_version() has the same major number, and is no less.
  */
-#define KAZOVUNI_VERSION UINT32_C(0x00010001)
+#define KAZOVUNI_VERSION UINT32_C(0x00010002)
 
 #define KAZOVUNI_DESCRIPTOR_BYTES 64
 #define KAZOVUNI_RECORD_BYTES 32
 #define KAZOVUNI_PAGE_BYTES 4096
 #define KAZOVUNI_MOST_PAGES 4096
+#define KAZOVUNI_MOST_WHOLE_PAGES UINT32_C(4294967295) /* of memory in one piece */
 
 #define KAZOVUNI_MOST_STAGING UINT32_C(16777216)
 
@@ -54,7 +55,7 @@ extern "C" {
 /* What a call answers. Whatever is not KAZOVUNI_OK, nothing was changed. */
 enum {
     KAZOVUNI_OK = 0,
-    KAZOVUNI_NOT_PAGES = 1,    /* the bytes are not 1 to 4,096 whole pages of 4,096 */
+    KAZOVUNI_NOT_PAGES = 1,    /* the bytes are not 1 to 4,096 whole pages of 4,096; in one piece: 1 to 2^32 - 1 */
     KAZOVUNI_NO_MEMORY = 2,    /* malloc gave no memory */
     KAZOVUNI_NOT_AS_MANY = 3,  /* there are not as many records as descriptors */
     KAZOVUNI_NO_ENGINE = 4,    /* the handle has no engine */
@@ -187,8 +188,8 @@ uint8_t kazovuni_apply_delta(
  * the bytes begin at address 0, all of their pages are present, and no other page is. A refused job changes no byte.
  * `staging` is the most that a job may need (kazovuni_need): above it the job is refused with
  * KAZOVUNI_STATUS_STAGING_REFUSED. At most 16 MiB are passed, a window of what is larger, and all ranges of the job
- * have to lie in it: docs/C.md says what is left to do where they do not. Neither the descriptor nor the record may lie
- * in the bytes. KAZOVUNI_NOT_PAGES, or KAZOVUNI_NO_MEMORY.
+ * have to lie in it: where they do not, kazovuni_submit_whole takes all of it, and docs/C.md says what else is left to
+ * do. Neither the descriptor nor the record may lie in the bytes. KAZOVUNI_NOT_PAGES, or KAZOVUNI_NO_MEMORY.
  */
 uint8_t kazovuni_submit_over(
     uint8_t *bytes, size_t length, const uint8_t descriptor[64], uint32_t staging, uint8_t record[32]);
@@ -212,6 +213,25 @@ uint8_t kazovuni_submit_list_over(
 uint8_t kazovuni_submit_pointers(
     uint64_t base, uint8_t *bytes, size_t length, const uint8_t descriptor[64], uint32_t staging,
     uint8_t record[32]);
+
+/*
+ * As kazovuni_submit_over, over memory in one piece of any size: 1 to 2^32 - 1 whole pages, so the ranges of a job may
+ * lie anywhere in it, however far apart. A call goes over the ranges of its job alone, so its work does not grow with
+ * the size; pages that no cache holds cost what they cost memmove, and some nanoseconds more. Memory that is mapped to
+ * be read and written, and was not touched yet, may be passed. All of it is the library's alone until the call returns,
+ * as said above: no other thread, no processor of a guest and no device may read or write a byte of it meanwhile.
+ * KAZOVUNI_NOT_PAGES, or KAZOVUNI_NO_MEMORY.
+ */
+uint8_t kazovuni_submit_whole(
+    uint8_t *bytes, size_t length, const uint8_t descriptor[64], uint32_t staging, uint8_t record[32]);
+
+/*
+ * As kazovuni_submit_list_over, over memory in one piece of any size: KAZOVUNI_NOT_PAGES, KAZOVUNI_NOT_AS_MANY, or
+ * KAZOVUNI_NO_MEMORY.
+ */
+uint8_t kazovuni_submit_list_whole(
+    uint8_t *bytes, size_t length, const uint8_t *descriptors, size_t jobs, uint32_t staging, uint8_t *records,
+    size_t answers);
 
 /*
  * Makes an engine with an image of so many pages, all absent, and takes its staging: KAZOVUNI_HAS_ENGINE,

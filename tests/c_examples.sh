@@ -63,12 +63,17 @@ compiled() {
 
 # ---- the worked rows
 
+# left_out: what the program that ran last says that it left out, for want of memory that the system reserves
+left_out() {
+    sed -n 's/.* left out$/c_examples: &/p' "$work/out"
+}
+
 # try_rows COMPILER
 try_rows() {
     compiled table "$1" -std=c11 tests/c/table.c &&
-        passes "the rows by $1 on the library of $kit" "$work/table" tests/c/table.rows
+        passes "the rows by $1 on the library of $kit" "$work/table" tests/c/table.rows && left_out
     compiled calls "$1" -std=c11 tests/c/table_calls.c &&
-        passes "the calls by $1 on the library of $kit" "$work/calls"
+        passes "the calls by $1 on the library of $kit" "$work/calls" && left_out
     compiled refused "$1" -std=c11 -Wl,--wrap=malloc,--wrap=realloc,--wrap=free tests/c/table_refused.c &&
         passes "the refused growths by $1 on the library of $kit" "$work/refused"
 }

@@ -9,9 +9,9 @@
 # behind its backslashes, and the lines after it are what it prints, on both outputs. Each block begins in a new folder
 # with links to dmljob, examples, conformance and tests. A line of a block fenced as ```sh, or indented by four blanks,
 # is a command that is not run here; what it calls has to exist, and a run of dmljob among them has to succeed. A block
-# fenced as ```rust is the file that the page has named last, crates/NAME/src/main.rt, and the first block behind it that
-# is fenced as ```text is what the program prints: its file stdout, which the gate compares with each run. All other such
-# blocks are pictures and forms. Every other fence is refused.
+# fenced as ```rust is the file that the page has named last, crates/example_NAME/src/main.rt or a module beside it, and
+# the first block behind it that is fenced as ```text is what the program prints: its file stdout, which the gate
+# compares with each run. All other such blocks are pictures and forms. Every other fence is refused.
 top=$(cd "$(dirname "$0")/.." && pwd) || exit 2
 if [ ! -x "$top/crates/dmljob/out/dmljob" ]; then
     echo "guide: crates/dmljob/out/dmljob is missing: run rt ci first" >&2
@@ -55,7 +55,7 @@ cut() {
             next
         }
         /^```/ { inside = 0; shown = ""; next }
-        !inside && match($0, /crates\/[a-z_]*\/src\/main\.rt/) { named = substr($0, RSTART, RLENGTH) }
+        !inside && match($0, /crates\/example_[a-z_]*\/src\/[a-z_]*\.rt/) { named = substr($0, RSTART, RLENGTH) }
         shown != "" { print >shown }
         inside && kind == "console" {
             print >block
@@ -195,10 +195,10 @@ for page in README.md docs/GUIDE.md; do
         commands=$((commands + 1))
     done <"$work/blocks/others"
 done
-for program in "$top"/crates/example_*/src/main.rt; do
+for program in "$top"/crates/example_*/src/*.rt; do
     file=${program#"$top"/}
     [ "${1:-}" = write ] || grep -qx -e "$file" "$work/programs" || complain "docs/GUIDE.md does not show $file"
-    [ "$(wc -l <"$program")" -lt 60 ] || complain "$file: 60 lines or more"
+    [ "${file##*/}" != main.rt ] || [ "$(wc -l <"$program")" -lt 60 ] || complain "$file: 60 lines or more"
 done
 
 links=0

@@ -54,14 +54,16 @@ take_none='dml_image:refused_second_bring dml_engine:refused_submit dml_engine:r
 # The tests that make nothing before their call.
 make_nothing='dml_arena:refused_new dml_image:refused_new dml_grammar:refused_read_script dml_script:refused_job_text
 dml_script:refused_out_text_of_a_job dml_script:refused_out_text_of_a_batch dml_script:refused_push_byte
-dml_script:refused_run_script dml_command:refused_command_of dml_command:refused_parse_words dmljob:refused_description'
+dml_script:refused_run_script dml_command:refused_command_of dml_command:refused_parse_words dmljob:refused_description
+dml_engine:refused_run_list_over dml_engine:refused_run_batch_over'
 
 # The tests that make before their call what another one makes: TEST=SET_UP.
 share_set_up='dml_core:refused_made_rows_by_steps=made_rows dml_engine:refused_bring=submit
 dml_engine:refused_second_bring=submit dml_engine:refused_list_alone=submit dml_engine:refused_batch_alone=submit
 dml_engine:refused_submit_into=submit_on_workers dml_engine:refused_submit_list=submit_on_workers
 dml_engine:refused_submit_batch=submit_on_workers dml_engine:refused_waves_of_a_batch=waves
-dml_engine:refused_later_growths_of_a_batch=later_growths dml_pool:refused_run_wave_of_three=run_wave
+dml_engine:refused_later_growths_of_a_batch=later_growths
+dml_engine:refused_run_batch_over_on_workers=run_list_over_on_workers dml_pool:refused_run_wave_of_three=run_wave
 dml_wave:refused_carry_out_wave_of_three=carry_out_wave dml_command:refused_read_request=parse_arguments'
 
 # The tests of lists and batches that take no want of memory for an answer. The last growth of their set-up is the list
@@ -395,6 +397,29 @@ ended 1025 1025
 ended 1026 1026
 ended 1027 1027
 
+# ---- a server that drops its log under a limit on all memory
+
+portal_tests=crates/dml_portal_tests/out/dml_portal_tests_tests
+
+# dropped BYTES LEAST MOST: with so many bytes left behind its first round, a server that stays up serves all its
+# rounds, dropping its log at least and at most so often
+dropped() {
+    log_test=tests::staying_growths::log_dropped_under_a_limit
+    before=$(growths "$portal_tests" "tests::staying_growths::set_up_of_${log_test##*:}")
+    REFUSE_ABOVE=$1 REFUSE_FROM=$((before + 1)) REFUSE_LOG=$work/log LD_PRELOAD=$work/refuse.so \
+        "$portal_tests" "$log_test" >"$work/out" 2>&1 </dev/null ||
+        complain "a log dropped under a limit: with $1 bytes: fails: $(cat "$work/out")"
+    times=$(sed -n 's/.*dropped \([0-9]*\) times.*/\1/p' "$work/out")
+    [ "${times:-0}" -ge "$2" ] && [ "${times:-0}" -le "$3" ] ||
+        complain "a log dropped under a limit: with $1 bytes: ${times:-not} times, and not $2 to $3"
+    printf 'refusals: dml_portal, with %s bytes left the log is dropped %s times\n' "$1" "${times:-no}"
+}
+
+dropped 0 400 400
+dropped 100000 1 399
+dropped 1000000 1 99
+dropped 100000000 0 0
+
 # ---- the program
 
 printf 'image 2\npage 0 0102\npoke 4 ff\nnoop\nfill 7 8 16\nmove 0 4 16\ndualcast 0 64 4160 8\nraw %0128d\nshow 0 32\n' 0 >"$work/small.script"
@@ -463,7 +488,8 @@ rows() {
 }
 
 # Of a library's files, lib.rt first: the exported calls that take an allocator or answer an error, which may be want of
-# memory, a method behind the name of its type; of the library for C only what is exported to C.
+# memory, a method behind the name of its type, or of an exported alias of that; of the library for C only what is
+# exported to C.
 calls() {
     awk -v for_c="$([ "$1" = dml_c ] && echo 1)" '
         FNR == 1 { type = "" }
@@ -476,6 +502,11 @@ calls() {
             }
             if (/;/) is_use = 0
         }
+        /^pub type / {
+            short = $3; sub(/[^A-Za-z0-9_].*/, "", short)
+            long = $0; sub(/^.* = /, "", long); sub(/[^A-Za-z0-9_].*/, "", long)
+            if (short in exported) alias[long] = short
+        }
         /^impl/ {
             type = $0; sub(/^impl(<[^>]*>)? /, "", type); sub(/^.* for /, "", type); sub(/[^A-Za-z0-9_].*/, "", type)
         }
@@ -486,10 +517,16 @@ calls() {
             is_inside = 1
         }
         is_inside && /alloc: Global|Result<.*[A-Za-z]Error>/ {
-            if (is_exported) print is_method ? type "::" name : name
+            if (is_exported) { types[++calls] = is_method ? type : ""; names[calls] = name }
             is_inside = 0
         }
         is_inside && /^ *(\{|requires|ensures)|\{ *$|;$/ { is_inside = 0 }
+        END {
+            for (i = 1; i <= calls; i++) {
+                type = types[i] in alias ? alias[types[i]] : types[i]
+                print type ? type "::" names[i] : names[i]
+            }
+        }
     ' "crates/$1/src/lib.rt" $(find "crates/$1/src" -name '*.rt' ! -name lib.rt ! -path '*tests*' | sort)
 }
 

@@ -1,8 +1,9 @@
 #!/bin/sh
-# Counts the threads that `dmljob run`, a list of an engine and a round of a portal start, by tests/started.c: no gate is
-# given there, and no answer and no contract tells how many workers a list or a batch had. Where the system has no thread
-# left, the answers are the same. Works on the program and on the tests of dml_engine and dml_portal that the gate leaves
-# in crates/NAME/out; `check` calls it. Needs the GNU C library, timeout, and a C compiler (CC, or cc).
+# Counts the threads that `dmljob run`, a list of an engine, lists and batches over lent memory and a round of a portal
+# start, by tests/started.c: no gate is given there, and no answer and no contract tells how many workers a list or a
+# batch had. Where the system has no thread left, the answers are the same. Works on the program and on the tests of
+# dml_engine and dml_portal that the gate leaves in crates/NAME/out; `check` calls it. Needs the GNU C library, timeout,
+# and a C compiler (CC, or cc).
 cd "$(dirname "$0")/.." || exit 2
 work=$(mktemp -d) || exit 2
 trap 'rm -rf "$work"' EXIT
@@ -155,6 +156,11 @@ test_of 0 "$portals" tests::round_of_128
 # So is one of the caller that takes its records from the engine: eight compares of 1 MiB share 7,995,392 bytes, which
 # pay for the four workers that there may be, ten times over.
 test_of 30 "$engines" tests::lists::large_compares
+# A list and a batch over lent memory, without an engine: their first wave pays for no second worker, and the four
+# compares behind it share 3,997,696 bytes, which pay for four. Of 1, 2 and 16 workers, one after another, 0, 1 and 3
+# are started.
+test_of 4 "$engines" tests::pieces::list_on_workers_over_one_piece
+test_of 4 "$engines" tests::pieces::batch_on_workers_over_one_piece
 # Each wave of a list is judged by itself: the fills between the compares share nothing, and those behind them pay again.
 twice >"$work/jobs"
 expect 6 4 1048576 8 'four compares, fills into their sources, and four compares' <"$work/jobs"

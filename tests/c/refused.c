@@ -27,6 +27,16 @@ static uint8_t by_pointers(void)
     return kazovuni_submit_pointers(0, bytes, sizeof bytes, descriptor[0], 4096, record[0]);
 }
 
+static uint8_t in_one_piece(void)
+{
+    return kazovuni_submit_whole(bytes, sizeof bytes, descriptor[0], 4096, record[0]);
+}
+
+static uint8_t as_a_list_in_one_piece(void)
+{
+    return kazovuni_submit_list_whole(bytes, sizeof bytes, descriptor[0], 1, 4096, record[0], 1);
+}
+
 static uint8_t create(void)
 {
     return kazovuni_create(&engine, 2, 4096);
@@ -66,7 +76,7 @@ static const struct {
 };
 enum { UNSTAGED = sizeof unstaged / sizeof unstaged[0] };
 
-/* Each of them alone and by pointers, and all of them as a list. */
+/* Each of them alone, by pointers and in one piece, and all of them as a list of both kinds. */
 static uint8_t without_staging(void)
 {
     uint8_t descriptors[UNSTAGED][64], records[UNSTAGED][32];
@@ -76,20 +86,28 @@ static uint8_t without_staging(void)
         if (kazovuni_submit_over(bytes, sizeof bytes, job, 4096, record[0]) != KAZOVUNI_OK ||
             record[0][0] != unstaged[i].status ||
             kazovuni_submit_pointers(0, bytes, sizeof bytes, job, 4096, record[0]) != KAZOVUNI_OK ||
+            record[0][0] != unstaged[i].status ||
+            kazovuni_submit_whole(bytes, sizeof bytes, job, 4096, record[0]) != KAZOVUNI_OK ||
             record[0][0] != unstaged[i].status)
             return KAZOVUNI_NO_MEMORY;
     }
-    uint8_t answer =
-        kazovuni_submit_list_over(bytes, sizeof bytes, descriptors[0], UNSTAGED, 4096, records[0], UNSTAGED);
-    for (size_t i = 0; i < UNSTAGED; i++)
-        if (records[i][0] != unstaged[i].status)
+    for (int whole = 0; whole < 2; whole++) {
+        memset(records, 0xcc, sizeof records);
+        if ((whole ? kazovuni_submit_list_whole : kazovuni_submit_list_over)(
+                bytes, sizeof bytes, descriptors[0], UNSTAGED, 4096, records[0], UNSTAGED) != KAZOVUNI_OK)
             return KAZOVUNI_NO_MEMORY;
-    return answer;
+        for (size_t i = 0; i < UNSTAGED; i++)
+            if (records[i][0] != unstaged[i].status)
+                return KAZOVUNI_NO_MEMORY;
+    }
+    return KAZOVUNI_OK;
 }
 
 int main(int count, char **words)
 {
-    static uint8_t (*const calls[])(void) = {over_pages, as_a_list, by_pointers, create, bring, again, without_staging};
+    static uint8_t (*const calls[])(void) = {
+        over_pages, as_a_list, by_pointers, in_one_piece, as_a_list_in_one_piece, create, bring, again,
+        without_staging};
     int wanted = count > 1 ? atoi(words[1]) : 0, refused = 0;
     descriptor[0][7] = 0x07;
     descriptor[0][24] = 8;

@@ -1,7 +1,7 @@
 /*
  * Worked rows through kazovuni.h: over the caller's own pages by offsets, by the caller's own pointers and as a list of
- * one, and over an image behind a handle, alone and as a list of one. What the record and every byte have to be stands
- * in the table.
+ * one; over the same in one piece of any size, alone and as a list of one; and over an image behind a handle, alone and
+ * as a list of one. What the record and every byte have to be stands in the table.
  */
 #include "kazovuni.h"
 
@@ -148,9 +148,10 @@ static void expect(uint8_t record[32], const row *row, uint64_t base)
     put(record + 16, row->delta_size, 4);
 }
 
-enum form { BY_OFFSETS, AS_A_LIST, BY_POINTERS, BY_HANDLE, AS_A_LIST_BY_HANDLE };
+enum form { BY_OFFSETS, AS_A_LIST, BY_POINTERS, IN_ONE_PIECE, AS_A_LIST_IN_ONE_PIECE, BY_HANDLE, AS_A_LIST_BY_HANDLE };
 static const char *const form_names[] = {
-    "by offsets", "as a list", "by pointers", "by a handle", "as a list by a handle"};
+    "by offsets", "as a list", "by pointers", "in one piece", "as a list in one piece", "by a handle",
+    "as a list by a handle"};
 
 /* An engine with these bytes as its pages; the program ends where there is none. */
 static void open_over(kazovuni_engine *engine, const uint8_t *bytes, size_t pages)
@@ -204,6 +205,12 @@ static void try_row(const row *row, enum form form)
     case BY_POINTERS:
         answer = kazovuni_submit_pointers(base, bytes, length, descriptor[0], STAGING, records[0]);
         break;
+    case IN_ONE_PIECE:
+        answer = kazovuni_submit_whole(bytes, length, descriptor[0], STAGING, records[0]);
+        break;
+    case AS_A_LIST_IN_ONE_PIECE:
+        answer = kazovuni_submit_list_whole(bytes, length, descriptor[0], 1, STAGING, records[0], 1);
+        break;
     default:
         answer = submit_by_handle(bytes, length, form, descriptor, records);
     }
@@ -228,13 +235,18 @@ static void try_codes(void)
     if (kazovuni_submit_over(bytes, sizeof bytes, descriptors[0], 0, records[0]) != KAZOVUNI_NOT_PAGES ||
         kazovuni_submit_over(bytes, 0, descriptors[0], 0, records[0]) != KAZOVUNI_NOT_PAGES ||
         kazovuni_submit_list_over(bytes, sizeof bytes, list, 2, 0, records[0], 2) != KAZOVUNI_NOT_PAGES ||
-        kazovuni_submit_pointers(0, bytes, sizeof bytes, descriptors[0], 0, records[0]) != KAZOVUNI_NOT_PAGES)
+        kazovuni_submit_pointers(0, bytes, sizeof bytes, descriptors[0], 0, records[0]) != KAZOVUNI_NOT_PAGES ||
+        kazovuni_submit_whole(bytes, sizeof bytes, descriptors[0], 0, records[0]) != KAZOVUNI_NOT_PAGES ||
+        kazovuni_submit_whole(bytes, 0, descriptors[0], 0, records[0]) != KAZOVUNI_NOT_PAGES ||
+        kazovuni_submit_list_whole(bytes, sizeof bytes, list, 2, 0, records[0], 2) != KAZOVUNI_NOT_PAGES)
         complain("bytes that are no pages", "all forms", "the answer");
-    if (kazovuni_submit_list_over(bytes, KAZOVUNI_PAGE_BYTES, list, 2, 0, records[0], 1) != KAZOVUNI_NOT_AS_MANY)
+    if (kazovuni_submit_list_over(bytes, KAZOVUNI_PAGE_BYTES, list, 2, 0, records[0], 1) != KAZOVUNI_NOT_AS_MANY ||
+        kazovuni_submit_list_whole(bytes, KAZOVUNI_PAGE_BYTES, list, 2, 0, records[0], 1) != KAZOVUNI_NOT_AS_MANY)
         complain("a record too few", "as a list", "the answer");
     if (memcmp(records, before, sizeof records) != 0)
         complain("wrong calls", "all forms", "a record was written");
-    if (kazovuni_submit_list_over(bytes, KAZOVUNI_PAGE_BYTES, NULL, 0, 0, NULL, 0) != KAZOVUNI_OK)
+    if (kazovuni_submit_list_over(bytes, KAZOVUNI_PAGE_BYTES, NULL, 0, 0, NULL, 0) != KAZOVUNI_OK ||
+        kazovuni_submit_list_whole(bytes, KAZOVUNI_PAGE_BYTES, NULL, 0, 0, NULL, 0) != KAZOVUNI_OK)
         complain("an empty list", "as a list", "the answer");
     if (kazovuni_version() != KAZOVUNI_VERSION)
         complain("the version", "of the library", "is not the header's");
@@ -417,6 +429,11 @@ static void try_list(void)
     if (kazovuni_submit_list_over(bytes, sizeof bytes, descriptors[0], 2, 0, records[0], 2) != KAZOVUNI_OK ||
         memcmp(records, wanted, sizeof wanted) != 0)
         complain("a list of two", "as a list", "the records");
+    memset(bytes, 0, sizeof bytes);
+    memset(records, 0xcc, sizeof records);
+    if (kazovuni_submit_list_whole(bytes, sizeof bytes, descriptors[0], 2, 0, records[0], 2) != KAZOVUNI_OK ||
+        memcmp(records, wanted, sizeof wanted) != 0)
+        complain("a list of two", "as a list in one piece", "the records");
 }
 
 /* Descriptors and records from their fields and back, and what is left after a page fault. */

@@ -1,8 +1,13 @@
 /*
- * The worked rows of tests/c/table.rows through kazovuni.h, in five forms: over pages of an engine's own, job by job
- * and as lists of jobs; and over lent memory, job by job, as lists, and by pointers. Behind each call the records and
- * every byte have to be the row's. Lent memory has all of its pages present, so there a row is run whose present pages
- * are its first ones; the pages before and behind them are not mapped.
+ * The worked rows of tests/c/table.rows through kazovuni.h: over pages of an engine's own, job by job and as lists of
+ * jobs; over lent memory, job by job, as lists, and by pointers; and in one piece, job by job and as lists. Behind each
+ * call the records and every byte have to be the row's. Lent memory has all of its pages present, so there a row is run
+ * whose present pages are its first ones; the pages before and behind them are not mapped.
+ *
+ * A piece has the row's pages alone, or lies before them too, up to the far end of 5 GiB, or up to the line of 4 GiB,
+ * which then runs through the row: by a page at a time, and by 8 bytes at a time where the row meets no page fault and
+ * so may have memory behind it. The addresses of jobs and of faults are moved as far. Such a piece is reserved, and
+ * touched by the row alone; where the system reserves none, a line says so.
  *
  * Usage: table FILE
  */
@@ -15,7 +20,9 @@
 #include <string.h>
 #include <sys/mman.h>
 
-enum { PAGE = KAZOVUNI_PAGE_BYTES, MOST_LINES = 2000, MOST_JOBS = 16, ROWS = 32, LENT_ROWS = 23 };
+#define GIB (UINT64_C(1) << 30)
+
+enum { PAGE = KAZOVUNI_PAGE_BYTES, MOST_LINES = 2000, MOST_JOBS = 16, ROWS = 32, LENT_ROWS = 23, STEP = 8 };
 enum { NO_OP = 0x00, FILL = 0x04, COMPARE_PATTERN = 0x06, CREATE = 0x07, DUALCAST = 0x09 };
 
 static int failed;
@@ -108,35 +115,74 @@ static void read_lines(const char *name)
 
 /* ---- a memory in one of the forms, and what it has to hold */
 
-enum form { OWN, OWN_LIST, LENT, LENT_LIST, POINTERS, FORMS };
+enum form { OWN, OWN_LIST, LENT, LENT_LIST, POINTERS, WHOLE, WHOLE_LIST, FAR, FAR_LIST, LINE, LINE_LIST, FORMS };
 static const char *const form_names[FORMS] = {
-    "on own pages", "as a list on own pages", "over lent memory", "as a list over lent memory", "by pointers"};
+    "on own pages", "as a list on own pages", "over lent memory", "as a list over lent memory", "by pointers",
+    "in one piece", "as a list in one piece", "at the end of 5 GiB", "as a list at the end of 5 GiB",
+    "over the line of 4 GiB", "as a list over the line of 4 GiB"};
+
+/* Where a row lies in its piece: how many bytes stand before it, and how many the piece has at least. */
+typedef struct place {
+    uint64_t from, least;
+} place;
 
 typedef struct memory {
     enum form form;
     uint32_t pages, staging;
     kazovuni_engine engine;
-    uint8_t *lent, *wanted; /* as many pages, and one that is not mapped before and behind */
-    size_t length;          /* of the lent bytes that are mapped */
+    place place;
+    size_t reserved, mapped; /* of the piece; one page before it and one behind it are not mapped */
+    uint8_t *piece, *lent;   /* the row's pages are the last ones, or lie in it */
+    uint8_t *wanted;         /* as many pages */
+    size_t length;           /* of the row's bytes that are mapped */
     bool present[KAZOVUNI_MOST_PAGES];
 } memory;
 
-static uint8_t *map(size_t pages, int protection)
+static bool is_list(enum form form)
 {
-    uint8_t *bytes = mmap(NULL, (pages + 2) * PAGE, PROT_NONE, MAP_PRIVATE | MAP_ANONYMOUS | MAP_NORESERVE, -1, 0);
-    if (bytes == MAP_FAILED || mprotect(bytes + PAGE, pages * PAGE, protection) != 0)
-        give_up(0, "no memory");
-    return bytes + PAGE;
+    return form == OWN_LIST || form == LENT_LIST || form == WHOLE_LIST || form == FAR_LIST || form == LINE_LIST;
 }
 
-static void open_memory(memory *memory, const line *line, enum form form)
+/* Reserves so many bytes, of which the first are mapped; NULL where the system gives none. */
+static uint8_t *reserve(size_t bytes, size_t mapped)
 {
+    uint8_t *start = mmap(NULL, bytes + 2 * PAGE, PROT_NONE, MAP_PRIVATE | MAP_ANONYMOUS | MAP_NORESERVE, -1, 0);
+    if (start == MAP_FAILED)
+        return NULL;
+    if (mprotect(start + PAGE, mapped, PROT_READ | PROT_WRITE) == 0)
+        return start + PAGE;
+    munmap(start, bytes + 2 * PAGE);
+    return NULL;
+}
+
+static void give_back(uint8_t *start, size_t bytes)
+{
+    munmap(start - PAGE, bytes + 2 * PAGE);
+}
+
+static bool has_room(void)
+{
+    uint8_t *piece = reserve(5 * GIB, 5 * GIB);
+    if (piece)
+        give_back(piece, 5 * GIB);
+    return piece != NULL;
+}
+
+static void open_memory(memory *memory, const line *line, enum form form, place place)
+{
+    size_t own = line->numbers[0] * PAGE;
     memset(memory, 0, sizeof *memory);
     memory->form = form;
     memory->pages = (uint32_t)line->numbers[0];
     memory->staging = (uint32_t)line->numbers[1];
-    memory->lent = map(memory->pages, PROT_NONE);
-    memory->wanted = map(memory->pages, PROT_READ | PROT_WRITE);
+    memory->place = place;
+    memory->reserved = place.least > place.from + own ? place.least : place.from + own;
+    memory->mapped = place.least > place.from ? place.least : place.from;
+    memory->piece = reserve(memory->reserved, memory->mapped);
+    memory->wanted = reserve(own, own);
+    if (!memory->piece || !memory->wanted)
+        give_up(line->number, "no memory");
+    memory->lent = memory->piece + place.from;
     if (form <= OWN_LIST && kazovuni_create(&memory->engine, memory->pages, memory->staging) != KAZOVUNI_OK)
         complain(line->number, form_names[form], "no engine");
 }
@@ -144,8 +190,15 @@ static void open_memory(memory *memory, const line *line, enum form form)
 static void close_memory(memory *memory)
 {
     kazovuni_free(&memory->engine);
-    munmap(memory->lent - PAGE, ((size_t)memory->pages + 2) * PAGE);
-    munmap(memory->wanted - PAGE, ((size_t)memory->pages + 2) * PAGE);
+    give_back(memory->piece, memory->reserved);
+    give_back(memory->wanted, (size_t)memory->pages * PAGE);
+}
+
+/* How many bytes of the piece are passed: it ends behind the row's pages, or goes on behind them. */
+static size_t piece_length(const memory *memory)
+{
+    size_t end = memory->place.from + memory->length;
+    return memory->place.least > end ? memory->place.least : end;
 }
 
 static void bring(memory *memory, const line *line, uint64_t page)
@@ -159,7 +212,7 @@ static void bring(memory *memory, const line *line, uint64_t page)
             complain(line->number, form_names[memory->form], "the page is not brought");
         return;
     }
-    if (mprotect(lent, PAGE, PROT_READ | PROT_WRITE) != 0)
+    if (lent >= memory->piece + memory->mapped && mprotect(lent, PAGE, PROT_READ | PROT_WRITE) != 0)
         give_up(line->number, "no memory");
     memcpy(lent, wanted, PAGE);
     memory->length = page * PAGE < memory->length ? memory->length : (page + 1) * PAGE;
@@ -174,11 +227,24 @@ static void poke(memory *memory, const line *line)
         complain(line->number, form_names[memory->form], "nothing is written");
 }
 
+/* Whether nothing is written where an address would lie that has lost its upper half. */
+static bool is_clear_below(const memory *memory)
+{
+    uint64_t places[] = {0, memory->place.from % (4 * GIB)};
+    for (size_t i = 0; i < 2; i++) {
+        const uint8_t *bytes = memory->piece + places[i];
+        size_t length = memory->length;
+        if (places[i] + length <= memory->place.from && (bytes[0] != 0 || memcmp(bytes, bytes + 1, length - 1) != 0))
+            return false;
+    }
+    return true;
+}
+
 /* Whether every byte is the wanted one, and every other page absent. */
 static bool is_as_wanted(memory *memory)
 {
     if (memory->form > OWN_LIST)
-        return memcmp(memory->lent, memory->wanted, memory->length) == 0;
+        return memcmp(memory->lent, memory->wanted, memory->length) == 0 && is_clear_below(memory);
     for (size_t page = 0; page < memory->pages; page++) {
         uint8_t bytes[PAGE];
         size_t length = memory->present[page] ? PAGE : 1;
@@ -212,25 +278,35 @@ static bool is_fault(const uint8_t record[32])
     return record[0] == 0x03 || record[0] == 0x83;
 }
 
+/* Puts the base on an address. In a piece one near 2^64 stays where it is: past the end of every memory. */
+static void move_address(uint8_t *address, uint64_t base, bool is_pointer)
+{
+    if (is_pointer || address[7] == 0)
+        add_to(address, base);
+}
+
 /* Puts the base on the addresses of a descriptor, and on the address of a page fault. */
-static void lay_at(uint64_t base, uint8_t descriptor[64], uint8_t record[32])
+static void lay_at(uint64_t base, bool is_pointer, uint8_t descriptor[64], uint8_t record[32])
 {
     uint8_t opcode = descriptor[7];
     if (opcode != NO_OP && opcode != FILL)
-        add_to(descriptor + 16, base);
+        move_address(descriptor + 16, base, is_pointer);
     if (opcode != NO_OP && opcode != COMPARE_PATTERN)
-        add_to(descriptor + 24, base);
+        move_address(descriptor + 24, base, is_pointer);
     if (opcode == CREATE || opcode == DUALCAST)
-        add_to(descriptor + 40, base);
+        move_address(descriptor + 40, base, is_pointer);
     if (is_fault(record))
-        add_to(record + 8, base);
+        move_address(record + 8, base, is_pointer);
 }
 
 static uint8_t submit(memory *memory, jobs *jobs)
 {
     const uint8_t *descriptors = jobs->descriptors[0];
     uint8_t *records = jobs->records[0];
-    uint64_t base = (uintptr_t)memory->lent;
+    bool is_pointer = memory->form == POINTERS;
+    uint64_t base = is_pointer ? (uintptr_t)memory->lent : memory->place.from;
+    for (size_t i = 0; i < jobs->count; i++)
+        lay_at(base, is_pointer, jobs->descriptors[i], jobs->wanted[i]);
     switch (memory->form) {
     case OWN:
         return kazovuni_submit(&memory->engine, descriptors, records);
@@ -241,9 +317,15 @@ static uint8_t submit(memory *memory, jobs *jobs)
     case LENT_LIST:
         return kazovuni_submit_list_over(
             memory->lent, memory->length, descriptors, jobs->count, memory->staging, records, jobs->count);
-    default:
-        lay_at(base, jobs->descriptors[0], jobs->wanted[0]);
+    case POINTERS:
         return kazovuni_submit_pointers(base, memory->lent, memory->length, descriptors, memory->staging, records);
+    case WHOLE:
+    case FAR:
+    case LINE:
+        return kazovuni_submit_whole(memory->piece, piece_length(memory), descriptors, memory->staging, records);
+    default:
+        return kazovuni_submit_list_whole(
+            memory->piece, piece_length(memory), descriptors, jobs->count, memory->staging, records, jobs->count);
     }
 }
 
@@ -275,7 +357,7 @@ static void try_looks(const jobs *jobs, const line *about, const line *end, uint
 /* Takes the jobs from a line on, of a list all that follow one another; answers the line behind them. */
 static const line *take_jobs(jobs *jobs, memory *memory, const line *at, const line *end)
 {
-    size_t most = memory->form == OWN_LIST || memory->form == LENT_LIST ? MOST_JOBS : 1;
+    size_t most = is_list(memory->form) ? MOST_JOBS : 1;
     memset(jobs, 0, sizeof *jobs);
     memset(jobs->records, 0xcc, sizeof jobs->records);
     for (; at < end && at->word >= JOB; at++) {
@@ -329,13 +411,13 @@ static bool fits_lent(const line *at, const line *end)
     return true;
 }
 
-static void run_row(const line *row, const line *end, enum form form)
+static void run_row(const line *row, const line *end, enum form form, place place)
 {
     static memory memory;
     const line *at = row + 2;
     if (end - row < 2 || row[1].word != MEMORY)
         give_up(row->number, "the row has no memory");
-    open_memory(&memory, row + 1, form);
+    open_memory(&memory, row + 1, form, place);
     while (at < end) {
         switch (at->word) {
         case BRING:
@@ -359,24 +441,54 @@ static void run_row(const line *row, const line *end, enum form form)
     close_memory(&memory);
 }
 
+/* A row that fits lent memory, laid over the line of 4 GiB; answers how often. */
+static size_t run_over_line(const line *row, const line *end)
+{
+    size_t times = 0;
+    bool meets_fault = false;
+    uint64_t present = 0;
+    for (const line *at = row; at < end; at++) {
+        meets_fault |= at->word == RECORD && is_fault(at->bytes);
+        if (at->word == BRING || at->word == ZEROS)
+            present = at->numbers[at->word == ZEROS] + 1;
+    }
+    for (uint64_t page = 1; page <= present; page++, times++)
+        for (enum form form = LINE; form <= LINE_LIST; form++)
+            run_row(row, end, form, (place){4 * GIB - page * PAGE, 0});
+    for (uint64_t before = STEP; before < PAGE && !meets_fault; before += STEP, times++)
+        for (enum form form = LINE; form <= LINE_LIST; form++)
+            run_row(row, end, form, (place){4 * GIB - before, 5 * GIB});
+    return times;
+}
+
 int main(int count, char **arguments)
 {
-    size_t rows = 0, lent = 0, jobs = 0;
+    size_t rows = 0, lent = 0, jobs = 0, times = 0;
+    bool is_roomy = has_room();
     if (count != 2)
         give_up(0, "usage: table FILE");
     read_lines(arguments[1]);
     for (size_t from = 0, to; from < line_count; from = to) {
         for (to = from + 1; to < line_count && lines[to].word != ROW; to++)
             jobs += lines[to].word == JOB;
-        bool is_lent = fits_lent(lines + from, lines + to);
-        for (enum form form = OWN; form < (is_lent ? FORMS : LENT); form++)
-            run_row(lines + from, lines + to, form);
+        const line *row = lines + from, *end = lines + to;
+        bool is_lent = fits_lent(row, end);
+        for (enum form form = OWN; form < (is_lent ? FAR : LENT); form++)
+            run_row(row, end, form, (place){0, 0});
+        for (enum form form = FAR; form <= FAR_LIST && is_lent && is_roomy; form++)
+            run_row(row, end, form, (place){5 * GIB - PAGE, 0}); /* its first page is the last of the 5 GiB */
+        times += is_lent && is_roomy ? run_over_line(row, end) : 0;
         rows++;
         lent += is_lent;
     }
     if (failed)
         return 1;
-    printf("table: %zu rows of %zu jobs on own pages, %zu of the rows over lent memory\n", rows, jobs, lent);
+    printf("table: %zu rows of %zu jobs on own pages, %zu of the rows over lent memory and in one piece\n", rows, jobs,
+           lent);
+    if (is_roomy)
+        printf("table: these at the end of 5 GiB, and %zu times over the line of 4 GiB\n", times);
+    else
+        printf("table: the system reserves no 5 GiB: the rows in a piece of that size are left out\n");
     if (rows != ROWS || lent != LENT_ROWS) {
         fprintf(stderr, "table: %d rows are wanted, %d of them over lent memory\n", ROWS, LENT_ROWS);
         return 1;

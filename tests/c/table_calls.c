@@ -1,13 +1,17 @@
 /*
  * The worked rows of calls that are no jobs, through kazovuni.h: handles with and without an engine, pages and bytes at
  * the edges of an image, counts that differ, lists that are longer than one wave or one list of the program takes, and
- * NULL with a length or a number of 0. Then the largest create and the largest apply that there are, over lent memory.
+ * NULL with a length or a number of 0. Then the largest create and the largest apply that there are, over lent memory;
+ * and the largest memory in one piece, which is reserved and touched in places alone: where the system reserves none, a
+ * line says so.
  */
+#define _GNU_SOURCE
 #include "kazovuni.h"
 
 #include <stdio.h>
 #include <stdlib.h>
 #include <string.h>
+#include <sys/mman.h>
 
 enum { PAGE = KAZOVUNI_PAGE_BYTES, LONG_LIST = 1025 };
 
@@ -124,10 +128,12 @@ static void try_lists(void)
     const uint8_t *list = descriptors[0];
     kazovuni_engine engine = {0};
     EXPECT(kazovuni_create(&engine, 1, 0) == KAZOVUNI_OK);
-    for (int over = 0; over < 2; over++) {
+    for (int form = 0; form < 3; form++) {
         memset(records, 0xcc, sizeof records);
-        EXPECT((over ? kazovuni_submit_list_over(page, PAGE, list, LONG_LIST, 0, records[0], LONG_LIST)
-                     : kazovuni_submit_list(&engine, list, LONG_LIST, records[0], LONG_LIST)) == KAZOVUNI_OK);
+        EXPECT((form == 0   ? kazovuni_submit_list(&engine, list, LONG_LIST, records[0], LONG_LIST)
+                : form == 1 ? kazovuni_submit_list_over(page, PAGE, list, LONG_LIST, 0, records[0], LONG_LIST)
+                            : kazovuni_submit_list_whole(page, PAGE, list, LONG_LIST, 0, records[0], LONG_LIST)) ==
+               KAZOVUNI_OK);
         for (int i = 0; i < LONG_LIST; i++)
             EXPECT(memcmp(records[i], wanted, 32) == 0);
     }
@@ -159,6 +165,12 @@ static void try_null(void)
     EXPECT(kazovuni_submit_list_over(page, PAGE, NULL, 0, 0, NULL, 0) == KAZOVUNI_OK);
     EXPECT(kazovuni_submit_list_over(page, PAGE, NULL, 0, 0, records[0], 1) == KAZOVUNI_NOT_AS_MANY);
     EXPECT(kazovuni_submit_list_over(page, PAGE, list, 1, 0, NULL, 0) == KAZOVUNI_NOT_AS_MANY);
+    EXPECT(kazovuni_submit_whole(NULL, 0, list, 0, records[0]) == KAZOVUNI_NOT_PAGES);
+    EXPECT(kazovuni_submit_list_whole(NULL, 0, list, 1, 0, records[0], 1) == KAZOVUNI_NOT_PAGES);
+    EXPECT(kazovuni_submit_list_whole(NULL, 0, NULL, 0, 0, NULL, 0) == KAZOVUNI_NOT_PAGES);
+    EXPECT(kazovuni_submit_list_whole(page, PAGE, NULL, 0, 0, NULL, 0) == KAZOVUNI_OK);
+    EXPECT(kazovuni_submit_list_whole(page, PAGE, NULL, 0, 0, records[0], 1) == KAZOVUNI_NOT_AS_MANY);
+    EXPECT(kazovuni_submit_list_whole(page, PAGE, list, 1, 0, NULL, 0) == KAZOVUNI_NOT_AS_MANY);
     EXPECT(kazovuni_read(&engine, 0, NULL, 0) == KAZOVUNI_NO_ENGINE);
     EXPECT(kazovuni_write(&engine, 0, NULL, 0) == KAZOVUNI_NO_ENGINE);
     EXPECT(kazovuni_submit_list(&engine, NULL, 0, NULL, 0) == KAZOVUNI_NO_ENGINE);
@@ -180,7 +192,7 @@ enum { LENT_BYTES = RECORD + MOST_RECORD };
 
 static uint8_t lent[LENT_BYTES];
 
-enum lent_form { BY_OFFSETS, AS_A_LIST, BY_POINTERS, LENT_FORMS };
+enum lent_form { BY_OFFSETS, AS_A_LIST, BY_POINTERS, IN_ONE_PIECE, AS_A_LIST_IN_ONE_PIECE, LENT_FORMS };
 
 /* Submits a job whose addresses are offsets, over all lent bytes. */
 static uint8_t submit_lent(enum lent_form form, kazovuni_job job, uint32_t staging, uint8_t record[32])
@@ -197,6 +209,10 @@ static uint8_t submit_lent(enum lent_form form, kazovuni_job job, uint32_t stagi
         return kazovuni_submit_over(lent, LENT_BYTES, descriptor, staging, record);
     case AS_A_LIST:
         return kazovuni_submit_list_over(lent, LENT_BYTES, descriptor, 1, staging, record, 1);
+    case IN_ONE_PIECE:
+        return kazovuni_submit_whole(lent, LENT_BYTES, descriptor, staging, record);
+    case AS_A_LIST_IN_ONE_PIECE:
+        return kazovuni_submit_list_whole(lent, LENT_BYTES, descriptor, 1, staging, record, 1);
     default:
         return kazovuni_submit_pointers(base, lent, LENT_BYTES, descriptor, staging, record);
     }
@@ -240,6 +256,100 @@ static void try_largest(enum lent_form form)
     EXPECT(holds(second, second));
 }
 
+/* The most bytes of a piece, and a place in it whose address in 32 bits would be another one. */
+#define MOST_PIECE (KAZOVUNI_MOST_WHOLE_PAGES * UINT64_C(4096))
+#define MIDDLE ((UINT64_C(1) << 43) + 64)
+enum { MIB = 1 << 20 };
+
+/* Jobs over all of the piece, one after another, whose bytes are 0 but for 8 at 64, and what each has to answer. */
+static const struct {
+    kazovuni_job job;
+    kazovuni_record record;
+} piece_rows[] = {
+    /* from one end to the other, and to places between them */
+    {{.opcode = 0x03, .source = 64, .target = MOST_PIECE - 8, .size = 8}, {0x01, 0, 8, 0, 0}},
+    {{.opcode = 0x05, .source = 64, .target = MOST_PIECE - 8, .size = 8}, {0x01, 0, 8, 0, 0}},
+    {{.opcode = 0x09, .source = MOST_PIECE - 8, .target = MIDDLE, .extra = 8192 + 64, .size = 8}, {0x01, 0, 8, 0, 0}},
+    {{.opcode = 0x07, .source = 0, .target = MIDDLE, .extra = MIDDLE + 64, .size = 8, .delta_size = 10},
+     {0x01, 1, 8, 0, 10}},
+    {{.opcode = 0x08, .source = MIDDLE + 64, .target = 0, .size = 8, .delta_size = 10}, {0x01, 0, 10, 0, 0}},
+    {{.opcode = 0x05, .source = 0, .target = MIDDLE, .size = 16}, {0x01, 0, 16, 0, 0}},
+    {{.opcode = 0x05, .source = 0, .target = MIDDLE - 8, .size = 8}, {0x01, 1, 0, 0, 0}},
+    /* over the end, and behind it */
+    {{.opcode = 0x04, .source = 0x0807060504030201, .target = MOST_PIECE - 4, .size = 8},
+     {0x83, 0, 4, MOST_PIECE, 0}},
+    {{.opcode = 0x03, .source = 0, .target = MOST_PIECE, .size = 8}, {0x83, 0, 0, MOST_PIECE, 0}},
+    {{.opcode = 0x03, .source = MOST_PIECE - 16, .target = MOST_PIECE - 8, .size = 16},
+     {0x83, 1, 0, MOST_PIECE + 7, 0}},
+    {{.opcode = 0x04, .source = 7, .target = UINT64_C(1) << 44, .size = 8}, {0x83, 0, 0, UINT64_C(1) << 44, 0}},
+    {{.opcode = 0x04, .source = 7, .target = UINT64_C(1) << 63, .size = 8}, {0x83, 0, 0, UINT64_C(1) << 63, 0}},
+    {{.opcode = 0x06, .source = UINT64_MAX - 7, .size = 8}, {0x03, 0, 0, UINT64_MAX - 7, 0}},
+    {{.opcode = 0x06, .source = UINT64_MAX - 7, .size = 9}, {0x7d, 0, 0, 0, 0}},
+};
+enum { PIECE_ROWS = sizeof piece_rows / sizeof *piece_rows };
+
+/* What the rows leave, and that at places beside them nothing is written. */
+static void expect_left(const uint8_t *piece)
+{
+    static const uint8_t bytes[8] = {1, 2, 3, 4, 5, 6, 7, 8}, delta[10] = {0, 0, 1, 2, 3, 4, 5, 6, 7, 8}, zeros[PAGE];
+    EXPECT(memcmp(piece, bytes, 8) == 0 && memcmp(piece + 8, zeros, 56) == 0 && memcmp(piece + 64, bytes, 8) == 0);
+    EXPECT(memcmp(piece + MIDDLE, bytes, 8) == 0 && memcmp(piece + MIDDLE + 64, delta, 10) == 0);
+    EXPECT(memcmp(piece + 8192 + 64, bytes, 8) == 0);
+    EXPECT(memcmp(piece + MOST_PIECE - 8, "\1\2\3\4\1\2\3\4", 8) == 0);
+    EXPECT(memcmp(piece + MIDDLE - 64, zeros, 64) == 0 && memcmp(piece + 72, zeros, PAGE - 72) == 0);
+    EXPECT(memcmp(piece + MOST_PIECE % (UINT64_C(1) << 32), zeros, PAGE) == 0);
+}
+
+/* Calls over no whole pages, over one page more than there may be, and with a record too many: nothing is written. */
+static void try_no_piece(uint8_t *piece, const uint8_t *list)
+{
+    static uint8_t records[PIECE_ROWS + 1][32];
+    uint8_t *record = records[0];
+    memset(records, 0xcc, sizeof records);
+    EXPECT(kazovuni_submit_whole(piece, MOST_PIECE + PAGE, list, MIB, record) == KAZOVUNI_NOT_PAGES);
+    EXPECT(kazovuni_submit_whole(piece, MOST_PIECE - 1, list, MIB, record) == KAZOVUNI_NOT_PAGES);
+    EXPECT(kazovuni_submit_list_whole(piece, MOST_PIECE + PAGE, list, PIECE_ROWS, MIB, record, PIECE_ROWS) ==
+           KAZOVUNI_NOT_PAGES);
+    EXPECT(kazovuni_submit_list_whole(piece, MOST_PIECE, list, PIECE_ROWS, MIB, record, PIECE_ROWS + 1) ==
+           KAZOVUNI_NOT_AS_MANY);
+    EXPECT(records[0][0] == 0xcc && piece[MOST_PIECE - 8] == 0);
+}
+
+/* The largest piece that there may be, job by job or as a list. */
+static void try_piece(uint8_t *piece, bool as_a_list)
+{
+    static uint8_t descriptors[PIECE_ROWS][64], records[PIECE_ROWS][32], wanted[PIECE_ROWS][32];
+    memset(records, 0xcc, sizeof records);
+    for (size_t i = 0; i < PIECE_ROWS; i++)
+        EXPECT(kazovuni_encode(&piece_rows[i].job, descriptors[i]) &&
+               kazovuni_record_encode(&piece_rows[i].record, wanted[i]));
+    put(piece + 64, UINT64_C(0x0807060504030201), 8);
+    try_no_piece(piece, descriptors[0]);
+    if (as_a_list)
+        EXPECT(kazovuni_submit_list_whole(
+                   piece, MOST_PIECE, descriptors[0], PIECE_ROWS, MIB, records[0], PIECE_ROWS) == KAZOVUNI_OK);
+    for (size_t i = 0; i < PIECE_ROWS && !as_a_list; i++)
+        EXPECT(kazovuni_submit_whole(piece, MOST_PIECE, descriptors[i], MIB, records[i]) == KAZOVUNI_OK);
+    for (size_t i = 0; i < PIECE_ROWS; i++)
+        EXPECT(memcmp(records[i], wanted[i], 32) == 0);
+    expect_left(piece);
+}
+
+/* Both over a piece that is reserved, and touched by the rows alone. */
+static void try_pieces(void)
+{
+    for (int as_a_list = 0; as_a_list < 2; as_a_list++) {
+        uint8_t *piece = mmap(
+            NULL, MOST_PIECE + PAGE, PROT_READ | PROT_WRITE, MAP_PRIVATE | MAP_ANONYMOUS | MAP_NORESERVE, -1, 0);
+        if (piece == MAP_FAILED) {
+            printf("table_calls: the system reserves no 16 TiB: the largest piece is left out\n");
+            return;
+        }
+        try_piece(piece, as_a_list);
+        munmap(piece, MOST_PIECE + PAGE);
+    }
+}
+
 int main(void)
 {
     kazovuni_engine engine = {0};
@@ -254,6 +364,7 @@ int main(void)
     try_null();
     for (enum lent_form form = BY_OFFSETS; form < LENT_FORMS; form++)
         try_largest(form);
+    try_pieces();
     if (!failed)
         printf("table_calls: all as they have to be\n");
     return failed;

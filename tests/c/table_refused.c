@@ -59,7 +59,7 @@ void __wrap_free(void *block)
 /* ---- the calls */
 
 /* Those that ask for memory, and at how many of their growths each answered want of it. */
-enum call { CREATE, BRING, OVER, LIST_OVER, POINTERS, CALLS };
+enum call { CREATE, BRING, OVER, LIST_OVER, POINTERS, WHOLE, LIST_WHOLE, CALLS };
 static size_t met[CALLS];
 
 static void expect(const char *what, bool holds)
@@ -124,6 +124,10 @@ static uint8_t submit(enum call call, uint8_t bytes[PAGE], uint8_t records[1][32
         return kazovuni_submit_over(bytes, PAGE, create[0], LIMIT, records[0]);
     case LIST_OVER:
         return kazovuni_submit_list_over(bytes, PAGE, create[0], 1, LIMIT, records[0], 1);
+    case WHOLE:
+        return kazovuni_submit_whole(bytes, PAGE, create[0], LIMIT, records[0]);
+    case LIST_WHOLE:
+        return kazovuni_submit_list_whole(bytes, PAGE, create[0], 1, LIMIT, records[0], 1);
     default:
         memcpy(by_pointers, create[0], 64);
         by_pointers[17] = by_pointers[25] = by_pointers[41] = 0x10; /* behind the base */
@@ -222,7 +226,7 @@ static void walk_buffers(const uint8_t page[PAGE])
 }
 
 /* A list takes the greatest need of its jobs that stage bytes, whatever the limit is, and whatever the others need. */
-static void walk_list(void)
+static void walk_list(enum call call)
 {
     static uint8_t bytes[PAGE], descriptors[5][64], records[5][32];
     static const uint8_t statuses[5] = {0x01, 0x01, 0x13, 0x01, 0x01};
@@ -240,7 +244,8 @@ static void walk_list(void)
         largest = 0;
         memset(records, 0xcc, sizeof records);
     } while (!is_done(
-        LIST_OVER, kazovuni_submit_list_over(bytes, PAGE, descriptors[0], 5, LIMIT, records[0], 5)));
+        call, (call == LIST_WHOLE ? kazovuni_submit_list_whole : kazovuni_submit_list_over)(
+                  bytes, PAGE, descriptors[0], 5, LIMIT, records[0], 5)));
     expect("the staging of a list", largest == NEED && blocks == 0);
     for (size_t i = 0; i < 5; i++)
         expect("the status of a job of a list", records[i][0] == statuses[i]);
@@ -249,16 +254,18 @@ static void walk_list(void)
 int main(void)
 {
     static uint8_t page[PAGE];
-    static const char *const names[CALLS] = {"create", "bring", "submit_over", "submit_list_over", "submit_pointers"};
+    static const char *const names[CALLS] = {"create", "bring", "submit_over", "submit_list_over", "submit_pointers",
+                                             "submit_whole", "submit_list_whole"};
     memcpy(page + 72, at_72, 8);
     memcpy(page + 88, at_88, 8);
     do {
         refused++;
         growths = 0;
         walk_engine(page);
-        for (enum call call = OVER; call <= POINTERS; call++)
+        for (enum call call = OVER; call < CALLS; call++)
             walk_lent(call, page);
-        walk_list();
+        walk_list(LIST_OVER);
+        walk_list(LIST_WHOLE);
         walk_buffers(page);
     } while (growths >= refused);
     printf("table_refused:");

@@ -10,6 +10,23 @@ ZEROS = "raw " + "0" * 128
 # The staging sizes of rows that have another one than the default.
 ARENAS = {"staging_refusal_and_two_waves": 64}
 
+
+
+def blocks_over_an_edge(counts):
+    """Returns a script that applies a record's first entries over a page's edge, each count in turn, and its answer."""
+    numbers = [12, 13, 15, 16, 17, 20, 31]
+    blocks = [f"{0xa1 + nth:02x}" * 8 for nth in range(len(numbers))]
+    record = "".join(number.to_bytes(2, "little").hex() + block for number, block in zip(numbers, blocks))
+    script = f"image 3\npage 0\npage 1\npage 2\npoke 0 {record}"
+    answer = ""
+    for turn, count in enumerate(counts):
+        put = dict(zip(numbers[:count], blocks))
+        script += f"\nfill 0 8064 256\napply 0 {10 * count} 8064 256\nshow 8064 256"
+        answer += done(2 * turn, 1, 256) + done(2 * turn + 1, 1, 10 * count)
+        answer += "show 8064 " + "".join(put.get(block, "00" * 8) for block in range(32)) + "\n"
+    return script, answer
+
+
 # Fills, descriptors and pages.
 FILLS = [
     (
@@ -192,6 +209,10 @@ DELTAS = [
         "job 0 status 08 result 0 completed 0 fault 0 delta 0\n"
         "job 1 status 01 result 0 completed 10 fault 0 delta 0\n"
         "show 528376 aaaaaaaaaaaaaaaa\n",
+    ),
+    (
+        "blocks put by fours and one by one, of which some lie behind a page's edge",
+        *blocks_over_an_edge([3, 4, 5, 7, 1, 2]),
     ),
     (
         "expected_results",

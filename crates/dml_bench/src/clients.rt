@@ -17,7 +17,7 @@ use std::time::Instant;
 const ROOM: u32 = 1024;
 
 /// The jobs of a round, of all clients together.
-const ROUND: u32 = 128;
+pub(crate) const ROUND: u32 = 128;
 
 /// The clients of a round, and the jobs of each.
 const CLIENTS: u32 = 8;
@@ -71,7 +71,7 @@ fn polled(seat: &mut Seat) -> u32 {
 }
 
 /// Writes the row of so many turns, where each of their calls succeeded.
-fn print_row(
+pub(crate) fn print_row(
     rt: &impl Eprint,
     name: &str,
     number: u32,
@@ -119,7 +119,7 @@ fn time_pops<T: Clock + Eprint>(rt: &T, alloc: Global, turns: u32) -> io::Result
 }
 
 /// Opens a portal over an image.
-fn portal_of(
+pub(crate) fn portal_of(
     alloc: Global,
     image: Image<'static>,
     workers: u32,

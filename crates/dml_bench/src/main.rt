@@ -16,6 +16,7 @@ mod deltas;
 mod lent;
 mod lists;
 mod shapes;
+mod staying;
 mod waves;
 
 use dml_engine::Engine;
@@ -287,5 +288,6 @@ fn main(rt: HostRuntime) -> io::Result<()> {
     let large = shapes::time_shapes(&rt, alloc, shapes::large_image(alloc)?, measures)?;
     let large = shapes::time_pays(&rt, alloc, large, if measures { 20 } else { 1 })?;
     clients::time_portals(&rt, alloc, large, if measures { 50 } else { 1 })?;
+    staying::time_logs(&rt, alloc, if measures { 50 } else { 1 })?;
     println!(rt; "{} sizes", SIZES.len())
 }

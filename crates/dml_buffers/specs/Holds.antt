@@ -2,7 +2,7 @@
 use Rattle.std.specs.Prelude.{◌≡◌, ℕ, ◌+◌, ◌*◌, ◌≤◌, None, true, false, All, AllPairs, List, length, replicate, IsTrue}
 use Rattle.dml_types.specs.declared.spans.Span.{Span}
 use Rattle.dml_types.specs.Job.{shares, span}
-use Rattle.dml_types.specs.Memory.{Memory, Put, has_all, bytes_at, page_size}
+use Rattle.dml_types.specs.Memory.{Memory, Put, has_all, bytes_at, memory_of, page_size}
 
 -- a memory has these bytes from an address on, and all are present
 pub record Holds (memory : Memory) (address : ℕ) (bytes : List ℕ) : Type 0 where
@@ -11,8 +11,7 @@ pub record Holds (memory : Memory) (address : ℕ) (bytes : List ℕ) : Type 0 w
 
 -- a memory of so many pages, all present, of zeros
 abbrev pub blank : ℕ → Memory
-blank pages =
-    record { present = replicate pages true; bytes = replicate (page_size * pages) 0; home = None }
+blank pages = memory_of (replicate pages true) (replicate (page_size * pages) 0) None
 
 -- Some buffers, each with its address: its range, whether no two share a byte, whether all lie in so many pages, and
 -- whether a memory holds each

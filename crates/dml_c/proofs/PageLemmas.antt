@@ -1,8 +1,10 @@
 -- Jobs over a caller's pages, one after another.
 use Rattle.std.proofs.Common.{◌≡◌, ℕ, ◌/◌, true, Bool, List, length, replicate, Option, None, sym, ◌∙◌, ap}
 use Rattle.dml_types.specs.declared.jobs.Job.{Job}
+use Rattle.dml_types.specs.Memory.{Loan, memory_of, on_loan}
 use Rattle.dml_types.specs.Step.{step}
 use Rattle.dml_types.proofs.HomeLemmas.{home_after_step}
+use Rattle.dml_types.proofs.LoanLemmas.{loan_after_step}
 use Rattle.dml_types.proofs.StepLemmas.{step_present}
 use Rattle.dml_effect.specs.Pages.{all_present}
 
@@ -10,6 +12,7 @@ use Rattle.dml_effect.specs.Pages.{all_present}
 pub stepped : (content new : List ℕ) (job : Job) (staging : ℕ) → new ≡ (step (all_present content) job staging).0.bytes → length new ≡ length content → all_present new ≡ (step (all_present content) job staging).0
 stepped content new job staging is same =
     let after = (step (all_present content) job staging).0 in
-    ap (λ (p : List Bool). record { present = p; bytes = new; home = None }) (ap (λ n. replicate (n / 4096) true) same ∙ sym (step_present (all_present content) job staging))
-    ∙ (ap (λ (b : List ℕ). record { present = after.present; bytes = b; home = None }) is
-    ∙ ap (λ (h : Option ℕ). record { present = after.present; bytes = after.bytes; home = h }) (sym (home_after_step (all_present content) job staging)))
+    ap (λ (p : List Bool). memory_of p new None) (ap (λ n. replicate (n / 4096) true) same ∙ sym (step_present (all_present content) job staging))
+    ∙ (ap (λ (b : List ℕ). memory_of after.present b None) is
+    ∙ (ap (λ (h : Option ℕ). memory_of after.present after.bytes h) (sym (home_after_step (all_present content) job staging))
+    ∙ ap (λ (loan : Loan). on_loan (memory_of after.present after.bytes after.home) loan) (sym (loan_after_step (all_present content) job staging))))

@@ -3,7 +3,7 @@
 /// The call did what it is for; a job, or the list, is carried out, refused jobs included.
 pub const DONE: u8 = 0;
 
-/// The bytes are not 1 to 4,096 whole pages.
+/// The bytes are not 1 to 4,096 whole pages; of memory in one piece, not 1 to 2^32 - 1.
 pub const NOT_PAGES: u8 = 1;
 
 /// There is no memory.

@@ -34,7 +34,7 @@ pub fn law_of_staging()
 {}
 
 /// The job of a descriptor, where it breaks no rule, and else the status of the first rule that it breaks. It stands
-/// apart, so that the rules are not in the library once for each export.
+/// apart, so that the rules of all operations are not in the library once for each export.
 #[inline(never)]
 fn checked(descriptor: &[u8; 64]) -> Result<Checked, Status>
     ensures same { IfOk result (λ job. job ≡ decoded descriptor.now) }
@@ -42,6 +42,21 @@ fn checked(descriptor: &[u8; 64]) -> Result<Checked, Status>
     ensures refused { IfErr result (λ status. refusal_of descriptor.now ≡ Some status) }
 {
     dml_desc::check(&dml_desc::decode(descriptor), ENOUGH)
+}
+
+/// The same, where the descriptor of an operation is expected: the rules of that one are put into the export.
+#[inline(always)]
+fn checked_as(op: Op, descriptor: &[u8; 64]) -> Result<Checked, Status>
+    ensures same { IfOk result (λ job. job ≡ decoded descriptor.now) }
+    ensures accepted { IfOk result (λ _. refusal_of descriptor.now ≡ None) }
+    ensures refused { IfErr result (λ status. refusal_of descriptor.now ≡ Some status) }
+{
+    let job = dml_desc::decode(descriptor);
+    if job.op() == Some(op) {
+        dml_desc::check(&job, ENOUGH)
+    } else {
+        checked(descriptor)
+    }
 }
 
 /// Compares two buffers, the ranges of a descriptor's compare, and writes its completion record. They may be the same,
@@ -72,7 +87,7 @@ pub extern "C" fn kazovuni_compare(
         answer.new ≡ bytes_of_record (compared_record job (ended_at job.size (first_difference one.now other.now))) }
     ensures unchanged { result ≢ 0 → answer.new ≡ answer.old }
 {
-    match checked(descriptor) {
+    match checked_as(Op::Compare, descriptor) {
         Err(status) => {
             *answer = record_bytes(&Record::refused(status));
             DONE
@@ -117,7 +132,7 @@ pub extern "C" fn kazovuni_compare_pattern(
         answer.new ≡ bytes_of_record (compared_record job (ended_at job.size (first_unlike bytes.now job.target 0))) }
     ensures unchanged { result ≢ 0 → answer.new ≡ answer.old }
 {
-    match checked(descriptor) {
+    match checked_as(Op::ComparePattern, descriptor) {
         Err(status) => {
             *answer = record_bytes(&Record::refused(status));
             DONE
@@ -165,7 +180,7 @@ pub extern "C" fn kazovuni_fill(
         target.new ≡ pattern_bytes job.source job.size }
     ensures unchanged { result ≢ 0 → (target.new ≡ target.old) × (answer.new ≡ answer.old) }
 {
-    match checked(descriptor) {
+    match checked_as(Op::Fill, descriptor) {
         Err(status) => {
             *answer = record_bytes(&Record::refused(status));
             DONE
@@ -212,7 +227,7 @@ pub extern "C" fn kazovuni_move(
     ensures copied { result ≡ 0 → refusal_of descriptor.now ≡ None → target.new ≡ source.now }
     ensures unchanged { result ≢ 0 → (target.new ≡ target.old) × (answer.new ≡ answer.old) }
 {
-    match checked(descriptor) {
+    match checked_as(Op::Move, descriptor) {
         Err(status) => {
             *answer = record_bytes(&Record::refused(status));
             DONE
@@ -261,7 +276,7 @@ pub extern "C" fn kazovuni_move_within(
         bytes.new ≡ overwrite bytes.old (job.target - start) (slice_range bytes.old source (source + job.size))) }
     ensures unchanged { result ≢ 0 → (bytes.new ≡ bytes.old) × (answer.new ≡ answer.old) }
 {
-    match checked(descriptor) {
+    match checked_as(Op::Move, descriptor) {
         Err(status) => {
             *answer = record_bytes(&Record::refused(status));
             DONE
@@ -325,7 +340,7 @@ pub extern "C" fn kazovuni_dualcast(
         (target.new ≡ source.now) × (second.new ≡ source.now) }
     ensures unchanged { result ≢ 0 → (target.new ≡ target.old) × (second.new ≡ second.old) × (answer.new ≡ answer.old) }
 {
-    match checked(descriptor) {
+    match checked_as(Op::Dualcast, descriptor) {
         Err(status) => {
             *answer = record_bytes(&Record::refused(status));
             DONE
@@ -378,7 +393,7 @@ pub extern "C" fn kazovuni_create_delta(
         delta.new ≡ overwrite delta.old 0 (take (length delta.old) (entries_of 0 one.now other.now)) }
     ensures unchanged { result ≢ 0 → (delta.new ≡ delta.old) × (answer.new ≡ answer.old) }
 {
-    match checked(descriptor) {
+    match checked_as(Op::CreateDelta, descriptor) {
         Err(status) => {
             *answer = record_bytes(&Record::refused(status));
             DONE
@@ -436,7 +451,7 @@ pub extern "C" fn kazovuni_apply_delta(
         target.new ≡ applied_bytes delta.now (good_in delta.now (job.size / 8)) target.old }
     ensures unchanged { result ≢ 0 → (target.new ≡ target.old) × (answer.new ≡ answer.old) }
 {
-    match checked(descriptor) {
+    match checked_as(Op::ApplyDelta, descriptor) {
         Err(status) => {
             *answer = record_bytes(&Record::refused(status));
             DONE

@@ -14,7 +14,7 @@ use dml_types::Record;
 use std::alloc::{AllocError, Global};
 use std::marker::Model;
 
-/// A memory image, and the arena in which its jobs stage bytes. It has one worker.
+/// A memory image of 4,096 pages at most, and the arena in which its jobs stage bytes. It has one worker.
 #[derive(Drop)]
 pub struct Engine {
     image: Image<'static>,
@@ -23,14 +23,14 @@ pub struct Engine {
 }
 
 impl Model for Engine {
-    ghost use Rattle.std.specs.Prelude.{◌≡◌};
+    ghost use Rattle.std.specs.Prelude.{◌≡◌, ◌≤◌, length};
     ghost use Rattle.dml_c.specs.State.{State};
 
     ghost Value = { State };
 
     ghost view = { λ e. record { image = e.image; staging = e.staging } };
 
-    ghost invariant = { λ e. e.arena.size ≡ e.staging };
+    ghost invariant = { λ e. (e.arena.size ≡ e.staging) × (length e.image.present ≤ 4096) };
 }
 
 impl Engine {
@@ -126,6 +126,7 @@ impl Engine {
 /// Whether all bytes of a range are present.
 #[tactic(auto, using(dml_types::proofs::MemoryLemmas::has_all_within))]
 fn has_range(image: &Image, address: u64, len: usize) -> bool
+    requires { length image.now.present ≤ 4096 }
     ensures { result ≡ has_all image.now address len }
 {
     let _pages = image.pages(); // says what every image keeps

@@ -14,6 +14,7 @@ mod lending;
 mod looking;
 mod parts;
 mod values;
+mod whole;
 
 pub use bases::law_of_bases;
 pub use direct::{
@@ -31,3 +32,4 @@ pub use looking::{
     kazovuni_record_encode, kazovuni_rest, kazovuni_version,
 };
 pub use values::{CJob, CRecord};
+pub use whole::{kazovuni_submit_list_whole, kazovuni_submit_whole};

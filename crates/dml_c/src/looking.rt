@@ -6,13 +6,14 @@ ghost use Rattle.dml_desc.specs.Encoding.{encoded};
 ghost use Rattle.dml_c.specs.Values.{bytes_from_c, code_or_zero, fields_of, job_for_c, job_from_c, rest_of};
 
 use crate::values::{CJob, CRecord};
+use dml_types::{Job, Op};
 
 /// The version of the header: the major number in the upper 16 bits, the minor one in the lower.
 #[unsafe(no_mangle)]
 pub extern "C" fn kazovuni_version() -> u32
-    ensures { result ≡ 65537 }
+    ensures { result ≡ 65538 }
 {
-    0x0001_0001
+    0x0001_0002
 }
 
 /// 0 where the job of a descriptor is accepted, else the code of the first rule that it breaks.
@@ -20,7 +21,31 @@ pub extern "C" fn kazovuni_version() -> u32
 pub extern "C" fn kazovuni_check(descriptor: &[u8; 64], staging: u32) -> u8
     ensures { result ≡ code_or_zero (refusal (decoded descriptor.now) staging) }
 {
-    match dml_desc::check(&dml_desc::decode(descriptor), staging) {
+    let job = dml_desc::decode(descriptor);
+    match job.op() {
+        // the same text three times: each has the rules of its operation alone
+        Some(Op::Move) => code_of(&job, staging),
+        Some(Op::Fill) => code_of(&job, staging),
+        Some(Op::Compare) => code_of(&job, staging),
+        _ => check_other(descriptor, staging),
+    }
+}
+
+/// The same. It stands apart, so that jobs with few rules have none of its frame.
+#[inline(never)]
+fn check_other(descriptor: &[u8; 64], staging: u32) -> u8
+    ensures { result ≡ code_or_zero (refusal (decoded descriptor.now) staging) }
+{
+    code_of(&dml_desc::decode(descriptor), staging)
+}
+
+/// 0 where a job is accepted, else the code of the first rule that it breaks. Where its operation is known, the rules of
+/// the others are left out.
+#[inline(always)]
+fn code_of(job: &Job, staging: u32) -> u8
+    ensures { result ≡ code_or_zero (refusal job.now staging) }
+{
+    match dml_desc::check(job, staging) {
         Ok(_) => 0,
         Err(status) => status.code(),
     }

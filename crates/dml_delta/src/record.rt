@@ -81,6 +81,10 @@ fn is_allowed(image: &Image, job: &Checked, least: u32, known: &mut u32, offset:
     ensures known { result ≡ true → AreBlocks image.now job.now offset known.new }
 {
     let offset = u32::from(offset);
+    // both at once: it rises, and its block is known
+    if offset.wrapping_sub(least) < known.saturating_sub(least) {
+        return true;
+    }
     *known = known_behind(image, job, least, *known, offset);
     offset >= least && offset < *known
 }

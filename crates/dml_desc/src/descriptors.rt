@@ -26,7 +26,7 @@ fn common_fields(bytes: &[u8; 64]) -> Job
 {
     Job {
         opcode: bytes[7],
-        flags: LittleEndian::read_u24(&bytes[4..7]),
+        flags: read_u32(bytes, 4) % (1 << 24),
         source: read_u64(bytes, 16),
         target: read_u64(bytes, 24),
         size: read_u32(bytes, 32),

@@ -156,10 +156,10 @@ fn shares(a: Span, b: Span) -> bool
     u128::from(a.start.max(b.start)) < end(a).min(end(b))
 }
 
-/// Whether a range ends above 2^64.
+/// Whether a range ends above 2^64: it has a byte behind the last address.
 #[inline(always)]
 fn is_past(start: u64, len: u32) -> bool
     ensures { result ≡ range.is_past (range.span start len) }
 {
-    end(span(start, len)) > 1 << 64
+    u64::from(len.saturating_sub(1)) > u64::MAX - start
 }

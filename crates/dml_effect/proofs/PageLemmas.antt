@@ -1,26 +1,19 @@
--- Whole pages of a caller's bytes are a memory, where a job does the same as in an image of its own.
-use Rattle.std.proofs.Common.{◌≡◌, ℕ, ◌/◌, true, false, List, length, replicate, Option, sym, ◌∙◌, ap, arith, ⊎_elim}
-use Rattle.std.proofs.lemmas.Bool.{cases_lt, false≢true}
-use Rattle.std.proofs.lemmas.List.{length-replicate, get_or-replicate, get_or_past}
+-- In whole pages of a caller's bytes a job does the same as in an image of its own.
+use Rattle.std.proofs.Common.{◌≡◌, ℕ, ◌/◌, Bool, true, List, length, replicate, Option, Some, ◌∙◌, ap, ap₂}
 use Rattle.dml_types.specs.declared.jobs.Job.{Job}
-use Rattle.dml_types.specs.Memory.{Memory, IsMemory, at_home}
+use Rattle.dml_types.specs.Memory.{Memory, InOnePiece, at_home, memory_of, on_loan}
 use Rattle.dml_types.specs.Step.{step}
 use Rattle.dml_types.proofs.HomeLemmas.{record_elsewhere, step_elsewhere, home_after_step}
-use Rattle.dml_effect.specs.Pages.{IsPages, all_present}
+use Rattle.dml_types.proofs.LoanLemmas.{record_otherwise, step_otherwise, loan_after_step}
+use Rattle.dml_effect.specs.Pages.{all_present}
 
-pub all_kept : (content : List ℕ) (home : Option ℕ) → IsPages content → IsMemory (at_home (all_present content) home)
-all_kept content home pages =
-    let n = length content / 4096 in
-    let long : length (replicate n true) ≡ n = length-replicate n true in
-    record {
-      least_pages = omega (arith, long, pages.whole, pages.least);
-      most_pages = omega (arith, long, pages.whole, pages.most);
-      whole = record { each_page = omega (arith, long, pages.whole) };
-      absent = λ address gone.
-          ⊎_elim (λ low. absurd (false≢true (sym gone ∙ get_or-replicate n (address / 4096) true false low)))
-          (λ high. get_or_past content address 0 (omega (arith, pages.whole)))
-          (cases_lt (address / 4096) n);
-    }
+-- the lent image is the caller's pages
+pub lent_is : (content : List ℕ) (present : List Bool) (bytes : List ℕ) (memory : Memory) (name : ℕ) → memory ≡ memory_of present bytes (Some name) → present ≡ replicate (length content / 4096) true → bytes ≡ content → memory ≡ at_home (all_present content) (Some name)
+lent_is content present bytes memory name is all same =
+    is ∙ ap₂ (λ (p : List Bool) (b : List ℕ). memory_of p b (Some name)) all same
+
+pub whole_is : (content bytes : List ℕ) (memory : Memory) (name : ℕ) → memory ≡ on_loan (all_present bytes) (InOnePiece name) → bytes ≡ content → memory ≡ on_loan (all_present content) (InOnePiece name)
+whole_is content bytes memory name is same = is ∙ ap (λ (b : List ℕ). on_loan (all_present b) (InOnePiece name)) same
 
 -- a memory that is the caller's pages, wherever it is
 module _ (content : List ℕ) (memory : Memory) (home : Option ℕ) (job : Job) (staging : ℕ) (is : memory ≡ at_home (all_present content) home) where
@@ -32,3 +25,14 @@ module _ (content : List ℕ) (memory : Memory) (home : Option ℕ) (job : Job) 
 
   pub home_there : (step memory job staging).0.home ≡ home
   home_there = home_after_step memory job staging ∙ ap (λ (m : Memory). m.home) is
+
+-- a memory that is the caller's pages in one piece
+module _ (content : List ℕ) (memory : Memory) (name : ℕ) (job : Job) (staging : ℕ) (is : memory ≡ on_loan (all_present content) (InOnePiece name)) where
+  pub answer_of_whole : (step memory job staging).1 ≡ (step (all_present content) job staging).1
+  answer_of_whole = ap (λ (m : Memory). (step m job staging).1) is ∙ record_otherwise (all_present content) (InOnePiece name) job staging
+
+  pub bytes_of_whole : (step memory job staging).0.bytes ≡ (step (all_present content) job staging).0.bytes
+  bytes_of_whole = ap (λ (m : Memory). (step m job staging).0.bytes) is ∙ ap (λ (m : Memory). m.bytes) (step_otherwise (all_present content) (InOnePiece name) job staging)
+
+  pub loan_of_whole : (step memory job staging).0.loan ≡ InOnePiece name
+  loan_of_whole = loan_after_step memory job staging ∙ ap (λ (m : Memory). m.loan) is

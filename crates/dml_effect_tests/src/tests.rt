@@ -1,12 +1,13 @@
-ghost use Rattle.std.specs.Prelude.{◌≡◌, replicate};
-ghost use Rattle.dml_types.specs.Memory.{IsMemory};
-ghost use Rattle.dml_image.specs.Kept.{lent_memory};
+ghost use Rattle.std.specs.Prelude.{◌≡◌};
 ghost use Rattle.dml_effect.specs.Straight.{TakesStaging};
 
 use crate::uses::moved_in_two;
 use dml_arena::Arena;
 use dml_desc::check;
-use dml_effect::{are_pages, commit, submit_over, submit_straight_to, submit_to, takes_staging};
+use dml_effect::{
+    are_pages, are_whole_pages, commit, submit_over, submit_over_whole, submit_straight_over_whole,
+    submit_straight_to, submit_to, takes_staging,
+};
 use dml_image::{Image, ImageError, Lent};
 use dml_types::{Direction, Job, Op, Record, Status};
 use std::alloc::Global;
@@ -285,6 +286,17 @@ pub fn carried_over(rt: &impl Abort, bytes: &mut [u8], arena: &mut Arena, job: &
     submit_over(bytes, arena, job, staging)
 }
 
+/// Carries out a job over bytes that are whole pages, in one piece; without staging where it takes none.
+fn carried_over_whole(rt: &impl Abort, bytes: &mut [u8], arena: &mut Arena, job: &Job) -> Record {
+    let staging = arena.size();
+    assert!(rt; are_whole_pages(bytes));
+    if takes_staging(job, staging) {
+        submit_over_whole(bytes, arena, job, staging)
+    } else {
+        submit_straight_over_whole(bytes, job, staging)
+    }
+}
+
 /// A job over so many whole pages of a caller's, which hold 01, 02, 03, 04, 05 and then 0; its answer, and what it
 /// leaves in two places. All other bytes stay as they were.
 #[derive(Clone, Copy)]
@@ -297,19 +309,47 @@ struct LentRow {
 }
 
 impl LentRow {
-    /// Carries the job out over the caller's bytes, and compares all of them.
-    fn expect(self, rt: &impl Abort, alloc: Global, arena: &mut Arena) -> Result<(), Fail> {
+    /// The caller's bytes before.
+    fn before(self, rt: &impl Abort, alloc: Global) -> Result<Vec<u8>, Fail> {
         let mut bytes = vec![in alloc; 0; usize::from(self.pages) * 4096]?;
         write_over(rt, &mut bytes, 0, &[1, 2, 3, 4, 5]);
-        let mut after = bytes.clone()?;
+        Ok(bytes)
+    }
+
+    /// Compares the job's answer and all bytes with what they are to be.
+    fn expect_left(
+        self,
+        rt: &impl Abort,
+        alloc: Global,
+        bytes: &[u8],
+        answer: Record,
+    ) -> Result<(), Fail> {
+        let mut after = self.before(rt, alloc)?;
         for (place, shown) in [self.first, self.second] {
             write_over(rt, &mut after, place as usize, &shown);
         }
-        let job = self.job;
-        let answer = carried_over(rt, &mut bytes, arena, &job);
-        expect_record(rt, &job, answer, self.answer);
-        assert!(rt; bytes == after, "{job:?}");
+        expect_record(rt, &self.job, answer, self.answer);
+        assert!(rt; bytes == &after[..], "{:?}", self.job);
         Ok(())
+    }
+
+    /// Carries the job out over the caller's bytes.
+    fn expect(self, rt: &impl Abort, alloc: Global, arena: &mut Arena) -> Result<(), Fail> {
+        let mut bytes = self.before(rt, alloc)?;
+        let answer = carried_over(rt, &mut bytes, arena, &self.job);
+        self.expect_left(rt, alloc, &bytes, answer)
+    }
+
+    /// The same in one piece.
+    fn expect_in_one_piece(
+        self,
+        rt: &impl Abort,
+        alloc: Global,
+        arena: &mut Arena,
+    ) -> Result<(), Fail> {
+        let mut bytes = self.before(rt, alloc)?;
+        let answer = carried_over_whole(rt, &mut bytes, arena, &self.job);
+        self.expect_left(rt, alloc, &bytes, answer)
     }
 }
 
@@ -475,14 +515,6 @@ fn unaligned_moves_over_lent_pages(rt: HostRuntime) -> Result<(), Fail> {
     Ok(())
 }
 
-/// Three pages of a caller's, full of 0; the one between the others is absent.
-fn outer_two_of_three(content: &mut [u8; 12_288]) -> Lent<'_>
-    requires blank { content.old ≡ replicate 12288 0 }
-    ensures memory { IsMemory (lent_memory result) }
-{
-    Lent::new(&[true, false, true], content)
-}
-
 /// Carries out a job on an image that stays where it is, as every image does.
 #[tactic(auto, using(dml_types::proofs::HomeLemmas::home_after_step))]
 fn submitted_at_home(image: &mut Image, job: &Job) -> Record
@@ -495,7 +527,8 @@ fn submitted_at_home(image: &mut Image, job: &Job) -> Record
 #[test]
 fn backward_move_stops_at_page_edge_of_lent_memory(rt: HostRuntime) {
     let mut content = [0; 12_288];
-    let mut lent = outer_two_of_three(&mut content);
+    let mut lent = Lent::new(&[true, false, true], &mut content);
+    assert!(rt; lent.is_memory());
     let mut image = lent.take();
     let fill = Job::fill(0x0201, 8192, 2);
     let job = Job::move_bytes(0, 8, 12_272);
@@ -519,4 +552,33 @@ fn other_jobs_over_lent_pages(rt: HostRuntime) -> Result<(), Fail> {
         row.expect(&rt, rt.alloc(), &mut arena)?;
     }
     Ok(())
+}
+
+/// A fill at the end of more pages than other images have.
+fn fill_at_the_end() -> LentRow {
+    changed(
+        4097,
+        Job::fill(0x0807_0605_0403_0201, 16_781_300, 16),
+        record(Status::WriteFault, 0, 12, 16_781_312),
+        16_781_300,
+        [1, 2, 3, 4, 5, 6, 7, 8, 1, 2, 3, 4],
+    )
+}
+
+#[test]
+fn jobs_over_one_piece(rt: HostRuntime) -> Result<(), Fail> {
+    let mut arena = Arena::new(rt.alloc(), 4099)?;
+    assert!(rt;
+        !are_whole_pages(&[]) && !are_whole_pages(&[0; 4095]) && !are_whole_pages(&[0; 6144])
+    );
+    for row in fills() {
+        row.expect_in_one_piece(&rt, rt.alloc(), &mut arena)?;
+    }
+    for row in other_jobs() {
+        row.expect_in_one_piece(&rt, rt.alloc(), &mut arena)?;
+    }
+    for row in unaligned_moves() {
+        row.expect_in_one_piece(&rt, rt.alloc(), &mut arena)?;
+    }
+    fill_at_the_end().expect_in_one_piece(&rt, rt.alloc(), &mut arena)
 }

@@ -7,7 +7,7 @@ ghost use Rattle.dml_types.specs.Step.{batch, batch_answer, batch_jobs, ends_bef
 ghost use Rattle.dml_types.specs.declared.statuses.Status.TheVariants.{Abandoned};
 ghost use Rattle.dml_engine.specs.Batches.{EndsAt, IsCarried};
 
-use crate::engines::Engine;
+use crate::engines::EngineOver;
 use crate::errors::SubmitError;
 use crate::lists::plan_waves;
 use crate::opening::{Fences, open_all};
@@ -19,14 +19,13 @@ use std::alloc::{AllocError, Global};
 use std::sync::Wait;
 use std::thread::Threads;
 
-impl<G: Gate + Sync> Engine<G> {
+impl<G: Gate + Sync> EngineOver<'_, G> {
     /// Carries out a batch of at most 1,024 jobs as a list, and returns its own completion record and theirs. A fenced
     /// job, which is any with the fence's bit, refused or not, waits for all jobs before it; where one of them has
     /// another status than 0x01, it and all later jobs are abandoned, and their records are zeros.
     ///
     /// # Errors
     /// `TooMany` where there are more jobs, and `NoMemory` where there is no room for the records.
-    #[tactic(auto, using(crate::proofs::BatchLemmas::batch_answers))]
     pub fn submit_batch<R: Threads + Wait + Sync>(
         &mut self,
         rt: &R,
@@ -48,8 +47,29 @@ impl<G: Gate + Sync> Engine<G> {
         let Ok(mut records) = abandoned(alloc, jobs) else {
             return Err(SubmitError::NoMemory);
         };
-        let done = self.carry_out_or_abandon(rt, alloc, jobs, records.as_mut_slice());
-        Ok((batch_record(&records[..done]), records))
+        let answer = self.batch_into(rt, alloc, jobs, records.as_mut_slice());
+        Ok((answer, records))
+    }
+
+    /// Carries out a batch of at most 1,024 jobs, writes the record of each at its place, and returns the batch's own.
+    #[tactic(auto, using(crate::proofs::BatchLemmas::batch_answers))]
+    pub(crate) fn batch_into<R: Threads + Wait + Sync>(
+        &mut self,
+        rt: &R,
+        alloc: Global,
+        jobs: &[Job],
+        records: &mut [Record],
+    ) -> BatchRecord
+        requires few { length jobs.now ≤ 1024 }
+        requires size { length records.old ≡ length jobs.now }
+        ensures image { self.new.image ≡ (batch self.old.image jobs.now self.old.settings.staging).0 }
+        ensures answer { result ≡ (batch self.old.image jobs.now self.old.settings.staging).1 }
+        ensures records { records.new ≡ (batch self.old.image jobs.now self.old.settings.staging).2 }
+        ensures settings { self.new.settings ≡ self.old.settings }
+        ensures watched { self.new.watched ≡ self.old.watched }
+    {
+        let done = self.carry_out_or_abandon(rt, alloc, jobs, records);
+        batch_record(&records[..done])
     }
 
     /// Carries out the jobs of a batch as far as its fences let them, and abandons the others. Answers how many are
@@ -144,7 +164,7 @@ impl<G: Gate + Sync> Engine<G> {
     }
 }
 
-impl<G> Engine<G> {
+impl<G> EngineOver<'_, G> {
     /// The same by this worker alone, in list order.
     fn batch_in_list_order(&mut self, jobs: &[Job], records: &mut [Record]) -> usize
         requires size { length records.old ≡ length jobs.now }
@@ -165,7 +185,7 @@ impl<G> Engine<G> {
 }
 
 /// A record for each job, all as of abandoned ones.
-fn abandoned(alloc: Global, jobs: &[Job]) -> Result<Vec<Record>, AllocError>
+pub(crate) fn abandoned(alloc: Global, jobs: &[Job]) -> Result<Vec<Record>, AllocError>
     ensures { IfOk result (λ list. list.items ≡ replicate (length jobs.now) (ended Abandoned 0 0 0)) }
 {
     let mut records = Vec::with_capacity(alloc, jobs.len())?;

@@ -1,4 +1,4 @@
-ghost use Rattle.std.specs.Prelude.{◌≡◌, ◌≢◌, ◌↔◌, ◌≤◌, IfErr, IfOk, IsOk, IsTrue, OnErr, OnOk, false, length, map, true};
+ghost use Rattle.std.specs.Prelude.{◌≡◌, ◌≢◌, ◌↔◌, ◌<◌, ◌≤◌, IfErr, IfOk, IsOk, IsSome, IsTrue, OnErr, OnOk, false, length, map, true};
 ghost use Rattle.dml_types.specs.Memory.{has_all, put};
 ghost use Rattle.dml_types.specs.Job.{unfenced};
 ghost use Rattle.dml_types.specs.Limits.{IsValid};
@@ -24,9 +24,12 @@ use std::thread::Threads;
 
 /// A memory image, and what it takes to carry out jobs on it: a staging arena, which is taken when the engine is made,
 /// and the gate that its workers enter before each task.
+///
+/// The image is one of any kind: its own pages, or memory that a caller lends for the engine's life, and that is the
+/// engine's alone so long. [`Engine`] is this over an image that borrows nothing that ends.
 #[derive(Drop)]
-pub struct Engine<G = Free> {
-    image: Image<'static>,
+pub struct EngineOver<'a, G = Free> {
+    image: Image<'a>,
     arena: Arena,
     settings: Settings,
     gate: G,
@@ -35,7 +38,10 @@ pub struct Engine<G = Free> {
     watched: bool,
 }
 
-impl<G> Model for Engine<G> {
+/// An engine over an image that borrows nothing that ends.
+pub type Engine<G = Free> = EngineOver<'static, G>;
+
+impl<'a, G> Model for EngineOver<'a, G> {
     ghost use Rattle.dml_engine.specs.State.{State};
 
     ghost Value = { State };
@@ -48,7 +54,7 @@ impl<G> Model for Engine<G> {
     ghost invariant = { λ e. (e.arena.size ≡ e.settings.staging) × IsValid e.settings };
 }
 
-impl Engine<Free> {
+impl<'a> EngineOver<'a, Free> {
     /// An engine over an image, with a gate that does nothing. It starts workers where they pay by a list's bytes;
     /// `with_gate(Free)` behind it hands everything to them.
     ///
@@ -57,9 +63,9 @@ impl Engine<Free> {
     /// arena; both hand the image back as it was.
     pub fn new(
         alloc: Global,
-        image: Image<'static>,
+        image: Image<'a>,
         settings: Settings,
-    ) -> Result<Engine<Free>, (Image<'static>, EngineError)>
+    ) -> Result<EngineOver<'a, Free>, (Image<'a>, EngineError)>
         ensures image { IfOk result (λ engine. engine.image ≡ image.entry) }
         ensures settings { IfOk result (λ engine. engine.settings ≡ settings) }
         ensures valid { OnOk result (IsValid settings) }
@@ -71,37 +77,53 @@ impl Engine<Free> {
         if !settings.is_valid() {
             return Err((image, EngineError::BadSettings));
         }
+        EngineOver::of_valid(alloc, image, settings).map_err(|image| (image, EngineError::NoMemory))
+    }
+
+    /// The same with settings that are known to be valid. Where there is no room for the staging arena, the image comes
+    /// back.
+    pub(crate) fn of_valid(
+        alloc: Global,
+        image: Image<'a>,
+        settings: Settings,
+    ) -> Result<EngineOver<'a, Free>, Image<'a>>
+        requires { IsValid settings }
+        ensures image { IfOk result (λ engine. engine.image ≡ image.entry) }
+        ensures settings { IfOk result (λ engine. engine.settings ≡ settings) }
+        ensures watched { IfOk result (λ engine. engine.watched ≡ false) }
+        ensures handed_back { IfErr result (λ refused. refused ≡ image.entry) }
+    {
         match Arena::new(alloc, settings.staging) {
-            Ok(arena) => Ok(Engine {
+            Ok(arena) => Ok(EngineOver {
                 image,
                 arena,
                 settings,
                 gate: Free,
                 watched: false,
             }),
-            Err(_) => Err((image, EngineError::NoMemory)),
+            Err(_) => Err(image),
         }
     }
 }
 
-impl<G: Drop> Engine<G> {
+impl<'a, G: Drop> EngineOver<'a, G> {
     /// The same engine with another gate in place of its own. No memory is taken.
     ///
     /// From then on every task of every job, list and batch is handed to the workers, however small it is and however
     /// many workers there are, and one enters the gate before each; `with_gate(Free)` has workers whatever the load.
     /// Only where memory is refused does one worker go on alone, and enter no gate.
-    pub fn with_gate<H>(self, gate: H) -> Engine<H>
+    pub fn with_gate<H>(self, gate: H) -> EngineOver<'a, H>
         ensures image { result.image ≡ self.entry.image }
         ensures settings { result.settings ≡ self.entry.settings }
         ensures watched { result.watched ≡ true }
     {
-        let Engine {
+        let EngineOver {
             image,
             arena,
             settings,
             ..
         } = self;
-        Engine {
+        EngineOver {
             image,
             arena,
             settings,
@@ -111,17 +133,17 @@ impl<G: Drop> Engine<G> {
     }
 
     /// The image, for good.
-    pub fn into_image(self) -> Image<'static>
+    pub fn into_image(self) -> Image<'a>
         ensures { result ≡ self.entry.image }
     {
-        let Engine { image, .. } = self;
+        let EngineOver { image, .. } = self;
         image
     }
 }
 
-impl<G> Engine<G> {
+impl<'a, G> EngineOver<'a, G> {
     /// The image.
-    pub fn image(&self) -> &Image<'static>
+    pub fn image(&self) -> &Image<'a>
         ensures { result.now ≡ self.now.image }
     {
         &self.image
@@ -131,13 +153,15 @@ impl<G> Engine<G> {
     ///
     /// # Errors
     /// `NoSuchPage` where the image has no page of this number, and `NoMemory` where there is no room for a page that
-    /// was absent. Nothing is changed then.
+    /// was absent, which is always so of lent memory. Nothing is changed then.
     pub fn bring(&mut self, page: u32, bytes: &[u8; 4096]) -> Result<(), ImageError>
         ensures ok { OnOk result (self.new.image ≡ brought self.old.image page bytes.now) }
         ensures err { OnErr result (self.new.image ≡ self.old.image) }
         ensures no_such_page { (result ≡ Err ImageError.NoSuchPage) ↔ (length self.old.image.present ≤ page) }
         ensures never_bad_pages { result ≢ Err ImageError.BadPages }
         ensures again { IsTrue (has_page self.old.image page) → IsOk result }
+        ensures no_room { IsSome self.old.image.home → page < length self.old.image.present →
+            has_page self.old.image page ≡ false → result ≡ Err ImageError.NoMemory }
         ensures settings { self.new.settings ≡ self.old.settings }
         ensures watched { self.new.watched ≡ self.old.watched }
     {
@@ -190,7 +214,7 @@ impl<G> Engine<G> {
     }
 }
 
-impl<G: Gate + Sync> Engine<G> {
+impl<'a, G: Gate + Sync> EngineOver<'a, G> {
     /// Carries out a wave of jobs on so many workers.
     pub(crate) fn carry_out_together<R: Threads + Wait + Sync>(
         &mut self,

@@ -21,3 +21,17 @@ pub enum SubmitError {
     #[error("out of memory")]
     NoMemory,
 }
+
+/// Why a list or a batch was not carried out over memory that a caller lends. Nothing is changed then.
+#[derive(Clone, Copy, PartialEq, Eq, Debug, Error)]
+pub enum RunError {
+    /// A setting is out of its limits.
+    #[error("the settings are out of range")]
+    BadSettings,
+    /// There are more than 1,024 jobs.
+    #[error("too many jobs")]
+    TooMany,
+    /// The allocator has no memory left for the records or the staging arena.
+    #[error("out of memory")]
+    NoMemory,
+}

@@ -5,6 +5,7 @@
 mod batches;
 mod engines;
 mod errors;
+mod lending;
 mod lists;
 mod loads;
 mod opening;
@@ -12,5 +13,6 @@ mod resuming;
 mod submitting;
 
 pub use dml_resume::law_resume;
-pub use engines::Engine;
-pub use errors::{EngineError, SubmitError};
+pub use engines::{Engine, EngineOver};
+pub use errors::{EngineError, RunError, SubmitError};
+pub use lending::{run_batch_over, run_list_over};

@@ -13,7 +13,7 @@ ghost use Rattle.dml_wave.specs.Waves.{busy};
 ghost use Rattle.dml_engine.specs.Lists.{IsReady};
 ghost use Rattle.dml_engine.specs.Loads.{is_for_waves, shareable};
 
-use crate::engines::Engine;
+use crate::engines::EngineOver;
 use crate::loads::{Load, levels_pay, may_pay};
 use crate::opening::{Fences, open_all};
 use dml_desc::Checked;
@@ -25,7 +25,7 @@ use std::alloc::Global;
 use std::sync::Wait;
 use std::thread::Threads;
 
-impl<G: Gate + Sync> Engine<G> {
+impl<G: Gate + Sync> EngineOver<'_, G> {
     /// Carries out a list of jobs, and writes the record of each at its place.
     pub(crate) fn carry_out_list<R: Threads + Wait + Sync>(
         &mut self,
@@ -118,7 +118,7 @@ impl<G: Gate + Sync> Engine<G> {
     }
 }
 
-impl<G> Engine<G> {
+impl<G> EngineOver<'_, G> {
     /// Whether a list of jobs goes wave by wave: a gate that was given is to see every task, with however many workers;
     /// else several workers have to pay.
     pub(crate) fn goes_by_waves(&self, jobs: &[Job], fences: Fences) -> bool

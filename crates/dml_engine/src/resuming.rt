@@ -1,10 +1,10 @@
 //! The law on resuming, over an engine's image.
 ghost use Rattle.dml_engine.specs.Resuming.{IsAccepted, KeepsResult, LeavesJob, ResumesBackward, ResumesFinished, ResumesForward};
 
-use crate::engines::Engine;
+use crate::engines::EngineOver;
 use dml_types::Job;
 
-impl<G> Engine<G> {
+impl<G> EngineOver<'_, G> {
     /// The law on resuming after a page fault, of a job over the engine's image as it stands, and of bytes for the page
     /// at which it stops; it does nothing. What it says is the law of `dml_resume`, which is over every image.
     pub fn law_resume(&self, job: &Job, page: u32, bytes: &[u8; 4096])

@@ -2,7 +2,7 @@
 ghost use Rattle.std.specs.Prelude.{◌≡◌, ◌↔◌, ◌<◌, ◌≤◌, [], IfOk, IsErrOf, OnErr, OnOk, length, vec_capacity};
 ghost use Rattle.dml_types.specs.Step.{memory_after, records_of, step};
 
-use crate::engines::Engine;
+use crate::engines::EngineOver;
 use crate::errors::SubmitError;
 use dml_effect::by_fields;
 use dml_pool::Gate;
@@ -14,7 +14,7 @@ use std::thread::Threads;
 /// The most jobs of a list or a batch.
 pub(crate) const MOST_JOBS: usize = dml_types::MOST_JOBS as usize;
 
-impl<G: Gate + Sync> Engine<G> {
+impl<G: Gate + Sync> EngineOver<'_, G> {
     /// Carries out a job, and returns its completion record. A refused job changes nothing. One job pays for no worker,
     /// so it goes to them only where a gate was given by `with_gate`.
     pub fn submit<R: Threads + Wait + Sync>(&mut self, rt: &R, alloc: Global, job: Job) -> Record

@@ -1,5 +1,5 @@
 -- Puts of entries: of neighbouring ones, into a page, and into lent memory.
-use Rattle.std.proofs.Common.{◌≡◌, ℕ, zero, suc, ◌+◌, ◌-◌, ◌*◌, ◌/◌, ◌<◌, ◌≤◌, Bool, true, List, [], ◌∷◌, ◌++◌, Option, Some, length, get_or, set, slice_range, rules, refl, sym, ◌∙◌, ap, arith}
+use Rattle.std.proofs.Common.{◌≡◌, ℕ, zero, suc, ◌+◌, ◌-◌, ◌*◌, ◌/◌, ◌<◌, ◌≤◌, Bool, true, List, [], ◌∷◌, ◌++◌, Option, Some, length, get_or, set, slice_range, rules, refl, sym, ◌∙◌, ap, subst, arith}
 use Rattle.std.proofs.lemmas.List.{places, length-set, get_or-set_same}
 use Rattle.std.proofs.lemmas.List.Folds.{list_all-append}
 use Rattle.std.proofs.lemmas.Bool.{and_parts}
@@ -34,6 +34,15 @@ inside_more begin m (first ∷ puts) p before here = (before.0, inside_more begi
 pub after_more : (begin : ℕ) (bytes : List ℕ) (puts : List Put) (p : Put) → after_puts begin bytes (puts ++ p ∷ []) ≡ overwrite (after_puts begin bytes puts) (p.address - begin) p.bytes
 after_more begin bytes [] p = refl
 after_more begin bytes (first ∷ puts) p = after_more begin (overwrite bytes (first.address - begin) first.bytes) puts p
+
+-- puts of two parts
+pub inside_both : (begin m : ℕ) (puts more : List Put) → AreInside begin m puts → AreInside begin m more → AreInside begin m (puts ++ more)
+inside_both begin m [] more before behind = behind
+inside_both begin m (first ∷ puts) more before behind = (before.0, inside_both begin m puts more before.1 behind)
+
+pub after_both : (begin : ℕ) (bytes : List ℕ) (puts more : List Put) → after_puts begin bytes (puts ++ more) ≡ after_puts begin (after_puts begin bytes puts) more
+after_both begin bytes [] more = refl
+after_both begin bytes (first ∷ puts) more = after_both begin (overwrite bytes (first.address - begin) first.bytes) puts more
 
 -- the puts of a table's page
 pub made_in_page : (pages : List (Option (List ℕ))) (now : Memory) (k : ℕ) (old after : List ℕ) (page : Option (List ℕ)) (puts : List Put) → table_memory pages ≡ now → AreWhole pages → k < length pages → page ≡ get_or pages k page → page ≡ Some old → AreInside (4096 * k) 4096 puts → after ≡ after_puts (4096 * k) old puts → table_memory (set pages k (Some after)) ≡ puts_made now puts
@@ -72,6 +81,23 @@ module _ (target : ℕ) (entries : List ℕ) where
       ap (block_puts_from target entries x) more
       ∙ ap (λ (puts : List Put). block_put target entries x ∷ puts) (puts_split (x + 1) m n y (omega arith))
 
+  puts_to : (x y n z : ℕ) → x ≤ y → y + n ≡ z → block_puts_from target entries x (z - x) ≡ block_puts_from target entries x (y - x) ++ block_puts_from target entries y n
+  puts_to x y n z order end =
+      let both : z - x ≡ (y - x) + n = omega arith in
+      ap (block_puts_from target entries x) both ∙ puts_split x (y - x) n y (omega arith)
+
+  pub inside_to : (begin m x y n z : ℕ) → x ≤ y → y + n ≡ z → AreInside begin m (block_puts_from target entries x (y - x)) → AreInside begin m (block_puts_from target entries y n) → AreInside begin m (block_puts_from target entries x (z - x))
+  inside_to begin m x y n z order end before behind =
+      subst (AreInside begin m) (sym (puts_to x y n z order end))
+      (inside_both begin m (block_puts_from target entries x (y - x)) (block_puts_from target entries y n) before behind)
+
+  pub after_to : (begin x y n z : ℕ) (bytes now after : List ℕ) → x ≤ y → y + n ≡ z → now ≡ after_puts begin bytes (block_puts_from target entries x (y - x)) → after ≡ after_puts begin now (block_puts_from target entries y n) → after ≡ after_puts begin bytes (block_puts_from target entries x (z - x))
+  after_to begin x y n z bytes now after order end before behind =
+      behind
+      ∙ (ap (λ (held : List ℕ). after_puts begin held (block_puts_from target entries y n)) before
+      ∙ (sym (after_both begin bytes (block_puts_from target entries x (y - x)) (block_puts_from target entries y n))
+      ∙ ap (after_puts begin bytes) (sym (puts_to x y n z order end))))
+
   pub puts_more : (x n y : ℕ) → x ≤ y → n ≡ y - x → block_puts_from target entries x (y + 1 - x) ≡ block_puts_from target entries x n ++ block_put target entries y ∷ []
   puts_more x n y order is =
       let more : y + 1 - x ≡ n + 1 = omega arith in
@@ -101,7 +127,7 @@ module _ (target : ℕ) (entries : List ℕ) where
     pub block_fits : (i : ℕ) → IsMemory memory → i < length entries / 10 → target + 8 * block_number entries i + 8 ≤ length memory.bytes
     block_fits i good below = has_all_within memory (target + 8 * block_number entries i) 8 good.whole (block_present i below) (omega arith)
 
-    pub address_fits : (i : ℕ) → IsMemory memory → i < length entries / 10 → target + 8 * block_number entries i + 8 ≤ 16777216
+    pub address_fits : (i : ℕ) → IsMemory memory → i < length entries / 10 → target + 8 * block_number entries i + 8 ≤ 17592186044416
     address_fits i good below = omega (arith, block_fits i good below, good.whole.each_page, good.most_pages)
 
 -- what an image keeps, after the puts of entries

@@ -1,29 +1,43 @@
--- Bytes of whole pages that are all present are a memory, and so are pages full of 0.
-use Rattle.std.proofs.Common.{◌≡◌, ℕ, ◌*◌, ◌/◌, ◌≤◌, Bool, List, [], ◌∷◌, Option, true, false, ap, length, replicate, slice_index, sym, ◌∙◌, arith, ⊎_elim}
+-- Which pages and bytes of a caller's are a memory.
+use Rattle.std.proofs.Common.{◌≡◌, ℕ, ◌*◌, ◌/◌, ◌%◌, ◌<◌, ◌≤◌, Bool, List, [], ◌∷◌, Option, None, true, false, ap, length, replicate, slice_index, slice_index_or, sym, ◌∙◌, arith, ⊎_elim}
 use Rattle.std.proofs.lemmas.List.{get_or_past, get_or-replicate, length-replicate}
 use Rattle.std.proofs.lemmas.Bool.{cases_lt, false≢true}
-use Rattle.dml_types.specs.Memory.{IsMemory}
+use Rattle.dml_types.specs.Memory.{Memory, IsMemory, InOnePiece, memory_of, on_loan}
 
-pub all_kept : (pages : ℕ) (bytes : List ℕ) (home : Option ℕ) → 1 ≤ pages → pages ≤ 4096 → length bytes ≡ 4096 * pages → IsMemory (record { present = replicate pages true; bytes = bytes; home = home })
-all_kept pages bytes home some most size = record {
-  least_pages = omega (arith, length-replicate pages true);
-  most_pages = omega (arith, length-replicate pages true);
-  whole = record { each_page = omega (arith, size, length-replicate pages true) };
-  absent = λ k gone.
-      ⊎_elim (λ low. absurd (false≢true (sym gone ∙ get_or-replicate pages (k / 4096) true false low)))
-      (λ high. get_or_past bytes k 0 (omega (arith, size))) (cases_lt (k / 4096) pages);
-}
+-- the absent ones of the first n pages are full of 0
+abbrev pub AreBlank : List Bool → List ℕ → ℕ → Type 0
+AreBlank present bytes n =
+    (k : ℕ) → k < 4096 * n → slice_index_or present (k / 4096) false ≡ false → slice_index bytes k ≡ 0
 
-pub blank_kept : (present : List Bool) (bytes : List ℕ) (home : Option ℕ) → 1 ≤ length present → length present ≤ 4096 → bytes ≡ replicate (4096 * length present) 0 → IsMemory (record { present = present; bytes = bytes; home = home })
-blank_kept present bytes home some most same = record {
+pub marked_kept : (present : List Bool) (bytes : List ℕ) (home : Option ℕ) (n : ℕ) → 1 ≤ length present → length present ≤ 4096 → length bytes ≡ 4096 * length present → length present ≤ n → AreBlank present bytes n → IsMemory (memory_of present bytes home)
+marked_kept present bytes home n some most size all blank = record {
   least_pages = some;
-  most_pages = most;
-  whole = record { each_page = ap length same ∙ length-replicate (4096 * length present) 0 };
+  most_pages = omega arith;
+  by_home = λ home. most;
+  whole = record { each_page = size };
   absent = λ k gone.
-      ap (λ all. slice_index all k) same
-      ∙ ⊎_elim (λ low. get_or-replicate (4096 * length present) k 0 0 low)
-      (λ high. get_or_past (replicate (4096 * length present) 0) k 0 (omega (arith, high, length-replicate {A = ℕ} (4096 * length present) 0))) (cases_lt k (4096 * length present));
+      ⊎_elim (λ low. blank k low gone) (λ high. get_or_past bytes k 0 (omega (arith, size))) (cases_lt k (4096 * n));
 }
 
-pub last_kept : (present : List Bool) (bytes before : List ℕ) (home : Option ℕ) → present ≡ false ∷ false ∷ true ∷ [] → bytes ≡ before → before ≡ replicate 12288 0 → IsMemory (record { present = present; bytes = bytes; home = home })
-last_kept present bytes before home last same blank = blank_kept present bytes home (omega (arith, ap length last)) (omega (arith, ap length last)) (same ∙ blank ∙ sym (ap (λ all. replicate (4096 * length all) 0) last))
+-- Memory in one piece: there are as many pages as its bytes are, and none is absent.
+abbrev pub piece_of : List ℕ → ℕ → Memory
+piece_of bytes name = on_loan (memory_of (replicate (length bytes / 4096) true) bytes None) (InOnePiece name)
+
+pub piece_kept : (bytes : List ℕ) (name : ℕ) → length bytes % 4096 ≡ 0 → 4096 ≤ length bytes → length bytes ≤ 4294967295 * 4096 → IsMemory (piece_of bytes name)
+piece_kept bytes name even least most =
+    let pages : length (replicate (length bytes / 4096) true) ≡ length bytes / 4096 = length-replicate (length bytes / 4096) true in
+    record {
+      least_pages = omega arith;
+      most_pages = omega arith;
+      by_home = λ is. absurd cc;
+      whole = record { each_page = omega arith };
+      absent = λ k gone.
+          ⊎_elim (λ low. absurd (false≢true (sym gone ∙ get_or-replicate (length bytes / 4096) (k / 4096) true false low)))
+          (λ high. get_or_past bytes k 0 (omega arith)) (cases_lt (k / 4096) (length bytes / 4096));
+    }
+
+pub piece_is : (bytes : List ℕ) (name : ℕ) → IsMemory (piece_of bytes name) → (length bytes % 4096 ≡ 0) × (4096 ≤ length bytes) × (length bytes ≤ 4294967295 * 4096)
+piece_is bytes name memory =
+    let pages : length (replicate (length bytes / 4096) true) ≡ length bytes / 4096 = length-replicate (length bytes / 4096) true in
+    let whole : length bytes ≡ 4096 * length (replicate (length bytes / 4096) true) = memory.whole.each_page in
+    (omega arith, omega (arith, memory.least_pages), omega (arith, memory.most_pages))

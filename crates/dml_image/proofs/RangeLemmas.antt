@@ -12,7 +12,7 @@ next_present old now address done n bytes is all below =
     ap (λ (m : Memory). has m (address + done)) is ∙ has_all_at old address n done all below
 
 -- addresses of present bytes are small
-pub range_fits : (memory : Memory) (address n done : ℕ) → IsMemory memory → has_all memory address n ≡ true → done < n → address + n ≤ 16777216
+pub range_fits : (memory : Memory) (address n done : ℕ) → IsMemory memory → has_all memory address n ≡ true → done < n → address + n ≤ 17592186044416
 range_fits memory address n done good all below =
     omega (arith, has_all_within memory address n good.whole all (omega arith), good.whole.each_page, good.most_pages)
 

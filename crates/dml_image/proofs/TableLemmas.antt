@@ -3,7 +3,7 @@ use Rattle.std.proofs.Common.{◌≡◌, ◌≢◌, ℕ, zero, suc, ◌+◌, ◌
 use Rattle.std.proofs.lemmas.List.{places, same_lists, map-set, get_or_past, length-map, length-replicate, get_or-set_other}
 use Rattle.std.proofs.Math.Seq.{map-set_same}
 use Rattle.std.proofs.lemmas.Bool.{cases_lt, false≢true}
-use Rattle.dml_types.specs.Memory.{Memory, has, bytes_at, overwrite, put}
+use Rattle.dml_types.specs.Memory.{Memory, has, memory_of, bytes_at, overwrite, put}
 use Rattle.dml_image.specs.Brought.{all_absent, brought}
 use Rattle.dml_image.specs.Table.{page_bytes, table_memory, AreWhole}
 
@@ -32,8 +32,8 @@ zeros n = replicate n 0
 zeros_more : (m n : ℕ) → zeros m ++ zeros n ≡ zeros (m + n)
 zeros_more m n = same_lists _ _ (search (rules, places)) (λ k d h. grind (arith, places))
 
-abbrev memory_of : List Bool → List ℕ → Memory
-memory_of present items = record { present = present; bytes = items; home = None }
+abbrev own_memory : List Bool → List ℕ → Memory
+own_memory present items = memory_of present items None
 
 pub length_flat : (pages : List (Option (List ℕ))) → AreWhole pages → length (flat_map page_bytes pages) ≡ 4096 * length pages
 length_flat [] whole = refl
@@ -101,7 +101,7 @@ page_written pages now k place address bytes after new page shown whole below at
     let bytes_are : flat_map page_bytes (set pages k (Some after)) ≡ overwrite (flat_map page_bytes pages) address new =
     write_flat pages k place (Some bytes) (Some after) page new whole below (sym is ∙ at) within done
     ∙ ap (λ a. overwrite (flat_map page_bytes pages) a new) there in
-    ap₂ (λ (present : List Bool) (items : List ℕ). memory_of present items)
+    ap₂ (λ (present : List Bool) (items : List ℕ). own_memory present items)
     (present_itself pages k bytes after page below (sym is ∙ at)) bytes_are
     ∙ ap (λ (m : Memory). put m address new) shown
 
@@ -156,7 +156,7 @@ page_brought pages now k page bytes shown whole below at long =
     let inside : k < length pages = omega (arith, ap (λ (m : Memory). length m.present) shown, length-map pages is_some) in
     let full : bytes ≡ overwrite (page_bytes page) 0 bytes = overwrite_all (page_bytes page) bytes (long ∙ sym (whole_at pages k page page whole inside at)) in
     rw (set_itself pages k page page inside at)
-    (ap₂ (λ (present : List Bool) (items : List ℕ). memory_of present items)
+    (ap₂ (λ (present : List Bool) (items : List ℕ). own_memory present items)
     (map-set is_some pages k (Some bytes))
     (write_flat pages k 0 page (Some bytes) page bytes whole inside at (omega arith) full ∙ ap (λ a. overwrite (flat_map page_bytes pages) a bytes) (omega arith))
     ∙ ap (λ (m : Memory). brought m k bytes) shown)
@@ -188,7 +188,7 @@ bytes_of_none (suc n) =
     ap (λ rest. zeros 4096 ++ rest) (bytes_of_none n) ∙ (zeros_more 4096 (4096 * n) ∙ ap zeros (omega arith))
 
 pub none_present : (n : ℕ) → table_memory (all_none n) ≡ all_absent n
-none_present n = ap₂ (λ (present : List Bool) (items : List ℕ). memory_of present items) (marks_of_none n) (bytes_of_none n)
+none_present n = ap₂ (λ (present : List Bool) (items : List ℕ). own_memory present items) (marks_of_none n) (bytes_of_none n)
 
 pub none_whole : (n : ℕ) → AreWhole (all_none n)
 none_whole zero = tt

@@ -38,6 +38,7 @@ brought_keeps memory page bytes good inside long =
     record {
       least_pages = rw same good.least_pages;
       most_pages = rw same good.most_pages;
+      by_home = λ home. rw same (good.by_home home);
       whole = record { each_page = length_overwrite memory.bytes (4096 * page) bytes within ∙ (good.whole.each_page ∙ ap (λ n. 4096 * n) (sym same)) };
       absent = λ k gone. absent k gone within;
     }

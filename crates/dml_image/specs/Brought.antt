@@ -1,11 +1,11 @@
 -- A new image, and an image after a page was brought.
 use Rattle.std.specs.Prelude.{ℕ, ◌-◌, ◌*◌, Bool, true, false, List, ◌++◌, length, None, replicate, slice_index_or, slice_set}
-use Rattle.dml_types.specs.Memory.{Memory, page_size, put}
+use Rattle.dml_types.specs.Memory.{Memory, memory_of, page_size, put}
 
 -- no page is present
 abbrev pub all_absent : ℕ → Memory
 all_absent pages =
-    record { present = replicate pages false; bytes = replicate (page_size * pages) 0; home = None }
+    memory_of (replicate pages false) (replicate (page_size * pages) 0) None
 
 -- whether the page is present
 abbrev pub has_page : Memory → ℕ → Bool

@@ -3,7 +3,7 @@ ghost use Rattle.dml_types.specs.Memory.{IsMemory, has, has_all, byte_at, bytes_
 ghost use Rattle.dml_types.specs.Bytewise.{pattern_bytes};
 ghost use Rattle.dml_image.specs.Blocks.{are_present, block_puts};
 ghost use Rattle.dml_image.specs.Brought.{all_absent, brought, has_page};
-ghost use Rattle.dml_image.specs.Kept.{kept_by, lent_memory};
+ghost use Rattle.dml_image.specs.Kept.{kept_by, loan_memory};
 
 use crate::MAX_PAGES;
 use crate::errors::ImageError;
@@ -16,7 +16,8 @@ use std::alloc::{AllocError, Global};
 use std::fmt;
 use std::marker::Model;
 
-/// A memory of 1 to 4,096 pages of 4,096 bytes, from address 0 on: pages of its own, or memory that a caller lends.
+/// A memory of pages of 4,096 bytes, from address 0 on: 1 to 4,096 pages of its own or that a caller lends, or 1 to
+/// 2^32 - 1 that a caller lends in one piece.
 ///
 /// Each page is present or absent, and no byte past the last page is present.
 pub struct Image<'a> {
@@ -101,8 +102,8 @@ impl Drop for Image<'_> {
 impl<'a> Image<'a> {
     /// An image over lent memory.
     pub(crate) fn over(lent: Lent<'a>) -> Image<'a>
-        requires { IsMemory (lent_memory lent) }
-        ensures { result ≡ lent_memory lent.entry }
+        requires { IsMemory (loan_memory lent) }
+        ensures { result ≡ loan_memory lent.entry }
     {
         Image {
             pages: Pages::Lent(lent),

@@ -1,24 +1,25 @@
-ghost use Rattle.std.specs.Prelude.{◌≡◌, ◌≢◌, ◌+◌, ◌-◌, ◌%◌, ◌<◌, ◌≤◌, false, Some, min, length, IsErr, IsOk, IsSome, IsTrue, OnErr, OnOk};
+ghost use Rattle.std.specs.Prelude.{◌≡◌, ◌≢◌, ◌+◌, ◌-◌, ◌%◌, ◌<◌, ◌≤◌, ◌↔◌, false, Some, min, length, IsErr, IsOk, IsSome, IsTrue, OnErr, OnOk};
 ghost use Rattle.dml_types.specs.Memory.{IsMemory, has, has_all, bytes_at, put, puts_made};
 ghost use Rattle.dml_types.specs.Bytewise.{pattern_bytes};
 ghost use Rattle.dml_image.specs.Blocks.{are_present, block_puts};
 ghost use Rattle.dml_image.specs.Copied.{IsOneCopy};
-ghost use Rattle.dml_image.specs.Kept.{lent_memory};
+ghost use Rattle.dml_image.specs.Kept.{lent_memory, loan_memory};
 ghost use Rattle.dml_image.specs.Brought.{brought, has_page};
 
-use crate::PAGE_SIZE;
 use crate::blocks::put_inside;
 use crate::images::{Image, Pages};
-use crate::slices::{copy_at, fill_at, write_at};
+use crate::slices::{copy_at, fill_at, is_blank, write_at};
+use crate::{MAX_PAGES, PAGE_SIZE};
 use std::alloc::AllocError;
 
 /// Whole pages of the caller's memory that are lent to an image: which of them are present, and their bytes.
 ///
 /// `take` lends them as an image, and `put` takes the image back; afterwards the caller's bytes are those of the image.
+// Where an image keeps memory that was lent in one piece, there is no mark in `present`: each page is.
 #[derive(Drop)]
 pub struct Lent<'a> {
     present: &'a [bool],
-    content: &'a mut [u8],
+    pub(crate) content: &'a mut [u8],
 }
 
 impl<'a> Lent<'a> {
@@ -29,6 +30,24 @@ impl<'a> Lent<'a> {
         ensures same_reference { result.content.ghost_name ≡ content.entry.ghost_name }
     {
         Lent { present, content }
+    }
+
+    /// Whether it may be taken: 1 to 4,096 pages, as many bytes as they have, and 0 in those that are absent.
+    #[tactic(auto, using(crate::proofs::LentLemmas::marked_kept))]
+    pub fn is_memory(&self) -> bool
+        ensures { IsTrue result ↔ IsMemory (lent_memory self.now) }
+    {
+        let pages = self.present.len();
+        if pages < 1 || pages > MAX_PAGES as usize || self.content.len() != PAGE_SIZE * pages {
+            return false;
+        }
+        for (page, present) in self.present.iter().enumerate() {
+            let begin = PAGE_SIZE * page;
+            if !*present && !is_blank(&self.content[begin..begin + PAGE_SIZE]) {
+                return false;
+            }
+        }
+        true
     }
 
     /// The memory as an image; until it is put back, nothing is left here.
@@ -57,21 +76,22 @@ impl<'a> Lent<'a> {
 
     /// The number of pages.
     pub(crate) fn pages(&self) -> usize
-        ensures { result ≡ length self.now.present.now }
+        requires { IsMemory (loan_memory self.now) }
+        ensures { result ≡ length (loan_memory self.now).present }
     {
-        self.present.len()
+        self.content.len() / PAGE_SIZE
     }
 
     /// Writes these bytes over a page that is present; one that is absent has no room here.
     pub(crate) fn bring(&mut self, page: usize, bytes: &[u8; 4096]) -> Result<(), AllocError>
-        requires memory { IsMemory (lent_memory self.old) }
-        requires page { page < length self.old.present.now }
-        ensures ok { OnOk result (lent_memory self.new ≡ brought (lent_memory self.old) page bytes.now) }
-        ensures err { OnErr result (lent_memory self.new ≡ lent_memory self.old) }
-        ensures again { IsTrue (has_page (lent_memory self.old) page) → IsOk result }
-        ensures no_room { has_page (lent_memory self.old) page ≡ false → IsErr result }
+        requires memory { IsMemory (loan_memory self.old) }
+        requires page { page < length (loan_memory self.old).present }
+        ensures ok { OnOk result (loan_memory self.new ≡ brought (loan_memory self.old) page bytes.now) }
+        ensures err { OnErr result (loan_memory self.new ≡ loan_memory self.old) }
+        ensures again { IsTrue (has_page (loan_memory self.old) page) → IsOk result }
+        ensures no_room { has_page (loan_memory self.old) page ≡ false → IsErr result }
     {
-        if !self.present[page] {
+        if !self.has_page(page) {
             return Err(AllocError);
         }
         write_at(self.content, PAGE_SIZE * page, bytes);
@@ -80,18 +100,28 @@ impl<'a> Lent<'a> {
 
     /// Whether the byte at this address is present.
     pub(crate) fn has(&self, addr: u64) -> bool
-        ensures { result ≡ has (lent_memory self.now) addr }
+        requires { IsMemory (loan_memory self.now) }
+        ensures { result ≡ has (loan_memory self.now) addr }
     {
-        self.present
-            .get(addr as usize / PAGE_SIZE)
-            .is_some_and(|present| *present)
+        self.has_page(addr as usize / PAGE_SIZE)
+    }
+
+    /// Whether the page is present. A page without a mark is one of memory in one piece, or past the last page.
+    fn has_page(&self, page: usize) -> bool
+        requires { IsMemory (loan_memory self.now) }
+        ensures { result ≡ has_page (loan_memory self.now) page }
+    {
+        match self.present.get(page) {
+            Some(present) => *present,
+            None => page < self.content.len() / PAGE_SIZE,
+        }
     }
 
     /// The bytes from this address on, `len` of them or as many as there are up to the end of the page.
     pub(crate) fn part(&self, addr: u64, len: u32) -> &[u8]
-        requires memory { IsMemory (lent_memory self.now) }
-        requires present { IsTrue (has (lent_memory self.now) addr) }
-        ensures bytes { result.now ≡ bytes_at (lent_memory self.now) addr (length result.now) }
+        requires memory { IsMemory (loan_memory self.now) }
+        requires present { IsTrue (has (loan_memory self.now) addr) }
+        ensures bytes { result.now ≡ bytes_at (loan_memory self.now) addr (length result.now) }
         ensures length { length result.now ≡ min len (4096 - addr % 4096) }
     {
         let place = addr as usize;
@@ -102,9 +132,9 @@ impl<'a> Lent<'a> {
     /// Reads bytes from this address on into the whole buffer.
     #[tactic(auto, using(crate::proofs::WriteLemmas::range_within, crate::proofs::WriteLemmas::read_behind))]
     pub(crate) fn read_into(&self, addr: u64, buffer: &mut [u8])
-        requires memory { IsMemory (lent_memory self.now) }
-        requires present { IsTrue (has_all (lent_memory self.now) addr (length buffer.old)) }
-        ensures { buffer.new ≡ bytes_at (lent_memory self.now) addr (length buffer.old) }
+        requires memory { IsMemory (loan_memory self.now) }
+        requires present { IsTrue (has_all (loan_memory self.now) addr (length buffer.old)) }
+        ensures { buffer.new ≡ bytes_at (loan_memory self.now) addr (length buffer.old) }
     {
         let place = addr as usize;
         if place >= self.content.len() {
@@ -116,9 +146,9 @@ impl<'a> Lent<'a> {
     /// Writes bytes from this address on.
     #[tactic(auto, using(crate::proofs::WriteLemmas::range_within, crate::proofs::WriteLemmas::put_behind))]
     pub(crate) fn write(&mut self, addr: u64, bytes: &[u8])
-        requires memory { IsMemory (lent_memory self.old) }
-        requires present { IsTrue (has_all (lent_memory self.old) addr (length bytes.now)) }
-        ensures { lent_memory self.new ≡ put (lent_memory self.old) addr bytes.now }
+        requires memory { IsMemory (loan_memory self.old) }
+        requires present { IsTrue (has_all (loan_memory self.old) addr (length bytes.now)) }
+        ensures { loan_memory self.new ≡ put (loan_memory self.old) addr bytes.now }
     {
         let place = addr as usize;
         if place >= self.content.len() {
@@ -130,9 +160,9 @@ impl<'a> Lent<'a> {
     /// Repeats the 8 bytes of a pattern, low byte first, over `len` bytes from this address on.
     #[tactic(auto, using(crate::proofs::WriteLemmas::fill_steps))]
     pub(crate) fn fill(&mut self, addr: u64, len: u32, pattern: u64)
-        requires memory { IsMemory (lent_memory self.old) }
-        requires present { IsTrue (has_all (lent_memory self.old) addr len) }
-        ensures { lent_memory self.new ≡ put (lent_memory self.old) addr (pattern_bytes pattern len) }
+        requires memory { IsMemory (loan_memory self.old) }
+        requires present { IsTrue (has_all (loan_memory self.old) addr len) }
+        ensures { loan_memory self.new ≡ put (loan_memory self.old) addr (pattern_bytes pattern len) }
     {
         let place = addr as usize;
         if place >= self.content.len() {
@@ -143,9 +173,9 @@ impl<'a> Lent<'a> {
 
     /// Puts the blocks of all whole entries of a delta record.
     pub(crate) fn put_blocks(&mut self, target: u64, entries: &[u8])
-        requires memory { IsMemory (lent_memory self.old) }
-        requires present { IsTrue (are_present (lent_memory self.old) (block_puts target entries.now)) }
-        ensures { lent_memory self.new ≡ puts_made (lent_memory self.old) (block_puts target entries.now) }
+        requires memory { IsMemory (loan_memory self.old) }
+        requires present { IsTrue (are_present (loan_memory self.old) (block_puts target entries.now)) }
+        ensures { loan_memory self.new ≡ puts_made (loan_memory self.old) (block_puts target entries.now) }
     {
         if target > self.content.len() as u64 {
             return; // no byte there is present, so there is no entry
@@ -156,12 +186,12 @@ impl<'a> Lent<'a> {
     /// Copies `len` bytes from one address on to another. Ranges that overlap are short.
     #[tactic(auto, using(dml_types::proofs::MemoryLemmas::has_all_within))]
     pub(crate) fn copy_part(&mut self, from: u64, to: u64, len: usize)
-        requires memory { IsMemory (lent_memory self.old) }
+        requires memory { IsMemory (loan_memory self.old) }
         requires some { 0 < len }
-        requires from { IsTrue (has_all (lent_memory self.old) from len) }
-        requires to { IsTrue (has_all (lent_memory self.old) to len) }
+        requires from { IsTrue (has_all (loan_memory self.old) from len) }
+        requires to { IsTrue (has_all (loan_memory self.old) to len) }
         requires apart { IsOneCopy from to len }
-        ensures { lent_memory self.new ≡ put (lent_memory self.old) to (bytes_at (lent_memory self.old) from len) }
+        ensures { loan_memory self.new ≡ put (loan_memory self.old) to (bytes_at (loan_memory self.old) from len) }
     {
         copy_at(self.content, from as usize, to as usize, len);
     }

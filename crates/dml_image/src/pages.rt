@@ -1,4 +1,4 @@
-ghost use Rattle.std.specs.Prelude.{◌≡◌, ◌+◌, ◌-◌, ◌/◌, ◌≤◌, length, slice_range, IfOk};
+ghost use Rattle.std.specs.Prelude.{◌≡◌, ◌+◌, ◌-◌, ◌/◌, ◌^◌, ◌≤◌, length, slice_range, IfOk};
 ghost use Rattle.dml_types.specs.Memory.{overwrite};
 ghost use Rattle.dml_types.specs.Bytewise.{pattern_bytes};
 ghost use Rattle.dml_image.specs.Blocks.{after_puts, block_puts_from, AreInside};
@@ -75,7 +75,8 @@ impl Page {
     /// Puts blocks from entry `first` on into the page, which begins at the address `begin`, and stops before the first
     /// one that is not all in it. Returns how many entries there are up to there.
     pub fn put_blocks(&mut self, begin: u64, target: u64, entries: &[u8], first: usize) -> usize
-        requires target { target ≤ 16777216 }
+        requires end { begin + 4096 ≤ 2 ^ 64 }
+        requires target { target ≤ 17592186044416 }
         requires first { first ≤ length entries.now / 10 }
         ensures within { (first ≤ result) × (result ≤ length entries.now / 10) }
         ensures inside { AreInside begin 4096 (block_puts_from target entries.now first (result - first)) }

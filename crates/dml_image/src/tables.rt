@@ -121,7 +121,7 @@ impl Table {
     /// it. Returns how many entries there are up to there.
     pub fn put_in_page(&mut self, addr: u64, target: u64, entries: &[u8], first: usize) -> usize
         requires present { IsTrue (has self.old addr) }
-        requires target { target ≤ 16777216 }
+        requires target { target ≤ 17592186044416 }
         requires first { first ≤ length entries.now / 10 }
         ensures within { (first ≤ result) × (result ≤ length entries.now / 10) }
         ensures made { self.new ≡ puts_made self.old (block_puts_from target entries.now first (result - first)) }

@@ -1,8 +1,6 @@
-ghost use Rattle.std.specs.Prelude.{◌≡◌, replicate};
-ghost use Rattle.dml_types.specs.Memory.{IsMemory};
-ghost use Rattle.dml_image.specs.Kept.{lent_memory};
+ghost use Rattle.std.specs.Prelude.{◌≡◌};
 
-use dml_image::{Image, ImageError, Lent};
+use dml_image::{Image, ImageError, Lent, Whole};
 use dml_types::Direction;
 use std::alloc::Global;
 use std::process::Abort;
@@ -20,6 +18,7 @@ fn image_with(alloc: Global, pages: u32, brought: &[u32]) -> Result<Image<'stati
 /// Brings a page full of one byte.
 fn bring_full(image: &mut Image, page: u32, byte: u8) -> Result<(), ImageError>
     ensures home { image.new.home ≡ image.old.home }
+    ensures loan { image.new.loan ≡ image.old.loan }
 {
     match image.bring(page, &[byte; 4096]) {
         Ok(()) => Ok(()),
@@ -36,6 +35,7 @@ fn expect_bring(
     answer: Result<(), ImageError>,
 )
     ensures home { image.new.home ≡ image.old.home }
+    ensures loan { image.new.loan ≡ image.old.loan }
 {
     assert_eq!(rt; bring_full(image, page, byte), answer, "page {page}");
 }
@@ -126,6 +126,7 @@ fn part_ends_with_its_page(rt: HostRuntime) -> Result<(), Fail> {
 /// Writes over the edge of the first two pages, and checks what is written and the byte on each side of it.
 fn write_over_edge(rt: &impl Abort, image: &mut Image, beside: u8)
     ensures home { image.new.home ≡ image.old.home }
+    ensures loan { image.new.loan ≡ image.old.loan }
 {
     assert!(rt; image.first_absent(4094, 4, Direction::Forward).is_none());
     image.write(4094, &[1, 2, 3, 4]);
@@ -304,6 +305,7 @@ fn moved(
 /// Moves bytes inside an image, where they must be present.
 fn move_inside(rt: &impl Abort, image: &mut Image, row: (u64, u64, u32))
     ensures home { image.new.home ≡ image.old.home }
+    ensures loan { image.new.loan ≡ image.old.loan }
 {
     let (source, target, len) = row;
     assert!(rt; source <= 12_288 && target <= 12_288 && len <= 12_288);
@@ -341,27 +343,34 @@ fn moves_inside_own_pages(rt: HostRuntime) -> Result<(), Fail> {
     Ok(())
 }
 
-/// Three pages of a caller's, all present.
-#[tactic(auto, using(dml_image::proofs::LentLemmas::all_kept))]
-fn three_pages(content: &mut [u8; 12_288]) -> Lent<'_>
-    ensures memory { IsMemory (lent_memory result) }
-{
-    Lent::new(&[true; 3], content)
+/// Checks whether memory may be lent with a list of which pages are present.
+fn expect_lent(rt: &impl Abort, present: &[bool], content: &mut [u8], taken: bool) {
+    let lent = Lent::new(present, content);
+    assert_eq!(rt; lent.is_memory(), taken);
 }
 
-/// Three pages of a caller's, full of 0; the last alone is present.
-fn last_of_three(content: &mut [u8; 12_288]) -> Lent<'_>
-    requires blank { content.old ≡ replicate 12288 0 }
-    ensures memory { IsMemory (lent_memory result) }
-{
-    Lent::new(&[false, false, true], content)
+#[test]
+fn lent_memory_that_may_be_taken(rt: HostRuntime) -> Result<(), Fail> {
+    let marks = [true; 4097];
+    let mut most = vec![in rt.alloc(); 0; 4096 * 4096]?;
+    expect_lent(&rt, &marks[..4096], most.as_mut_slice(), true);
+    let mut more = vec![in rt.alloc(); 0; 4096 * 4097]?;
+    expect_lent(&rt, &marks, more.as_mut_slice(), false);
+    expect_lent(&rt, &[], &mut [], false);
+    expect_lent(&rt, &[true], &mut [0; 4095], false);
+    let mut content = [0; 8192];
+    content[4096] = 1;
+    expect_lent(&rt, &[false, true], &mut content, true);
+    expect_lent(&rt, &[true, false], &mut content, false);
+    Ok(())
 }
 
 #[test]
 fn moves_inside_lent_memory(rt: HostRuntime) {
     for row in MOVES {
         let mut content = some_bytes();
-        let mut lent = three_pages(&mut content);
+        let mut lent = Lent::new(&[true; 3], &mut content);
+        assert!(rt; lent.is_memory());
         let mut image = lent.take();
         move_inside(&rt, &mut image, row);
         lent.put(image);
@@ -382,7 +391,8 @@ fn edges_written() -> [u8; 12_288] {
 #[test]
 fn write_over_page_edge_of_lent_memory(rt: HostRuntime) {
     let mut content = [0x11; 12_288];
-    let mut lent = three_pages(&mut content);
+    let mut lent = Lent::new(&[true; 3], &mut content);
+    assert!(rt; lent.is_memory());
     let mut image = lent.take();
     expect_pages(&rt, &image, 3);
     write_over_edge(&rt, &mut image, 0x11);
@@ -404,7 +414,8 @@ fn last_page_brought() -> [u8; 12_288] {
 #[test]
 fn last_page_of_lent_memory(rt: HostRuntime) {
     let mut content = [0; 12_288];
-    let mut lent = last_of_three(&mut content);
+    let mut lent = Lent::new(&[false, false, true], &mut content);
+    assert!(rt; lent.is_memory());
     let mut image = lent.take();
     expect_bring(&rt, &mut image, 3, 7, Err(ImageError::NoSuchPage));
     expect_bring(&rt, &mut image, 2, 0x5a, Ok(()));
@@ -418,7 +429,8 @@ fn last_page_of_lent_memory(rt: HostRuntime) {
 #[test]
 fn absent_page_of_lent_memory(rt: HostRuntime) {
     let mut content = [0; 12_288];
-    let mut lent = last_of_three(&mut content);
+    let mut lent = Lent::new(&[false, false, true], &mut content);
+    assert!(rt; lent.is_memory());
     let mut image = lent.take();
     expect_bring(&rt, &mut image, 1, 0x5a, Err(ImageError::NoMemory));
     assert!(rt; !image.has(4096) && !image.has(8191) && image.has(8192));
@@ -435,6 +447,50 @@ fn absent_page_of_lent_memory(rt: HostRuntime) {
     lent.put(image);
     drop(lent);
     assert!(rt; content == [0; 12_288]);
+}
+
+/// Checks whether memory may be lent in one piece.
+fn expect_whole(rt: &impl Abort, content: &mut [u8], taken: bool) {
+    let whole = Whole::new(content);
+    assert_eq!(rt; whole.is_memory(), taken);
+}
+
+#[test]
+fn whole_memory_that_may_be_taken(rt: HostRuntime) {
+    expect_whole(&rt, &mut [1; 8192], true);
+    expect_whole(&rt, &mut [1; 4096], true);
+    expect_whole(&rt, &mut [], false);
+    expect_whole(&rt, &mut [1; 2048], false);
+    expect_whole(&rt, &mut [1; 6144], false);
+}
+
+/// What a write over the edge, a second page of 0, and a move of 4 bytes to the end leave of two pages full of 0x11.
+fn piece_written() -> [u8; 8192] {
+    let mut content = [0x11; 8192];
+    content[4096..].fill(0);
+    content[4094..4096].copy_from_slice(&[1, 2]);
+    content[8188..8192].copy_from_slice(&[0x11, 1, 2, 0]);
+    content
+}
+
+#[test]
+fn two_pages_in_one_piece(rt: HostRuntime) {
+    let mut content = [0x11; 8192];
+    let mut whole = Whole::new(&mut content);
+    assert!(rt; whole.is_memory());
+    let mut image = whole.take();
+    expect_pages(&rt, &image, 2);
+    assert!(rt; image.has(0) && image.has(8191) && !image.has(8192) && !image.has(u64::MAX));
+    expect_byte(&rt, &image, 8192, None);
+    expect_first_absent(&rt, &image, (0, 8192), Direction::Backward, None);
+    expect_first_absent(&rt, &image, (8190, 4), Direction::Forward, Some(2));
+    write_over_edge(&rt, &mut image, 0x11);
+    expect_bring(&rt, &mut image, 1, 0, Ok(()));
+    expect_bring(&rt, &mut image, 2, 0, Err(ImageError::NoSuchPage));
+    move_inside(&rt, &mut image, (4093, 8188, 4));
+    whole.put(image);
+    drop(whole);
+    assert!(rt; content == piece_written());
 }
 
 // The refused_* below take either answer: they are also run with each growth refused in turn, from the first one behind

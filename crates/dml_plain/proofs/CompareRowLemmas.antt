@@ -5,7 +5,7 @@ use Rattle.std.proofs.lemmas.Bool.{cases_lt, eq-eqb, ne_eqb, and_from, and_right
 use Rattle.std.proofs.lemmas.List.{get_or-replicate, get_or_past, length-replicate}
 use Rattle.dml_types.specs.declared.operations.Op.TheVariants.{Compare}
 use Rattle.dml_types.specs.declared.statuses.Status.TheVariants.{Success, ReadFault}
-use Rattle.dml_types.specs.Memory.{Memory, has, byte_at, overwrite}
+use Rattle.dml_types.specs.Memory.{Memory, has, byte_at, memory_of, overwrite}
 use Rattle.dml_types.specs.Job.{compare_job}
 use Rattle.dml_types.specs.Bytewise.{compare_answer, faults_at, compared}
 use Rattle.dml_types.specs.Step.{effect}
@@ -27,7 +27,7 @@ zeros_of n is = record {
 }
 
 abbrev pub four_pages : Bool → List ℕ → ℕ → Memory
-four_pages last zeros place = record { present = true ∷ false ∷ true ∷ last ∷ []; bytes = overwrite zeros place (1 ∷ []); home = None }
+four_pages last zeros place = memory_of (true ∷ false ∷ true ∷ last ∷ []) (overwrite zeros place (1 ∷ [])) None
 
 has_front : (last : Bool) (zeros : List ℕ) (place i : ℕ) → i < 4096 → has (four_pages last zeros place) i ≡ true
 has_front last zeros place i below = let first_page : i / 4096 ≡ 0 = omega arith in rw first_page refl

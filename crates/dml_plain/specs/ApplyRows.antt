@@ -1,7 +1,7 @@
 -- Worked rows of apply.
 use Rattle.std.specs.Prelude.{◌≡◌, ℕ, ◌-◌, ◌*◌, true, false, None, List, [], ◌∷◌, ◌++◌, length, replicate}
 use Rattle.dml_types.specs.declared.statuses.Status.TheVariants.{Success, NotRising, OffsetRange}
-use Rattle.dml_types.specs.Memory.{Memory, put}
+use Rattle.dml_types.specs.Memory.{memory_of, put}
 use Rattle.dml_types.specs.Job.{apply_job}
 use Rattle.dml_plain.specs.Row.{hex, image, answer, Answers, Shows, after}
 
@@ -24,12 +24,9 @@ unfoldable pub apply_offset_range : Type 0
 apply_offset_range =
     (behind : List ℕ) →
     length behind ≡ 4096 * 129 - 26 →
-    let memory : Memory =
-    record {
-      present = true ∷ replicate 127 false ++ true ∷ [];
-      bytes = hex 10 0xffffaaaaaaaaaaaaaaaa ++ replicate 6 0 ++ hex 10 0x0400bbbbbbbbbbbbbbbb ++ behind;
-      home = None;
-    } in
+    let memory =
+    memory_of (true ∷ replicate 127 false ++ true ∷ [])
+    (hex 10 0xffffaaaaaaaaaaaaaaaa ++ replicate 6 0 ++ hex 10 0x0400bbbbbbbbbbbbbbbb ++ behind) None in
     let jobs = apply_job 16 10 256 32 ∷ apply_job 0 10 4096 0x80000 ∷ [] in
     Answers memory jobs (answer OffsetRange 0 0 0 0 ∷ answer Success 0 10 0 0 ∷ [])
     × Shows (after memory jobs) 528376 (hex 8 0xaaaaaaaaaaaaaaaa)

@@ -1,7 +1,7 @@
 -- Worked rows of fill, and of every operation on an image without pages or over an empty range.
 use Rattle.std.specs.Prelude.{ℕ, true, false, None, List, [], ◌∷◌, replicate}
 use Rattle.dml_types.specs.declared.statuses.Status.TheVariants.{Success, ReadFault, WriteFault, OffsetRange, BadFlags, BadSize, RangePast}
-use Rattle.dml_types.specs.Memory.{Memory}
+use Rattle.dml_types.specs.Memory.{memory_of}
 use Rattle.dml_types.specs.Job.{no_op_job, move_job, fill_job, compare_job, create_job, apply_job, dualcast_job}
 use Rattle.dml_plain.specs.Row.{hex, image, flagged, answer, Answers, ShowsCut, after}
 
@@ -31,7 +31,7 @@ empty_ranges =
 unfoldable pub every_page_absent : Type 0
 every_page_absent =
     (bytes : List ℕ) →
-    let memory : Memory = record { present = replicate 4096 false; bytes = bytes; home = None } in
+    let memory = memory_of (replicate 4096 false) bytes None in
     let jobs =
     move_job 0 8 16 ∷ fill_job 1 0 8 ∷ compare_job 0 8 8 ∷ create_job 0 64 8 128 10 ∷ apply_job 0 10 256 8
     ∷ dualcast_job 0 4096 8192 8 ∷ no_op_job ∷ [] in

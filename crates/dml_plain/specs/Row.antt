@@ -6,7 +6,7 @@ use Rattle.dml_types.specs.declared.jobs.Job.{Job}
 use Rattle.dml_types.specs.declared.records.BatchRecord.{BatchRecord}
 use Rattle.dml_types.specs.declared.records.Record.{Record}
 use Rattle.dml_types.specs.declared.statuses.Status.{Status}
-use Rattle.dml_types.specs.Memory.{Memory, page_size, has, byte_at}
+use Rattle.dml_types.specs.Memory.{Memory, memory_of, page_size, has, byte_at}
 use Rattle.dml_types.specs.Step.{memory_after, records_of, batch}
 
 -- the n bytes that a number's hexadecimal digits show, from the left
@@ -15,7 +15,7 @@ hex n digits = map (λ i. digits / 256 ^ (n - 1 - i) % 256) (range_with_len 0 n)
 
 -- an image whose present pages hold zeros
 abbrev pub image : List Bool → Memory
-image present = record { present = present; bytes = replicate (page_size * length present) 0; home = None }
+image present = memory_of present (replicate (page_size * length present) 0) None
 
 -- a job with flags; and one whose result is checked
 abbrev pub flagged : Job → ℕ → Job

@@ -27,8 +27,9 @@ pub trait Common {
 
 impl Common for Brand {
     ghost use Rattle.std.specs.Prelude.{[], None};
+    ghost use Rattle.dml_types.specs.Memory.{memory_of};
 
-    ghost memory = { record { present = []; bytes = []; home = None } };
+    ghost memory = { memory_of [] [] None };
 
     ghost deque = { ((0, 0), record { memory = record { seal = tt } }) };
 

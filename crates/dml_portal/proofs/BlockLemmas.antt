@@ -89,22 +89,23 @@ block_fits log client lane start records answers block =
     let within = block_within client lane.before lane.fetched (drop start log) block in
     omega (arith, within, ap length answers, length-map (drop start log) (λ (e : LogEntry). e.answer))
 
+-- the records of a client's block of the round
+pub block_answers : (log : List LogEntry) (client : ℕ) (lane : Lane) (start : ℕ) (records : List Record) → answers_in (drop start log) ≡ records → IsBlock (drop start log) client lane → answers_in (part_of client (drop start log)) ≡ take lane.fetched (drop lane.before records)
+block_answers log client lane start records answers block =
+    ap answers_in (part_at client lane.before lane.fetched (drop start log) block)
+    ∙ (sym (take-map (λ (e : LogEntry). e.answer) lane.fetched (drop lane.before (drop start log)))
+    ∙ (ap (take lane.fetched) (sym (drop-map (λ (e : LogEntry). e.answer) lane.before (drop start log)))
+    ∙ ap (λ xs. take lane.fetched (drop lane.before xs)) answers))
+
 -- a client whose earlier records were all pushed gets its block of the round's
 pub block_pushed : (log : List LogEntry) (client : ℕ) (lane now : Lane) (start : ℕ) (records : List Record) → answers_in (drop start log) ≡ records → IsBlock (drop start log) client lane → IsPushed log client lane → lane.answered ≡ start → sent now.records ≡ sent lane.records ++ take lane.fetched (drop lane.before records) → now.answered ≡ length log → IsPushed log client now
 block_pushed log client lane now start records answers block pushed here more end = (
   omega (arith, end),
-  more ∙ (ap (λ xs. xs ++ take lane.fetched (drop lane.before records)) before ∙ (ap (λ xs. answers_in (part_of client (take start log)) ++ xs) (sym those) ∙ sym whole)),
+  more ∙ (ap (λ xs. xs ++ take lane.fetched (drop lane.before records)) before ∙ (ap (λ xs. answers_in (part_of client (take start log)) ++ xs) (sym (block_answers log client lane start records answers block)) ∙ sym whole)),
 )
   where
     before : sent lane.records ≡ answers_in (part_of client (take start log))
     before = pushed.1 ∙ ap (λ n. answers_in (part_of client (take n log))) here
-
-    those : answers_in (part_of client (drop start log)) ≡ take lane.fetched (drop lane.before records)
-    those =
-        ap answers_in (part_at client lane.before lane.fetched (drop start log) block)
-        ∙ (sym (take-map (λ (e : LogEntry). e.answer) lane.fetched (drop lane.before (drop start log)))
-        ∙ (ap (take lane.fetched) (sym (drop-map (λ (e : LogEntry). e.answer) lane.before (drop start log)))
-        ∙ ap (λ xs. take lane.fetched (drop lane.before xs)) answers))
 
     whole : answers_in (part_of client (take now.answered log)) ≡ answers_in (part_of client (take start log)) ++ answers_in (part_of client (drop start log))
     whole =

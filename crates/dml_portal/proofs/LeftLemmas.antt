@@ -30,7 +30,7 @@ sums_le f g (x ∷ xs) (y ∷ ys) long each =
     let rest = sums_le f g xs ys (omega (arith, long)) (λ k d below. each (suc k) d (omega (arith, below))) in
     omega (arith, first, rest, sum_by-cons f x xs, sum_by-cons g y ys)
 
-sums_less : {X : Type 0} (f g : X → ℕ) (xs ys : List X) (place : ℕ) → place < length ys → length ys ≡ length xs → ((k : ℕ) (d : X) → k < length ys → g (get_or ys k d) ≤ f (get_or xs k d)) → ((d : X) → g (get_or ys place d) < f (get_or xs place d)) → sum_by g ys < sum_by f xs
+pub sums_less : {X : Type 0} (f g : X → ℕ) (xs ys : List X) (place : ℕ) → place < length ys → length ys ≡ length xs → ((k : ℕ) (d : X) → k < length ys → g (get_or ys k d) ≤ f (get_or xs k d)) → ((d : X) → g (get_or ys place d) < f (get_or xs place d)) → sum_by g ys < sum_by f xs
 sums_less f g xs [] place within long each less = absurd (omega (arith, within))
 sums_less f g [] (y ∷ ys) place within long each less = absurd (omega (arith, long))
 sums_less f g (x ∷ xs) (y ∷ ys) zero within long each less =
@@ -42,12 +42,12 @@ sums_less f g (x ∷ xs) (y ∷ ys) (suc place) within long each less =
     let rest = sums_less f g xs ys place (omega (arith, within)) (omega (arith, long)) (λ k d below. each (suc k) d (omega (arith, below))) less in
     omega (arith, first, rest, sum_by-cons f x xs, sum_by-cons g y ys)
 
-some_of : {X : Type 0} (xs : List X) (k : ℕ) → k < length xs → X
+pub some_of : {X : Type 0} (xs : List X) (k : ℕ) → k < length xs → X
 some_of [] k within = absurd (omega (arith, within))
 some_of (x ∷ xs) k within = x
 
 -- where a job is known to wait, one is taken
-one_taken : (known taken left : List Job) → 0 < length known → IsTaken known taken left → 0 < length taken
+pub one_taken : (known taken left : List Job) → 0 < length known → IsTaken known taken left → 0 < length taken
 one_taken known taken left some is =
     let whole = ap length is.first.1 in
     ⊎_elim

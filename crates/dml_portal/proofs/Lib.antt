@@ -9,3 +9,7 @@ pub mod LookLemmas
 pub mod SeatLemmas
 pub mod LeftLemmas
 pub mod BlockLemmas
+pub mod HistoryLemmas
+pub mod WholeLemmas
+pub mod HeldLemmas
+pub mod RingLeftLemmas

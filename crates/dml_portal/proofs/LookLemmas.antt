@@ -9,7 +9,7 @@ use Rattle.rtrb.specs.Ring.{received, sent}
 use Rattle.dml_portal.specs.Types.{LogEntry}
 use Rattle.dml_portal.specs.Log.{answers_in, jobs_in, part_of}
 use Rattle.dml_portal.specs.Seats.{IsSameSeat, polled, submitted}
-use Rattle.dml_portal.specs.Lanes.{ArePopped, ArePushed, AreSameLanes, IsAcross, IsSameLane, IsSeatOf, waiting}
+use Rattle.dml_portal.specs.Lanes.{ArePopped, ArePushed, AreSameLanes, IsAcross, IsPushed, IsSameLane, IsSeatOf, waiting}
 use Rattle.dml_portal.specs.Settled.{AreSeatsOf, AreUnusedLanes, AreUnusedSeats, EachDone, HasJobsLeft, IsDrained, IsLeft, IsSettled, IsUnusedLane, IsUnusedSeat, has_finished, have_finished}
 use Rattle.dml_portal.specs.declared.lanes.Lane.{Lane}
 use Rattle.dml_portal.specs.declared.seats.Done.{Done}
@@ -73,15 +73,17 @@ popped_unused lanes now log unused popped client lane below =
     let inside : client < length lanes = omega (arith, below, unused.0) in
     (unused.1 client lane below).1 ∙ popped client l inside
 
+pub pushed_unused_one : (log : List LogEntry) (client : ℕ) (lane now : Lane) → IsUnusedLane lane now → IsPushed log client lane → IsPushed log client now
+pushed_unused_one log client lane now same was = (
+  subst (λ n. n ≤ length log) (sym same.3) was.0,
+  same.2 ∙ (was.1 ∙ ap (λ n. answers_in (part_of client (take n log))) (sym same.3)),
+)
+
 pub pushed_unused : (lanes now : List Lane) (log : List LogEntry) → AreUnusedLanes lanes now → ArePushed lanes log → ArePushed now log
 pushed_unused lanes now log unused pushed client lane below =
     let l : Lane = get_or now client lane in
     let inside : client < length lanes = omega (arith, below, unused.0) in
-    let same = unused.1 client lane below in
-    let was = pushed client l inside in (
-      subst (λ n. n ≤ length log) (sym same.3) was.0,
-      same.2 ∙ (was.1 ∙ ap (λ n. answers_in (part_of client (take n log))) (sym same.3)),
-    )
+    pushed_unused_one log client (get_or lanes client l) l (unused.1 client lane below) (pushed client l inside)
 
 -- one entry of a list changes by a relation that all entries have to those of the start
 pub each_more : {X : Type 0} (R : X → X → Type 0) (start xs : List X) (i : ℕ) (x y : X) → ((a b c : X) → R a b → R b c → R a c) → i < length xs → length xs ≡ length start → x ≡ get_or xs i x → R x y → ((k : ℕ) (d : X) → k < length xs → R (get_or start k (get_or xs k d)) (get_or xs k d)) → (k : ℕ) (d : X) → k < length (set xs i y) → R (get_or start k (get_or (set xs i y) k d)) (get_or (set xs i y) k d)
@@ -113,7 +115,7 @@ drained_set lanes client lane now done within is same drained d =
     (sym (get_or-set_other lanes client done.seat.client now d differs)) (drained d))
     (cases_eq done.seat.client client)
 
-same_lane_again : (lane : Lane) → IsSameLane lane lane
+pub same_lane_again : (lane : Lane) → IsSameLane lane lane
 same_lane_again lane = search rules
 
 same_seat_again : (seat : Seat) → IsSameSeat seat seat
@@ -125,6 +127,14 @@ same_lanes_again lanes = (
   λ client lane below.
       let mine : Lane = get_or lanes client lane in
       subst (λ l. IsSameLane l mine) (get_or_default lanes client lane mine below) (same_lane_again mine),
+)
+
+pub unused_lanes_again : (lanes : List Lane) → AreUnusedLanes lanes lanes
+unused_lanes_again lanes = (
+  refl,
+  λ client lane below.
+      let mine : Lane = get_or lanes client lane in
+      subst (λ l. IsUnusedLane l mine) (get_or_default lanes client lane mine below) (same_lane_again mine, refl, refl, refl),
 )
 
 -- a seat and its lane were looked at

@@ -2,11 +2,12 @@
 use Rattle.std.proofs.Common.{◌≡◌, ℕ, ◌+◌, ◌<◌, ◌≤◌, List, ◌++◌, length, filter, get_or, set, map, refl, sym, ◌∙◌, ap, subst, arith, append_assoc}
 use Rattle.std.proofs.lemmas.List.{get_or-set_other, get_or_default, length-append, length-map, map-append}
 use Rattle.std.proofs.Math.ListN as lists
-use Rattle.std.specs.Prelude.{nat_eq}
+use Rattle.std.specs.Prelude.{None, Option, nat_eq}
 use mathlib.Core.List.{IsPrefix}
 use Rattle.dml_portal.specs.Types.{Job, LogEntry}
 use Rattle.dml_portal.specs.Log.{jobs_in, part_of, sent_for}
 use Rattle.dml_portal.specs.Lanes.{AreTaken, IsTaken, waiting}
+use Rattle.dml_portal.specs.Held.{AreTakenOrHeld, IsTakenOrHeld}
 use Rattle.dml_portal.specs.Blank.{blank}
 use Rattle.dml_portal.specs.Served.{IsFetched}
 use Rattle.dml_portal.specs.declared.lanes.Lane.{Lane}
@@ -45,24 +46,24 @@ batch_fetched client number start now next log_start log log_next jobs_start job
     )
 
 -- the clients below a number had their turn, and the others' rings are as they were
-pub record TakenBelow (clients : ℕ) (lanes : List Lane) (entries : List LogEntry) (now : List Lane) : Type 0 where
+pub record TakenBelow (most : Option ℕ) (clients : ℕ) (lanes : List Lane) (entries : List LogEntry) (now : List Lane) : Type 0 where
   pub below :
       (client : ℕ) (lane : Lane) → client < clients
-      → IsTaken (waiting (get_or lanes client (get_or now client lane))) (jobs_in (part_of client entries)) (waiting (get_or now client lane))
+      → IsTakenOrHeld most (get_or lanes client (get_or now client lane)) (get_or now client lane) (jobs_in (part_of client entries))
   pub above : (client : ℕ) (lane : Lane) → clients ≤ client → get_or now client lane ≡ get_or lanes client lane
 
-pub taken_none : (lanes : List Lane) (entries : List LogEntry) → TakenBelow 0 lanes entries lanes
-taken_none lanes entries = record { below = λ client lane below. absurd (omega (arith, below)); above = λ client lane from. refl }
+pub taken_none : (most : Option ℕ) (lanes : List Lane) (entries : List LogEntry) → TakenBelow most 0 lanes entries lanes
+taken_none most lanes entries = record { below = λ client lane below. absurd (omega (arith, below)); above = λ client lane from. refl }
 
 -- one more client has its turn
-pub taken_more : (i : ℕ) (lanes now : List Lane) (entries : List LogEntry) (jobs : List Job) (lane after : Lane) → i < length now → length now ≡ length lanes → lane ≡ get_or now i lane → IsFetched i (map sent_for entries) → IsTaken (waiting lane) jobs (waiting after) → TakenBelow i lanes entries now → TakenBelow (i + 1) lanes (entries ++ map (blank i) jobs) (set now i after)
-taken_more i lanes now entries jobs lane after within long is fetched taken before =
+pub taken_more : (most : Option ℕ) (i : ℕ) (lanes now : List Lane) (entries : List LogEntry) (jobs : List Job) (lane after : Lane) → i < length now → length now ≡ length lanes → lane ≡ get_or now i lane → IsFetched i (map sent_for entries) → IsTakenOrHeld most lane after jobs → TakenBelow most i lanes entries now → TakenBelow most (i + 1) lanes (entries ++ map (blank i) jobs) (set now i after)
+taken_more most i lanes now entries jobs lane after within long is fetched taken before =
     record {
-      below = below_set (λ client l. IsTaken (waiting (get_or lanes client l)) (jobs_in (part_of client (entries ++ map (blank i) jobs))) (waiting l)) now i after within
-          (subst (λ l. IsTaken (waiting l) (jobs_in (part_of i (entries ++ map (blank i) jobs))) (waiting after)) here
-          (subst (λ js. IsTaken (waiting lane) js (waiting after)) (sym mine) taken))
+      below = below_set (λ client l. IsTakenOrHeld most (get_or lanes client l) l (jobs_in (part_of client (entries ++ map (blank i) jobs)))) now i after within
+          (subst (λ l. IsTakenOrHeld most l after (jobs_in (part_of i (entries ++ map (blank i) jobs)))) here
+          (subst (λ js. IsTakenOrHeld most lane after js) (sym mine) taken))
           (λ client d less.
-          subst (λ js. IsTaken (waiting (get_or lanes client (get_or now client d))) js (waiting (get_or now client d)))
+          subst (λ js. IsTakenOrHeld most (get_or lanes client (get_or now client d)) (get_or now client d) js)
           (sym (jobs_theirs i client entries jobs (λ e. omega (arith, e, less)))) (before.below client d less));
       above = λ client d from.
           get_or-set_other now i client after d (λ e. omega (arith, e, from)) ∙ before.above client d (omega (arith, from));
@@ -77,8 +78,12 @@ taken_more i lanes now entries jobs lane after within long is fetched taken befo
         ∙ ap (λ front. front ++ jobs)
         (jobs_part i entries ∙ ap (map (λ sent. sent.job)) (part_none i 0 i (map sent_for entries) (omega arith) fetched.order))
 
-pub taken_all : (lanes : List Lane) (entries : List LogEntry) (now : List Lane) (clients : ℕ) → length now ≤ clients → TakenBelow clients lanes entries now → AreTaken lanes entries now
-taken_all lanes entries now clients all taken client lane below = taken.below client lane (omega (arith, below, all))
+pub taken_all : (most : Option ℕ) (lanes : List Lane) (entries : List LogEntry) (now : List Lane) (clients : ℕ) → length now ≤ clients → TakenBelow most clients lanes entries now → AreTakenOrHeld most lanes entries now
+taken_all most lanes entries now clients all taken client lane below = taken.below client lane (omega (arith, below, all))
+
+-- without a bound nobody is held back
+pub taken_unheld : (lanes : List Lane) (entries : List LogEntry) (now : List Lane) → AreTakenOrHeld None lanes entries now → AreTaken lanes entries now
+taken_unheld lanes entries now taken client lane below = (taken client lane below).few (λ over. over)
 
 -- what waits is known as before, and the entries were sent as those that were fetched
 pub taken_along : (lanes start fetched now : List Lane) (entries added : List LogEntry) → map waiting start ≡ map waiting lanes → map waiting now ≡ map waiting fetched → map sent_for added ≡ map sent_for entries → AreTaken start entries fetched → AreTaken lanes added now

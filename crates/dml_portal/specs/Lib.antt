@@ -2,9 +2,14 @@ pub mod Types
 pub mod Log
 pub mod Seats
 pub mod Lanes
+pub mod Whole
+pub mod Held
 pub mod Blank
 pub mod Blocks
 pub mod Served
 pub mod Opened
 pub mod Settled
+pub mod Ending
+pub mod History
+pub mod LongServers
 pub mod Servers

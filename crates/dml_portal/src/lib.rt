@@ -3,19 +3,30 @@
 #![tactic(auto)]
 
 mod answering;
+mod ending;
 mod errors;
 mod fetching;
+mod histories;
+mod images;
 mod lanes;
+mod lates;
 mod logs;
+mod long;
+mod long_images;
+mod long_settling;
 mod looking;
 mod opening;
+mod rooms;
 mod seats;
 mod servers;
 mod settling;
+mod taking;
 
 pub use errors::{Full, PortalError, SettleFault};
+pub use histories::law_of_histories;
 pub use logs::{Log, LogEntry};
+pub use long::{LongServer, LongServerOver};
 pub use opening::Portal;
 pub use seats::{Done, Seat};
-pub use servers::Server;
-pub use settling::Settled;
+pub use servers::{Server, ServerOver};
+pub use settling::{Settled, SettledOver};

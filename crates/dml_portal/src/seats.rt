@@ -14,7 +14,7 @@ pub struct Seat {
     ghost counted: { producer_capacity jobs ≤ length (sent jobs) + known_free jobs },
 }
 
-/// A seat that submits no more, to be handed in when the portal is settled.
+/// A seat that submits no more, to be handed in when the portal is settled, or to be used again by the next client.
 #[derive(Drop)]
 pub struct Done {
     pub(crate) seat: Seat,
@@ -64,8 +64,8 @@ impl Seat {
         }
     }
 
-    /// The next completion record, if one is there; records come in the order of the jobs. The call takes no memory, and
-    /// waits for no one.
+    /// The next completion record, if one is there; records come in the order of the jobs. The call takes no memory,
+    /// and waits for no one.
     pub fn poll(&mut self) -> Option<Record>
         ensures polled { MatchOption result (polled self.new ≡ polled self.old) (λ answer. polled self.new ≡ polled self.old ++ answer ∷ []) }
         ensures found { 0 < length (known_records self.old) → IsSome result }
@@ -76,10 +76,33 @@ impl Seat {
         self.records.pop().ok()
     }
 
-    /// Ends the submitting, for good. Records that were not polled are given up.
+    /// Whether the server was dropped, so that nothing is carried out any more. It is a hint, which no clause speaks
+    /// of: records that were pushed before can still be polled.
+    pub fn is_server_gone(&mut self) -> bool
+        ensures submitted { submitted self.new ≡ submitted self.old }
+        ensures polled { polled self.new ≡ polled self.old }
+        ensures known { IsPrefix (known_records self.old) (known_records self.new) }
+        ensures same { IsSameSeat self.old self.new }
+    {
+        self.records.is_abandoned()
+    }
+
+    /// Ends the submitting. Records that were not polled are given up, unless the seat is used again.
     pub fn finish(self) -> Done
         ensures { seat_of result ≡ self }
     {
         Done { seat: self }
+    }
+}
+
+impl Done {
+    ghost use Rattle.dml_portal.specs.Seats.{seat_of};
+
+    /// The same seat, to be used again, as by the next client that comes. Records of the earlier jobs that were not
+    /// polled come first.
+    pub fn again(self) -> Seat
+        ensures { result ≡ seat_of self }
+    {
+        self.seat
     }
 }

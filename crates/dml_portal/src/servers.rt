@@ -8,57 +8,42 @@ use crate::errors::PortalError;
 use crate::fetching::{MOST_OF_A_CLIENT, fetch_round};
 use crate::lanes::Lane;
 use crate::logs::LogEntry;
+use crate::rooms::Room;
 use dml_core::law_of_rounds;
-use dml_engine::Engine;
+use dml_engine::EngineOver;
 use dml_pool::{Free, Gate};
-use dml_types::{Job, Record, law_of_folds};
-use std::alloc::{AllocError, Global};
+use dml_types::law_of_folds;
+use std::alloc::Global;
 use std::sync::Wait;
 use std::thread::Threads;
 
-/// An engine that carries out what the clients of a portal submit, and the log of that.
+/// An engine that carries out what the clients of a portal submit, and the log of that. Its image may be memory that a
+/// caller lends for the server's life.
 #[derive(Drop)]
-pub struct Server<G = Free> {
-    pub(crate) engine: Engine<G>,
+pub struct ServerOver<'a, G = Free> {
+    pub(crate) engine: EngineOver<'a, G>,
     pub(crate) lanes: Vec<Lane>,
     pub(crate) log: Vec<LogEntry>,
-    room: Room,
+    pub(crate) room: Room,
     ghost ready: { IsValid engine.settings },
     ghost few: { length lanes.items ≤ 8 },
     ghost popped: { ArePopped lanes.items log.items },
     ghost pushed: { ArePushed lanes.items log.items },
 }
 
-/// Lists for the jobs and the records of a round, which keep their room from round to round.
-#[derive(Drop)]
-struct Room {
-    jobs: Vec<Job>,
-    records: Vec<Record>,
-}
+/// A server over an image that borrows nothing that ends.
+pub type Server<G = Free> = ServerOver<'static, G>;
 
-impl Room {
-    /// Empties the lists, and makes room for so many jobs in them and in the log.
-    fn make(&mut self, log: &mut Vec<LogEntry>, most: usize) -> Result<(), AllocError>
-        ensures log { log.new.items ≡ log.old.items }
-        ensures log_room { OnOk result (length log.new.items + most ≤ vec_capacity log.new) }
-        ensures empty { OnOk result ((self.new.jobs.items ≡ []) × (self.new.records.items ≡ [])) }
-        ensures room { OnOk result ((most ≤ vec_capacity self.new.jobs) × (most ≤ vec_capacity self.new.records)) }
-    {
-        self.jobs.clear();
-        self.records.clear();
-        log.reserve(most)?;
-        self.jobs.reserve(most)?;
-        self.records.reserve(most)?;
-        Ok(())
-    }
-}
-
-impl<G> Server<G> {
+impl<'a, G> ServerOver<'a, G> {
     ghost use Rattle.dml_types.specs.Memory.{IsWhole};
     ghost use Rattle.dml_portal.specs.Lanes.{IsNewLane, EachLane};
 
     /// A server over lanes that were not used yet.
-    pub(crate) fn new(alloc: Global, engine: Engine<G>, lanes: Vec<Lane>) -> Server<G>
+    pub(crate) fn new(
+        alloc: Global,
+        engine: EngineOver<'a, G>,
+        lanes: Vec<Lane>,
+    ) -> ServerOver<'a, G>
         requires few { length lanes.items ≤ 8 }
         requires unused { EachLane (λ _ lane. IsNewLane lane) lanes.items }
         ensures engine { result.engine ≡ engine.entry }
@@ -66,14 +51,11 @@ impl<G> Server<G> {
         ensures log { result.log.items ≡ [] }
     {
         let _ = engine.settings();
-        Server {
+        ServerOver {
             engine,
             lanes,
             log: Vec::new(alloc),
-            room: Room {
-                jobs: Vec::new(alloc),
-                records: Vec::new(alloc),
-            },
+            room: Room::new(alloc),
         }
     }
 
@@ -85,7 +67,7 @@ impl<G> Server<G> {
     }
 }
 
-impl<G: Gate + Sync> Server<G> {
+impl<G: Gate + Sync> ServerOver<'_, G> {
     ghost use Rattle.std.specs.Prelude.{IfErr, OnErr, map, take};
     ghost use Rattle.dml_types.specs.Step.{memory_after, records_of};
     ghost use Rattle.dml_portal.specs.Log.{added, answers_in, jobs_in, sent_for};
@@ -93,9 +75,9 @@ impl<G: Gate + Sync> Server<G> {
     ghost use Rattle.dml_portal.specs.Served.{IsFetched, RoundHasServed};
     ghost use Rattle.dml_portal.specs.Servers.{clients_of, image_of, lanes_of, log_of, settings_of};
 
-    /// Serves a round: fetches at most 128 jobs of each client, clients in order of their numbers, carries them out as one
-    /// list, and answers how many they are. Before and after, records are pushed to the clients as far as their rings
-    /// have room; the others wait in the log.
+    /// Serves a round: fetches at most 128 jobs of each client, clients in order of their numbers, carries them out as
+    /// one list, and answers how many they are. Before and after, records are pushed to the clients as far as their
+    /// rings have room; the others wait in the log.
     ///
     /// # Errors
     /// `NoMemory` where there is no room for a whole round; then nothing was fetched. Records that waited may have been
@@ -158,7 +140,7 @@ impl<G: Gate + Sync> Server<G> {
         law_of_folds();
         self.law_of_image();
         let start = self.log.len();
-        fetch_round(&mut self.lanes, &mut self.log, &mut self.room.jobs);
+        fetch_round(&mut self.lanes, None, &mut self.log, &mut self.room.jobs);
         self.engine.submit_into(rt, alloc, self.room.jobs.as_slice(), &mut self.room.records);
         let records = self.room.records.as_slice();
         answer_round(&mut self.log, start, records);

@@ -5,7 +5,7 @@ use crate::errors::{PortalError, SettleFault};
 use crate::logs::Log;
 use crate::looking::{are_drained, have_finished};
 use crate::seats::Done;
-use crate::servers::Server;
+use crate::servers::ServerOver;
 use dml_core::law_of_rounds;
 use dml_image::Image;
 use dml_pool::Gate;
@@ -14,16 +14,20 @@ use std::alloc::Global;
 use std::sync::Wait;
 use std::thread::Threads;
 
-/// What a portal leaves: the engine's image, and the log of all that was carried out.
+/// What a portal leaves: the engine's image, and the log of what was carried out.
 #[derive(Drop)]
-pub struct Settled {
-    /// The image behind all jobs of the log.
-    pub image: Image<'static>,
-    /// Every job that was carried out, with its client and its record.
+pub struct SettledOver<'a> {
+    /// The image, as the rounds, and what was written and brought between them, have left it.
+    pub image: Image<'a>,
+    /// Every job that was carried out, with its client and its record; of a server that stays up, those that were not
+    /// taken off its log.
     pub log: Log,
 }
 
-impl<G> Server<G> {
+/// What a portal over an image that borrows nothing that ends leaves.
+pub type Settled = SettledOver<'static>;
+
+impl<G> ServerOver<'_, G> {
     ghost use Rattle.std.specs.Prelude.{IsFalse, IsTrue};
     ghost use Rattle.dml_portal.specs.Lanes.{AreSameLanes};
     ghost use Rattle.dml_portal.specs.Settled.{AreSeatsOf, AreUnusedSeats, EachDone, HasJobsLeft, IsSettled};
@@ -43,23 +47,24 @@ impl<G> Server<G> {
     }
 }
 
-impl<G: Drop> Server<G> {
+impl<'a, G: Drop> ServerOver<'a, G> {
     ghost use Rattle.dml_portal.specs.Servers.{image_of, log_of};
 
-    /// What it leaves.
-    fn into_settled(self) -> Settled
+    /// What it leaves: the image, and the log of all that was carried out so far. Nothing is asked of the seats; jobs
+    /// that wait in the rings are given up.
+    pub fn into_settled(self) -> SettledOver<'a>
         ensures image { result.image ≡ image_of self.entry }
         ensures log { result.log ≡ log_of self.entry }
     {
-        let Server { engine, log, .. } = self;
-        Settled {
+        let ServerOver { engine, log, .. } = self;
+        SettledOver {
             image: engine.into_image(),
             log: Log { list: log },
         }
     }
 }
 
-impl<G: Gate + Sync> Server<G> {
+impl<G: Gate + Sync> ServerOver<'_, G> {
     ghost use Rattle.std.specs.Prelude.{OnErr, OnOk, length, take};
     ghost use Rattle.dml_types.specs.Step.{memory_after, records_of};
     ghost use Rattle.dml_portal.specs.Log.{added, answers_in, jobs_in};
@@ -98,7 +103,7 @@ impl<G: Gate + Sync> Server<G> {
     }
 }
 
-impl<G: Gate + Sync + Drop> Server<G> {
+impl<'a, G: Gate + Sync + Drop> ServerOver<'a, G> {
     ghost use Rattle.std.specs.Prelude.{◌↔◌, false, true, IfErr, IfOk, OnOk, length, take};
     ghost use Rattle.dml_types.specs.Step.{memory_after, records_of};
     ghost use Rattle.dml_portal.specs.Log.{added, answers_in, jobs_in};
@@ -107,9 +112,9 @@ impl<G: Gate + Sync + Drop> Server<G> {
     ghost use Rattle.dml_portal.specs.Servers.{clients_of, image_of, lanes_of, log_of, settings_of};
     ghost use Rattle.dml_portal.specs.Settled.{AreSeatsOf, AreUnusedSeats, EachDone, IsSettled, have_finished};
 
-    /// Serves rounds until the ring of each client is known to be empty, its seat being handed in, and gives the image and
-    /// the log. Each seat that is handed in has to be one of this portal. Of each, the client's part of the log is then what
-    /// the seat submitted, in that order, and what it polled is a front of that part's records.
+    /// Serves rounds until the ring of each client is known to be empty, its seat being handed in, and gives the image
+    /// and the log. Each seat that is handed in has to be one of this portal. Of each, the client's part of the log is
+    /// then what the seat submitted, in that order, and what it polled is a front of that part's records.
     ///
     /// # Errors
     /// `Strangers` where there is a client whose seat is not among those handed in; nothing is changed then. `NoMemory`
@@ -120,7 +125,7 @@ impl<G: Gate + Sync + Drop> Server<G> {
         rt: &R,
         alloc: Global,
         dones: Vec<Done>,
-    ) -> Result<Settled, (Server<G>, Vec<Done>, SettleFault)>
+    ) -> Result<SettledOver<'a>, (ServerOver<'a, G>, Vec<Done>, SettleFault)>
         requires seats { AreSeatsOf (lanes_of self) dones.items }
         ensures settled { IfOk result (λ settled. EachDone (IsSettled settled.log) dones.items) }
         ensures strangers { IfErr result (λ kept. (kept.2 ≡ SettleFault.Strangers) ↔ (have_finished (clients_of self.entry) dones.items ≡ false)) }

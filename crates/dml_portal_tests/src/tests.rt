@@ -1,12 +1,20 @@
 //! The worked rows of portals, and their refusals.
 
+mod between;
 mod clients;
+mod endings;
 mod entering;
 mod gates;
 mod growths;
+mod lent;
 mod portals;
 mod rounds;
+mod staying;
+mod staying_clients;
+mod staying_growths;
+mod stays;
 mod steps;
+mod waiting_clients;
 
 use dml_engine::Engine;
 use dml_image::Image;
@@ -15,7 +23,9 @@ use dml_types::{Job, Record, Settings, Status};
 use portals::One;
 use std::alloc::Global;
 use std::process::Abort;
+use std::sync::Wait;
 use std::test::Fail;
+use std::thread::Threads;
 
 /// An engine over an image of one page, which is present.
 fn engine(alloc: Global) -> Option<Engine> {
@@ -44,18 +54,188 @@ fn expect_bytes(rt: &impl Abort, image: &Image, bytes: &[(u64, u8)]) {
     }
 }
 
+/// What `fence_in_a_queue` submits.
+fn fenced_jobs() -> [Job; 4] {
+    [
+        Job::fill(1, 4096, 8),
+        Job::no_op().with_flags(1),
+        Job::fill(2, 0, 8).with_flags(1),
+        Job::fill(3, 8, 8),
+    ]
+}
+
+/// The records of these jobs.
+fn fenced_records() -> [Record; 4] {
+    let fault = Record {
+        fault: 4096,
+        ..Record::refused(Status::WriteFault)
+    };
+    let refused = Record::refused(Status::BadFlags);
+    [fault, refused, refused, done(8)]
+}
+
+/// A row of a portal of one client over a page of zeros.
+#[derive(Clone, Copy, Debug)]
+enum Row {
+    FullRing,
+    RoundOf128,
+    PolledInOrder,
+    PollWithOneSlot,
+    FenceInAQueue,
+}
+
+impl Row {
+    /// All of them.
+    const ALL: [Row; 5] = [
+        Row::FullRing,
+        Row::RoundOf128,
+        Row::PolledInOrder,
+        Row::PollWithOneSlot,
+        Row::FenceInAQueue,
+    ];
+
+    /// The room of the client's rings.
+    fn capacity(self) -> u32 {
+        match self {
+            Row::FullRing => 2,
+            Row::RoundOf128 => 200,
+            Row::PolledInOrder | Row::FenceInAQueue => 4,
+            Row::PollWithOneSlot => 1,
+        }
+    }
+
+    /// Expects it of a portal.
+    fn expect<R: Abort + Threads + Wait + Sync>(
+        self,
+        rt: &R,
+        alloc: Global,
+        portal: One<'_>,
+    ) -> Result<(), Fail> {
+        match self {
+            Row::FullRing => expect_full_ring(rt, alloc, portal),
+            Row::RoundOf128 => expect_round_of_128(rt, alloc, portal),
+            Row::PolledInOrder => expect_polled_in_order(rt, alloc, portal),
+            Row::PollWithOneSlot => {
+                expect_poll_with_one_slot(rt, alloc, portal);
+                Ok(())
+            }
+            Row::FenceInAQueue => expect_fence_in_a_queue(rt, alloc, portal),
+        }
+    }
+
+    /// Expects it over an image's own page.
+    fn expect_of_own<R: Abort + Threads + Wait + Sync>(
+        self,
+        rt: &R,
+        alloc: Global,
+    ) -> Result<(), Fail> {
+        let portal = One::open(alloc, self.capacity()).ok_or("no memory")?;
+        self.expect(rt, alloc, portal)
+    }
+}
+
 /// A ring that has room for two jobs hands the third back, and takes it once a round is served.
-#[test]
-fn full_ring(rt: HostRuntime) -> Result<(), Fail> {
-    let mut portal = One::open(rt.alloc(), 2).ok_or("no memory")?;
+fn expect_full_ring<R: Abort + Threads + Wait + Sync>(
+    rt: &R,
+    alloc: Global,
+    portal: One<'_>,
+) -> Result<(), Fail> {
+    let mut portal = portal;
     let job = Job::no_op();
-    portal.submit_all(&rt, &[job, job]);
+    portal.submit_all(rt, &[job, job]);
     assert_eq!(rt; portal.submit(job), Err(Full { job }));
-    portal.expect_served(&rt, rt.alloc(), 2);
-    portal.submit_all(&rt, &[job]);
-    let settled = portal.settle(&rt, rt.alloc()).ok_or("not settled")?;
+    portal.expect_served(rt, alloc, 2);
+    portal.submit_all(rt, &[job]);
+    let settled = portal.settle(rt, alloc).ok_or("not settled")?;
     assert_eq!(rt; settled.log.list.len(), 3);
     Ok(())
+}
+
+/// A round fetches at most 128 jobs of a client.
+fn expect_round_of_128<R: Abort + Threads + Wait + Sync>(
+    rt: &R,
+    alloc: Global,
+    portal: One<'_>,
+) -> Result<(), Fail> {
+    let mut portal = portal;
+    portal.submit_all(rt, &[Job::no_op(); 130]);
+    portal.expect_served(rt, alloc, 128);
+    portal.expect_served(rt, alloc, 2);
+    let settled = portal.settle(rt, alloc).ok_or("not settled")?;
+    assert_eq!(rt; settled.log.list.len(), 130);
+    Ok(())
+}
+
+/// Records are polled in the order of the jobs.
+fn expect_polled_in_order<R: Abort + Threads + Wait + Sync>(
+    rt: &R,
+    alloc: Global,
+    portal: One<'_>,
+) -> Result<(), Fail> {
+    let mut portal = portal;
+    portal.submit_all(rt, &[Job::fill(1, 0, 8), Job::no_op()]);
+    portal.expect_polled(rt, &[]);
+    portal.expect_served(rt, alloc, 2);
+    portal.expect_polled(rt, &[done(8), done(0)]);
+    let settled = portal.settle(rt, alloc).ok_or("not settled")?;
+    assert_eq!(rt; settled.log.list.len(), 2);
+    Ok(())
+}
+
+/// A record for which there is no room waits in the log.
+fn expect_poll_with_one_slot<R: Abort + Threads + Wait + Sync>(
+    rt: &R,
+    alloc: Global,
+    portal: One<'_>,
+) {
+    let mut portal = portal;
+    portal.submit_all(rt, &[Job::fill(1, 0, 8)]);
+    portal.expect_served(rt, alloc, 1);
+    portal.submit_all(rt, &[Job::no_op()]);
+    portal.expect_served(rt, alloc, 1);
+    portal.expect_polled(rt, &[done(8)]);
+    portal.expect_served(rt, alloc, 0);
+    portal.expect_polled(rt, &[done(0)]);
+}
+
+/// In a client's queue a fence is refused and holds nothing back: each other job is carried out.
+fn expect_fence_in_a_queue<R: Abort + Threads + Wait + Sync>(
+    rt: &R,
+    alloc: Global,
+    portal: One<'_>,
+) -> Result<(), Fail> {
+    let mut portal = portal;
+    portal.submit_all(rt, &fenced_jobs());
+    portal.expect_served(rt, alloc, 4);
+    portal.expect_polled(rt, &fenced_records());
+    let settled = portal.settle(rt, alloc).ok_or("not settled")?;
+    expect_bytes(rt, &settled.image, &[(0, 0), (7, 0), (8, 3), (9, 0)]);
+    Ok(())
+}
+
+#[test]
+fn full_ring(rt: HostRuntime) -> Result<(), Fail> {
+    Row::FullRing.expect_of_own(&rt, rt.alloc())
+}
+
+#[test]
+fn round_of_128(rt: HostRuntime) -> Result<(), Fail> {
+    Row::RoundOf128.expect_of_own(&rt, rt.alloc())
+}
+
+#[test]
+fn polled_in_order(rt: HostRuntime) -> Result<(), Fail> {
+    Row::PolledInOrder.expect_of_own(&rt, rt.alloc())
+}
+
+#[test]
+fn poll_with_one_slot(rt: HostRuntime) -> Result<(), Fail> {
+    Row::PollWithOneSlot.expect_of_own(&rt, rt.alloc())
+}
+
+#[test]
+fn fence_in_a_queue(rt: HostRuntime) -> Result<(), Fail> {
+    Row::FenceInAQueue.expect_of_own(&rt, rt.alloc())
 }
 
 /// A portal of these arguments is refused: why, and the pages of the engine that is handed back.
@@ -78,76 +258,5 @@ fn arguments_refused(rt: HostRuntime) -> Result<(), Fail> {
     ] {
         assert_eq!(rt; refusal(rt.alloc(), clients, capacity), Some((error, 1)));
     }
-    Ok(())
-}
-
-/// A round fetches at most 128 jobs of a client.
-#[test]
-fn round_of_128(rt: HostRuntime) -> Result<(), Fail> {
-    let mut portal = One::open(rt.alloc(), 200).ok_or("no memory")?;
-    portal.submit_all(&rt, &[Job::no_op(); 130]);
-    portal.expect_served(&rt, rt.alloc(), 128);
-    portal.expect_served(&rt, rt.alloc(), 2);
-    let settled = portal.settle(&rt, rt.alloc()).ok_or("not settled")?;
-    assert_eq!(rt; settled.log.list.len(), 130);
-    Ok(())
-}
-
-/// Records are polled in the order of the jobs.
-#[test]
-fn polled_in_order(rt: HostRuntime) -> Result<(), Fail> {
-    let mut portal = One::open(rt.alloc(), 4).ok_or("no memory")?;
-    portal.submit_all(&rt, &[Job::fill(1, 0, 8), Job::no_op()]);
-    portal.expect_polled(&rt, &[]);
-    portal.expect_served(&rt, rt.alloc(), 2);
-    portal.expect_polled(&rt, &[done(8), done(0)]);
-    let settled = portal.settle(&rt, rt.alloc()).ok_or("not settled")?;
-    assert_eq!(rt; settled.log.list.len(), 2);
-    Ok(())
-}
-
-/// A record for which there is no room waits in the log.
-#[test]
-fn poll_with_one_slot(rt: HostRuntime) -> Result<(), Fail> {
-    let mut portal = One::open(rt.alloc(), 1).ok_or("no memory")?;
-    portal.submit_all(&rt, &[Job::fill(1, 0, 8)]);
-    portal.expect_served(&rt, rt.alloc(), 1);
-    portal.submit_all(&rt, &[Job::no_op()]);
-    portal.expect_served(&rt, rt.alloc(), 1);
-    portal.expect_polled(&rt, &[done(8)]);
-    portal.expect_served(&rt, rt.alloc(), 0);
-    portal.expect_polled(&rt, &[done(0)]);
-    Ok(())
-}
-
-/// What `fence_in_a_queue` submits.
-fn fenced_jobs() -> [Job; 4] {
-    [
-        Job::fill(1, 4096, 8),
-        Job::no_op().with_flags(1),
-        Job::fill(2, 0, 8).with_flags(1),
-        Job::fill(3, 8, 8),
-    ]
-}
-
-/// The records of these jobs.
-fn fenced_records() -> [Record; 4] {
-    let fault = Record {
-        fault: 4096,
-        ..Record::refused(Status::WriteFault)
-    };
-    let refused = Record::refused(Status::BadFlags);
-    [fault, refused, refused, done(8)]
-}
-
-/// In a client's queue a fence is refused and holds nothing back: each other job is carried out.
-#[test]
-fn fence_in_a_queue(rt: HostRuntime) -> Result<(), Fail> {
-    let mut portal = One::open(rt.alloc(), 4).ok_or("no memory")?;
-    portal.submit_all(&rt, &fenced_jobs());
-    portal.expect_served(&rt, rt.alloc(), 4);
-    portal.expect_polled(&rt, &fenced_records());
-    let settled = portal.settle(&rt, rt.alloc()).ok_or("not settled")?;
-    expect_bytes(&rt, &settled.image, &[(0, 0), (7, 0), (8, 3), (9, 0)]);
     Ok(())
 }

@@ -1,50 +1,58 @@
 -- The vector operations, lane by lane.
 use Rattle.std.specs.Prelude.{slice_range}
-use Rattle.std.proofs.Common.{◌≡◌, ℕ, zero, suc, ◌+◌, ◌-◌, ◌*◌, ◌%◌, ◌<◌, ◌≤◌, ◌↔◌, Bool, true, false, not, cond, eqb, List, [], ◌∷◌, map, length, get_or, replicate, bit_or, bit_xor, refl, sym, ap, ap₂, subst, ◌∙◌, inl, inr, arith, rules, w8, eqb-true, eq-eqb}
+use Rattle.std.proofs.Common.{◌≡◌, ℕ, zero, suc, ◌+◌, ◌-◌, ◌*◌, ◌%◌, ◌<◌, ◌≤◌, ◌↔◌, Bool, true, false, not, cond, eqb, List, [], ◌∷◌, map, length, get_or, replicate, bit_and, refl, sym, ap, ap₂, subst, ◌∙◌, inl, inr, arith, rules, w8, eqb-true, eq-eqb}
 use Rattle.std.proofs.lemmas.Bool.{cases_lt, false≢true, ne_eqb, cond-true, cond-false, not-true, not-false}
-use Rattle.std.proofs.lemmas.List.{places, same_lists, get_or_past}
+use Rattle.std.proofs.lemmas.List.{places, same_lists, ext_get_or}
 use Rattle.std.proofs.lemmas.List.Sums.{prefix_len-le-length, prefix_len_passes, prefix_len_stops}
 use Rattle.std.proofs.lemmas.Nat.{and_le_l, and_le_r}
 use Rattle.std.proofs.lemmas.Simd.{first_set_mask_l, get_or-zip2, length-zip2, mask_l-mod, tops_compared}
-use Rattle.std.specs.Int.Bits.{or_add_and, xor_add_and, xor_self}
 use Rattle.std.specs.List.{prefix_len}
 use lib.Count.{count_trailing_zeros}
-use lib.Lanes.{zip2, mask_l, top}
-use Rattle.dml_scan.specs.Lanes.{AreAlike, AreRepeated, AreZero, first_difference}
+use lib.Lanes.{Each1, zip2, mask_l, sel_l, top}
+use mir.Val.{Fits}
+use Rattle.dml_scan.specs.Lanes.{AreAlike, AreRepeated, first_difference}
 use Rattle.dml_scan.proofs.LaneLemmas.{unequal_is, equal_before}
 
--- either
-or_zero : (a b : ℕ) → (bit_or a b ≡ 0) ↔ ((a ≡ 0) × (b ≡ 0))
-or_zero a b = (λ e. omega (arith, or_add_and a b, and_le_l a b, and_le_r a b), λ h. rw (h.0, h.1))
+abbrev rest : List ℕ → List ℕ
+rest [] = []
+rest (x ∷ xs) = xs
 
-pub either_zero : (xs ys : List ℕ) → length xs ≡ length ys → AreZero (zip2 bit_or xs ys) ↔ (AreZero xs × AreZero ys)
-either_zero [] [] e = (λ h. (h, h), λ h. h.0)
-either_zero [] (y ∷ ys) e = absurd (omega arith)
-either_zero (x ∷ xs) [] e = absurd (omega arith)
-either_zero (x ∷ xs) (y ∷ ys) e =
-    let r = either_zero xs ys (omega arith) in
-    let o = or_zero x y in (
-      λ h. (elim [ zero ↦ (o.0 (h 0)).0 | suc i ↦ (r.0 (λ k. h (suc k))).0 i ], elim [ zero ↦ (o.0 (h 0)).1 | suc i ↦ (r.0 (λ k. h (suc k))).1 i ]),
-      λ h. elim [ zero ↦ o.1 (h.0 0, h.1 0) | suc i ↦ r.1 (λ k. h.0 (suc k), λ k. h.1 (suc k)) i ],
+-- both
+and_full : (a b : ℕ) → a < 256 → b < 256 → (bit_and a b ≡ 255) ↔ ((a ≡ 255) × (b ≡ 255))
+and_full a b low small = (λ e. omega (arith, e, and_le_l a b, and_le_r a b, low, small), λ h. rw (h.0, h.1))
+
+pub both_full : (n : ℕ) (xs ys : List ℕ) → length xs ≡ n → length ys ≡ n → Each1 (Fits w8) xs → Each1 (Fits w8) ys → (zip2 bit_and xs ys ≡ replicate n 255) ↔ ((xs ≡ replicate n 255) × (ys ≡ replicate n 255))
+both_full zero [] [] p q f g = (λ e. (refl, refl), λ h. refl)
+both_full zero [] (y ∷ ys) p q f g = absurd (omega arith)
+both_full zero (x ∷ xs) ys p q f g = absurd (omega arith)
+both_full (suc n) [] ys p q f g = absurd (omega arith)
+both_full (suc n) (x ∷ xs) [] p q f g = absurd (omega arith)
+both_full (suc n) (x ∷ xs) (y ∷ ys) p q f g =
+    let more = both_full n xs ys (omega arith) (omega arith) f.1 g.1 in
+    let here = and_full x y f.0.fits g.0.fits in (
+      λ e. (let head = here.0 (ap (λ l. get_or l 0 0) e) in
+          let tail = more.0 (ap rest e) in
+          (ap₂ (λ (a : ℕ) (l : List ℕ). a ∷ l) head.0 tail.0, ap₂ (λ (a : ℕ) (l : List ℕ). a ∷ l) head.1 tail.1)),
+      λ h. ap₂ (λ (a : ℕ) (l : List ℕ). a ∷ l) (here.1 (ap (λ l. get_or l 0 0) h.0, ap (λ l. get_or l 0 0) h.1)) (more.1 (ap rest h.0, ap rest h.1)),
     )
 
--- the bits that differ
-xor_zero : (a b : ℕ) → bit_xor a b ≡ 0 → a ≡ b
-xor_zero a b e = omega (arith, xor_add_and a b, and_le_l a b, and_le_r a b)
+-- the lanes that are alike
+full_where : (b : Bool) → let full : ℕ = 255 in (cond b full 0 ≡ full) ↔ (b ≡ true)
+full_where true = (λ e. refl, λ e. refl)
+full_where false = (λ e. absurd (omega (arith, e)), λ e. absurd (false≢true e))
 
-same_from_xor : (xs ys : List ℕ) → length xs ≡ length ys → AreZero (zip2 bit_xor xs ys) → xs ≡ ys
-same_from_xor [] [] e h = refl
-same_from_xor [] (y ∷ ys) e h = absurd (omega arith)
-same_from_xor (x ∷ xs) [] e h = absurd (omega arith)
-same_from_xor (x ∷ xs) (y ∷ ys) e h = ap₂ (λ (a : ℕ) (rest : List ℕ). a ∷ rest) (xor_zero x y (h 0)) (same_from_xor xs ys (omega arith) (λ k. h (suc k)))
-
-xor_of_itself : (xs : List ℕ) → AreZero (zip2 bit_xor xs xs)
-xor_of_itself [] i = refl
-xor_of_itself (x ∷ xs) zero = xor_self x
-xor_of_itself (x ∷ xs) (suc i) = xor_of_itself xs i
-
-pub unlike_zero : (xs ys : List ℕ) → length xs ≡ length ys → AreZero (zip2 bit_xor xs ys) ↔ (xs ≡ ys)
-unlike_zero xs ys e = (same_from_xor xs ys e, λ same. subst (λ v. AreZero (zip2 bit_xor xs v)) same (xor_of_itself xs))
+pub alike_full : (n : ℕ) (xs ys : List ℕ) → length xs ≡ n → length ys ≡ n → let full : ℕ = 255 in let none : ℕ = 0 in (sel_l (zip2 eqb xs ys) (replicate n full) (replicate n none) ≡ replicate n full) ↔ (xs ≡ ys)
+alike_full zero [] [] p q = (λ e. refl, λ e. refl)
+alike_full zero [] (y ∷ ys) p q = absurd (omega arith)
+alike_full zero (x ∷ xs) ys p q = absurd (omega arith)
+alike_full (suc n) [] ys p q = absurd (omega arith)
+alike_full (suc n) (x ∷ xs) [] p q = absurd (omega arith)
+alike_full (suc n) (x ∷ xs) (y ∷ ys) p q =
+    let more = alike_full n xs ys (omega arith) (omega arith) in
+    let here = full_where (eqb x y) in (
+      λ e. ap₂ (λ (a : ℕ) (l : List ℕ). a ∷ l) (eqb-true x y (here.0 (ap (λ l. get_or l 0 0) e))) (more.0 (ap rest e)),
+      λ same. ap₂ (λ (a : ℕ) (l : List ℕ). a ∷ l) (here.1 (eq-eqb x y (ap (λ l. get_or l 0 0) same))) (more.1 (ap rest same)),
+    )
 
 -- the mask of the lanes that differ
 abbrev pub differs : ℕ → ℕ → ℕ
@@ -94,33 +102,19 @@ no_lane xs ys p q none = sym (cond-true _ _ _ (eq-eqb _ _ none)) ∙ first_bit x
 pub some_lane : (xs ys : List ℕ) → length xs ≡ 32 → length ys ≡ 32 → (mask_of xs ys ≡ 0 → ⊥) → count_trailing_zeros 64 (mask_of xs ys) ≡ first_difference xs ys
 some_lane xs ys p q some = sym (cond-false _ _ _ (ne_eqb _ _ some)) ∙ first_bit xs ys p q
 
--- a vector is 0 where its mask is
-zeros_get : (n i : ℕ) → let none : ℕ = 0 in get_or (replicate n none) i none ≡ none
-zeros_get zero i = refl
-zeros_get (suc n) zero = refl
-zeros_get (suc n) (suc i) = zeros_get n i
-
-pub mask_zero : (xs : List ℕ) → length xs ≡ 32 → (mask_of xs (replicate 32 0) ≡ 0) ↔ AreZero xs
-mask_zero xs p = (
-  λ none i. elim (cases_lt i 32) [
-    | inl low ↦ equal_before (length xs) (λ j. get_or xs j 0) (λ j. get_or (replicate 32 0) j 0) i (omega (arith, no_lane xs (replicate 32 0) p refl none)) ∙ zeros_get 32 i
-    | inr high ↦ get_or_past xs i 0 (omega arith)
-  ],
-  λ zeros. none_set (eqb (mask_of xs (replicate 32 0)) 0) refl zeros,
+-- two vectors are the same where the mask of the lanes that differ is 0
+pub mask_same : (xs ys : List ℕ) → length xs ≡ 32 → length ys ≡ 32 → (mask_of xs ys ≡ 0) ↔ (xs ≡ ys)
+mask_same xs ys p q = (
+  λ none. ext_get_or 0 xs ys (p ∙ sym q) (λ i below. equal_before (length xs) (λ j. get_or xs j 0) (λ j. get_or ys j 0) i (omega (arith, no_lane xs ys p q none, p, below))),
+  λ same. subst (λ zs. mask_of xs zs ≡ 0) same (bits_of_mask xs xs p p ∙ no_bits xs),
 )
   where
-    none_set : (b : Bool) → eqb (mask_of xs (replicate 32 0)) 0 ≡ b → AreZero xs → mask_of xs (replicate 32 0) ≡ 0
-    none_set true is zeros = eqb-true _ _ is
-    none_set false is zeros =
-        bits_of_mask xs (replicate 32 0) p refl ∙ no_bits xs 32 p zeros
-      where
-        no_bits : (ys : List ℕ) (n : ℕ) → length ys ≡ n → AreZero ys → mask_l (zip2 (λ a b. not (eqb a b)) ys (replicate n 0)) ≡ 0
-        no_bits [] n long none = ap (λ k. mask_l (zip2 (λ a b. not (eqb a b)) [] (replicate k 0))) (sym long)
-        no_bits (y ∷ ys) zero long none = absurd (omega arith)
-        no_bits (y ∷ ys) (suc n) long none =
-            let here : not (eqb y 0) ≡ false = ap not (eq-eqb y 0 (none 0)) in
-            ap (λ b. cond b 1 0 + 2 * mask_l (zip2 (λ a b. not (eqb a b)) ys (replicate n 0))) here
-            ∙ omega (arith, no_bits ys n (omega arith) (λ k. none (suc k)))
+    no_bits : (zs : List ℕ) → mask_l (zip2 (λ a b. not (eqb a b)) zs zs) ≡ 0
+    no_bits [] = refl
+    no_bits (z ∷ zs) =
+        let here : not (eqb z z) ≡ false = ap not (eq-eqb z z refl) in
+        ap (λ b. cond b 1 0 + 2 * mask_l (zip2 (λ a b. not (eqb a b)) zs zs)) here
+        ∙ omega (arith, no_bits zs)
 
 -- loads
 range_alike : (xs ys : List ℕ) (at n : ℕ) → slice_range xs at (at + n) ≡ slice_range ys at (at + n) → AreAlike xs ys at n

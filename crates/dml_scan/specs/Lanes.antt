@@ -1,5 +1,5 @@
 -- How far two lists of bytes, or a list and a repeated pattern, are alike from the front.
-use Rattle.std.specs.Prelude.{◌≡◌, ℕ, ◌+◌, ◌%◌, ◌<◌, not, List, length, slice_index, ◌==◌}
+use Rattle.std.specs.Prelude.{◌≡◌, ℕ, ◌+◌, ◌%◌, ◌<◌, not, List, length, replicate, slice_index, ◌==◌}
 use Rattle.dml_types.specs.Memory.{first}
 use Rattle.dml_types.specs.Bytewise.{pattern_byte}
 
@@ -20,6 +20,6 @@ AreAlike xs ys at n = (i : ℕ) → i < n → slice_index xs (at + i) ≡ slice_
 abbrev pub AreRepeated : List ℕ → List ℕ → ℕ → ℕ → Type 0
 AreRepeated xs block at n = (i : ℕ) → i < n → slice_index xs (at + i) ≡ slice_index block (i % 32)
 
--- no lane has a bit
-abbrev pub AreZero : List ℕ → Type 0
-AreZero lanes = (i : ℕ) → slice_index lanes i ≡ 0
+-- each of 32 lanes has all its bits
+abbrev pub AreFull : List ℕ → Type 0
+AreFull lanes = lanes ≡ replicate 32 255

@@ -1,12 +1,12 @@
 //! How far bytes are alike from the front, those of two slices or those of a slice and a repeated pattern.
 //!
-//! They are compared in steps of four vectors with one test, those of two slices four steps a turn; then a vector at a
-//! time, and at the end byte by byte.
+//! Two slices are first compared in blocks of four steps with one test each. What is left, as a slice and a pattern, is
+//! compared in steps of four vectors with one test, then a vector at a time, and at the end byte by byte.
 
 ghost use Rattle.std.specs.Prelude.{◌≡◌, ℕ, ◌+◌, ◌*◌, ◌<◌, ◌≤◌, ◌↔◌, IsTrue, length, slice_index, slice_range};
 ghost use Rattle.dml_types.specs.Bytewise.{pattern_byte};
 ghost use Rattle.dml_types.specs.Step as step;
-ghost use Rattle.dml_scan.specs.Lanes.{AreAlike, AreRepeated, AreZero};
+ghost use Rattle.dml_scan.specs.Lanes.{AreAlike, AreFull, AreRepeated};
 ghost use Rattle.dml_scan.specs.Lanes as lanes;
 
 use std::simd::prelude::*;
@@ -30,6 +30,23 @@ pub fn first_difference(a: &[u8], b: &[u8]) -> usize
     while a.len() - at >= BLOCK && is_equal_block(a, b, at) {
         at += BLOCK;
     }
+    if at == a.len() {
+        return at;
+    }
+    first_difference_from(a, b, at)
+}
+
+/// The same, where the bytes before a place are equal. A block that differs is read once more here. It stands apart, so
+/// that the loop over blocks keeps nothing of one in memory.
+#[inline(never)]
+fn first_difference_from(a: &[u8], b: &[u8], from: usize) -> usize
+    requires lengths { length a.now ≡ length b.now }
+    requires place { from ≤ length a.now }
+    requires alike { (i : ℕ) → i < from → slice_index a.now i ≡ slice_index b.now i }
+    ensures value { result ≡ lanes.first_difference a.now b.now }
+    ensures within { result ≤ length a.now }
+{
+    let mut at = from;
     while a.len() - at >= STEP && is_equal_step(a, b, at) {
         at += STEP;
     }
@@ -46,24 +63,24 @@ pub fn first_difference(a: &[u8], b: &[u8]) -> usize
     at
 }
 
-/// Whether a block of two slices, from a place on, is equal.
+/// Whether a block of two slices, from a place on, is equal, by one test.
 #[inline(always)]
 fn is_equal_block(a: &[u8], b: &[u8], at: usize) -> bool
     requires first { at + BLOCK ≤ length a.now }
     requires second { at + BLOCK ≤ length b.now }
     ensures { IsTrue result ↔ AreAlike a.now b.now at 512 }
 {
-    are_equal_steps(a, b, at) && are_equal_steps(a, b, at + 2 * STEP)
+    is_full(both(alike_steps(a, b, at), alike_steps(a, b, at + 2 * STEP)))
 }
 
-/// Whether two steps of two slices, from a place on, are equal.
+/// Full lanes where all vectors of two steps of two slices, from a place on, are alike.
 #[inline(always)]
-fn are_equal_steps(a: &[u8], b: &[u8], at: usize) -> bool
+fn alike_steps(a: &[u8], b: &[u8], at: usize) -> u8x32
     requires first { at + 2 * STEP ≤ length a.now }
     requires second { at + 2 * STEP ≤ length b.now }
-    ensures { IsTrue result ↔ AreAlike a.now b.now at 256 }
+    ensures { AreFull result ↔ AreAlike a.now b.now at 256 }
 {
-    is_equal_step(a, b, at) && is_equal_step(a, b, at + STEP)
+    both(alike_step(a, b, at), alike_step(a, b, at + STEP))
 }
 
 /// Whether a step of two slices, from a place on, is equal.
@@ -73,11 +90,21 @@ fn is_equal_step(a: &[u8], b: &[u8], at: usize) -> bool
     requires second { at + STEP ≤ length b.now }
     ensures { IsTrue result ↔ AreAlike a.now b.now at 128 }
 {
-    let first = unlike(load(a, at), load(b, at));
-    let second = unlike(load(a, at + LANES), load(b, at + LANES));
-    let third = unlike(load(a, at + 2 * LANES), load(b, at + 2 * LANES));
-    let fourth = unlike(load(a, at + 3 * LANES), load(b, at + 3 * LANES));
-    are_zero(first, second, third, fourth)
+    is_full(alike_step(a, b, at))
+}
+
+/// Full lanes where all vectors of a step of two slices, from a place on, are alike.
+#[inline(always)]
+fn alike_step(a: &[u8], b: &[u8], at: usize) -> u8x32
+    requires first { at + STEP ≤ length a.now }
+    requires second { at + STEP ≤ length b.now }
+    ensures { AreFull result ↔ AreAlike a.now b.now at 128 }
+{
+    let first = alike(load(a, at), load(b, at));
+    let second = alike(load(a, at + LANES), load(b, at + LANES));
+    let third = alike(load(a, at + 2 * LANES), load(b, at + 2 * LANES));
+    let fourth = alike(load(a, at + 3 * LANES), load(b, at + 3 * LANES));
+    all_of(first, second, third, fourth)
 }
 
 /// Whether a step of a slice, from a place on, repeats a vector.
@@ -86,11 +113,11 @@ fn is_repeated_step(bytes: &[u8], repeated: u8x32, at: usize) -> bool
     requires { at + STEP ≤ length bytes.now }
     ensures { IsTrue result ↔ AreRepeated bytes.now repeated at 128 }
 {
-    let first = unlike(load(bytes, at), repeated);
-    let second = unlike(load(bytes, at + LANES), repeated);
-    let third = unlike(load(bytes, at + 2 * LANES), repeated);
-    let fourth = unlike(load(bytes, at + 3 * LANES), repeated);
-    are_zero(first, second, third, fourth)
+    let first = alike(load(bytes, at), repeated);
+    let second = alike(load(bytes, at + LANES), repeated);
+    let third = alike(load(bytes, at + 2 * LANES), repeated);
+    let fourth = alike(load(bytes, at + 3 * LANES), repeated);
+    is_full(all_of(first, second, third, fourth))
 }
 
 /// The bytes of a slice from a place on.
@@ -102,36 +129,36 @@ fn load(bytes: &[u8], at: usize) -> u8x32
     u8x32::from_slice(&bytes[at..at + LANES])
 }
 
-/// The bits of two vectors that differ.
+/// Full lanes where two vectors are alike, and 0 where they differ.
 #[inline(always)]
-fn unlike(a: u8x32, b: u8x32) -> u8x32
-    ensures { AreZero result ↔ (a ≡ b) }
+fn alike(a: u8x32, b: u8x32) -> u8x32
+    ensures { AreFull result ↔ (a ≡ b) }
 {
-    a ^ b
+    a.simd_eq(b).select(u8x32::splat(255), u8x32::splat(0))
 }
 
-/// The bits that are set in one of two vectors.
+/// The bits that are set in both of two vectors.
 #[inline(always)]
-fn either(a: u8x32, b: u8x32) -> u8x32
-    ensures { AreZero result ↔ (AreZero a × AreZero b) }
+fn both(a: u8x32, b: u8x32) -> u8x32
+    ensures { AreFull result ↔ (AreFull a × AreFull b) }
 {
-    a | b
+    a & b
 }
 
-/// Whether no bit is set in four vectors, by one test.
+/// The bits that are set in all of four vectors.
 #[inline(always)]
-fn are_zero(first: u8x32, second: u8x32, third: u8x32, fourth: u8x32) -> bool
-    ensures { IsTrue result ↔ (AreZero first × AreZero second × AreZero third × AreZero fourth) }
+fn all_of(first: u8x32, second: u8x32, third: u8x32, fourth: u8x32) -> u8x32
+    ensures { AreFull result ↔ (AreFull first × AreFull second × AreFull third × AreFull fourth) }
 {
-    is_zero(either(either(first, second), either(third, fourth)))
+    both(both(first, second), both(third, fourth))
 }
 
-/// Whether no bit is set.
+/// Whether each lane is full.
 #[inline(always)]
-fn is_zero(lanes: u8x32) -> bool
-    ensures { IsTrue result ↔ AreZero lanes }
+fn is_full(lanes: u8x32) -> bool
+    ensures { IsTrue result ↔ AreFull lanes }
 {
-    lanes.simd_ne(u8x32::splat(0)).to_bitmask() == 0
+    lanes.simd_ne(u8x32::splat(255)).to_bitmask() == 0
 }
 
 /// The first lane in which two vectors differ; 32 where they are equal.

@@ -95,6 +95,7 @@ put_keeps memory address (x ∷ xs) good all =
     record {
       least_pages = good.least_pages;
       most_pages = good.most_pages;
+      by_home = good.by_home;
       whole = put_whole memory address (x ∷ xs) good.whole within;
       absent = λ k gone.
           ⊎_elim (λ low. overwrite_below memory.bytes address (x ∷ xs) k 0 within low ∙ good.absent k gone) (λ high.

@@ -1,5 +1,5 @@
 -- A memory image: pages that are present or absent, and the bytes from address 0 on.
-use Rattle.std.specs.Prelude.{◌≡◌, ℕ, ◌+◌, ◌-◌, ◌*◌, ◌/◌, ◌≤◌, Bool, false, not, Option, List, [], ◌∷◌, ◌++◌, length, take, drop, slice_index, slice_index_or, slice_range, nat_eq}
+use Rattle.std.specs.Prelude.{◌≡◌, ℕ, ◌+◌, ◌-◌, ◌*◌, ◌/◌, ◌≤◌, Bool, true, false, not, Option, List, [], ◌∷◌, ◌++◌, length, take, drop, slice_index, slice_index_or, slice_range, nat_eq}
 use Rattle.dml_types.specs.Types.{Direction, Forward, Backward, position_or_len, range_with_len}
 
 -- the first index: the least i below n with test i, and n where there is none
@@ -9,16 +9,39 @@ first n test = position_or_len test (range_with_len 0 n)
 abbrev pub page_size : ℕ
 page_size = 4096
 
--- `home` is for the prover alone: the name of the reference that was lent, and none for an image's own pages.
--- No step reads it or changes it
+-- how memory is lent: `home` says it, or all of it is lent in one piece, each page present, and this names the
+-- reference that was lent
+pub data Loan : Type 0 where
+  ByHome : Loan
+  InOnePiece : (name : ℕ) → Loan
+
+-- `home` and `loan` are for the prover alone. `home` is the name of the reference that was lent with a list of which
+-- pages are present; it is none for an image's own pages, and for memory in one piece. No step reads or changes the two
 pub record Memory : Type 0 where
   pub present : List Bool
   pub bytes : List ℕ
   pub home : Option ℕ
+  pub loan : Loan
+
+-- a memory whose `home` says whose pages it has
+abbrev pub memory_of : List Bool → List ℕ → Option ℕ → Memory
+memory_of present bytes home = record { present = present; bytes = bytes; home = home; loan = ByHome }
 
 -- the same pages and bytes elsewhere
 abbrev pub at_home : Memory → Option ℕ → Memory
 at_home memory home = record memory { home = home }
+
+-- the same pages and bytes, lent in another way
+abbrev pub on_loan : Memory → Loan → Memory
+on_loan memory loan = record memory { loan = loan }
+
+-- whether it is lent in one piece
+abbrev pub is_one_piece : Loan → Bool
+is_one_piece ByHome = false
+is_one_piece (InOnePiece name) = true
+
+abbrev pub is_in_one_piece : Memory → Bool
+is_in_one_piece memory = is_one_piece memory.loan
 
 -- there are as many bytes as the pages have, present and absent pages alike
 pub record IsWhole (memory : Memory) : Type 0 where
@@ -28,10 +51,12 @@ pub record IsWhole (memory : Memory) : Type 0 where
 abbrev pub has : Memory → ℕ → Bool
 has memory address = slice_index_or memory.present (address / page_size) false
 
--- what every image keeps: 1 to 4,096 whole pages, and an absent byte stands as 0
+-- what every image keeps: 1 to 2^32 - 1 whole pages, 4,096 at most but where it is lent in one piece, and an absent
+-- byte stands as 0
 pub record IsMemory (memory : Memory) : Type 0 where
   pub least_pages : 1 ≤ length memory.present
-  pub most_pages : length memory.present ≤ 4096
+  pub most_pages : length memory.present ≤ 4294967295
+  pub by_home : memory.loan ≡ ByHome → length memory.present ≤ 4096
   pub whole : IsWhole memory
   pub absent : (address : ℕ) → has memory address ≡ false → slice_index memory.bytes address ≡ 0
 

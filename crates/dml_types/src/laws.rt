@@ -3,7 +3,7 @@
 ghost use Rattle.std.specs.Prelude.{◌≡◌, ℕ, ◌+◌, ◌<◌, ◌≤◌, ◌⊎◌, Bool, true, false, List, [], ◌∷◌, ◌++◌, length, Option, Some, None};
 ghost use Rattle.dml_types.specs.Types.{Job, Status, NoOp, Move, list_any};
 ghost use Rattle.dml_types.specs.Job.{is_fenced, op_of};
-ghost use Rattle.dml_types.specs.Memory.{first, Memory, IsWhole, at_home, bytes_at, put};
+ghost use Rattle.dml_types.specs.Memory.{first, Memory, Loan, IsWhole, at_home, on_loan, bytes_at, put};
 ghost use Rattle.dml_types.specs.Refusal.{refusal};
 ghost use Rattle.dml_types.specs.Effect.{ended};
 ghost use Rattle.dml_types.specs.Bytewise.{operation_direction, lowest_done, length_of};
@@ -63,6 +63,22 @@ pub fn law_of_homes()
         memory_after (at_home memory home) jobs staging ≡ at_home (memory_after memory jobs staging) home }
     ensures records_elsewhere { (memory : Memory) (home : Option ℕ) (jobs : List Job) (staging : ℕ) →
         records_of (at_home memory home) jobs staging ≡ records_of memory jobs staging }
+{}
+
+/// How memory is lent: a step keeps `loan`, and does the same however the memory is lent: the same record, the same
+/// bytes, the same presence. So does a list of jobs.
+pub fn law_of_loans()
+    ensures kept { (memory : Memory) (job : Job) (staging : ℕ) → (step memory job staging).0.loan ≡ memory.loan }
+    ensures image_otherwise { (memory : Memory) (loan : Loan) (job : Job) (staging : ℕ) →
+        (step (on_loan memory loan) job staging).0 ≡ on_loan (step memory job staging).0 loan }
+    ensures record_otherwise { (memory : Memory) (loan : Loan) (job : Job) (staging : ℕ) →
+        (step (on_loan memory loan) job staging).1 ≡ (step memory job staging).1 }
+    ensures kept_by_jobs { (memory : Memory) (jobs : List Job) (staging : ℕ) →
+        (memory_after memory jobs staging).loan ≡ memory.loan }
+    ensures images_otherwise { (memory : Memory) (loan : Loan) (jobs : List Job) (staging : ℕ) →
+        memory_after (on_loan memory loan) jobs staging ≡ on_loan (memory_after memory jobs staging) loan }
+    ensures records_otherwise { (memory : Memory) (loan : Loan) (jobs : List Job) (staging : ℕ) →
+        records_of (on_loan memory loan) jobs staging ≡ records_of memory jobs staging }
 {}
 
 /// Folds: a list cut in two is done in parts, there is a record for each job, and presence never changes.

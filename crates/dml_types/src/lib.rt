@@ -20,8 +20,8 @@ pub use findings::Found;
 pub use flags::JobFlags;
 pub use jobs::Job;
 pub use laws::{
-    law_of_batches, law_of_first, law_of_folds, law_of_homes, law_of_moves, law_of_puts,
-    law_of_steps,
+    law_of_batches, law_of_first, law_of_folds, law_of_homes, law_of_loans, law_of_moves,
+    law_of_puts, law_of_steps,
 };
 pub use limits::{MOST_JOBS, Settings};
 pub use operations::{Direction, Op};

@@ -9,7 +9,7 @@ use Rattle.dml_types.specs.declared.spans.Span.{Span}
 use Rattle.dml_types.specs.declared.operations.Op.{Op}
 use Rattle.dml_types.specs.declared.operations.Op.TheVariants.{NoOp, Move, Fill, Compare, ComparePattern, CreateDelta, ApplyDelta, Dualcast}
 use Rattle.dml_types.specs.Job.{any_shares, op_of, reads, unfenced, writes}
-use Rattle.dml_types.specs.Memory.{Memory, IsWhole, Put, puts_made}
+use Rattle.dml_types.specs.Memory.{Memory, IsWhole, Put, memory_of, puts_made}
 use Rattle.dml_types.specs.Conflict.{conflict, ranges_of}
 use Rattle.dml_types.specs.Effect.{Effect}
 use Rattle.dml_types.specs.Refusal.{need}
@@ -30,7 +30,7 @@ use Rattle.dml_wave.specs.Waves.{AreApart, busy, is_busy}
 -- puts change no page's presence
 present_after : (memory : Memory) (puts others : List Put) → are_present (puts_made memory puts) others ≡ are_present memory others
 present_after memory puts others =
-    ap (λ (present : List Bool). are_present (record { present = present; bytes = []; home = None }) others) (puts_present memory puts)
+    ap (λ (present : List Bool). are_present (memory_of present [] None) others) (puts_present memory puts)
 
 pub all_present_after : (memory : Memory) (puts : List Put) (effects : List JobEffect) → All (λ done. IsTrue (are_present memory done.effect.puts)) effects
     → All (λ done. IsTrue (are_present (puts_made memory puts) done.effect.puts)) effects

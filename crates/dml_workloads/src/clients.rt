@@ -110,7 +110,7 @@ fn settle<T: Threads + Wait + Sync>(
 ) -> io::Result<()>
     requires { AreSeatsOf (lanes_of server) dones.items }
 {
-    let Ok(settled) = server.settle(rt, alloc, dones) else {
+    let Some(settled) = server.settle(rt, alloc, dones).ok() else {
         return Err(io::ErrorKind::OutOfMemory.into());
     };
     for entry in &settled.log.list {

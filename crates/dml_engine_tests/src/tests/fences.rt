@@ -4,9 +4,10 @@ use super::rows::{
     self, expect_as_list, expect_bytes, expect_own, expect_records, plain_row, settings, with_given,
 };
 use super::{USUAL, answer, engine_with};
-use dml_engine::Engine;
+use dml_engine::{Engine, EngineOver};
+use dml_image::{Lent, Whole};
 use dml_pool::Free;
-use dml_types::{Job, Record, Status};
+use dml_types::{Job, Record, Settings, Status};
 use std::alloc::Global;
 use std::process::Abort;
 use std::sync::Wait;
@@ -47,7 +48,7 @@ fn expect_row<R: Abort + Threads + Wait + Sync>(
     rt: &R,
     alloc: Global,
     row: &Row,
-    engine: &mut Engine,
+    engine: &mut EngineOver<'_>,
 ) -> Option<()> {
     let (own, records) = engine.submit_batch(rt, alloc, row.jobs).ok()?;
     expect_records(rt, row.name, &records, row.records);
@@ -66,9 +67,30 @@ fn expect_everywhere<R: Abort + Threads + Wait + Sync>(
         for given in [false, true] {
             let mut engine = with_given(engine_with(alloc, 1, settings)?, given);
             expect_row(rt, alloc, row, &mut engine)?;
+            expect_lent(rt, alloc, row, settings, given)?;
         }
     }
     Some(())
+}
+
+/// The same over a page that is lent: with its mark, and in one piece.
+fn expect_lent<R: Abort + Threads + Wait + Sync>(
+    rt: &R,
+    alloc: Global,
+    row: &Row,
+    settings: Settings,
+    given: bool,
+) -> Option<()> {
+    let mut content = [0; 4096];
+    let mut lent = Lent::new(&[true], &mut content);
+    assert!(rt; lent.is_memory());
+    let mut engine = with_given(EngineOver::new(alloc, lent.take(), settings).ok()?, given);
+    expect_row(rt, alloc, row, &mut engine)?;
+    let mut piece = [0; 4096];
+    let mut whole = Whole::new(&mut piece);
+    assert!(rt; whole.is_memory());
+    let mut engine = with_given(EngineOver::new(alloc, whole.take(), settings).ok()?, given);
+    expect_row(rt, alloc, row, &mut engine)
 }
 
 /// The same, as the end of a test.

@@ -1,8 +1,9 @@
 //! Rows: an image, jobs on it, what they answer and what they leave. Each is submitted as a list and as a batch, at
 //! many settings, all with the same answers.
 
+use super::kinds::everywhere;
 use super::{USUAL, answer, put};
-use dml_engine::Engine;
+use dml_engine::{Engine, EngineOver};
 use dml_image::Image;
 use dml_pool::Free;
 use dml_types::{BatchRecord, Job, Record, Settings, Status};
@@ -57,7 +58,7 @@ pub(super) fn delta_answer(
 }
 
 /// A page of a row's image.
-fn page_of(row: &Row, page: u32) -> [u8; 4096] {
+pub(super) fn page_of(row: &Row, page: u32) -> [u8; 4096] {
     let mut content = [0; 4096];
     for (addr, bytes) in row.bytes {
         if *addr / 4096 == u64::from(page) {
@@ -69,7 +70,12 @@ fn page_of(row: &Row, page: u32) -> [u8; 4096] {
 
 /// A row's image.
 fn image_of(alloc: Global, row: &Row) -> Option<Image<'static>> {
-    let mut image = Image::new(alloc, row.pages).ok()?;
+    bring_pages(Image::new(alloc, row.pages).ok()?, row)
+}
+
+/// An image with the pages of a row that are present.
+pub(super) fn bring_pages<'a>(image: Image<'a>, row: &Row) -> Option<Image<'a>> {
+    let mut image = image;
     for page in row.present {
         image.bring(*page, &page_of(row, *page)).ok()?;
     }
@@ -86,29 +92,32 @@ pub(super) fn settings(staging: u32) -> [Settings; 15] {
     all
 }
 
-/// Submits the jobs as a list, and expects the row's answers.
-fn expect_list<R: Abort + Threads + Wait + Sync>(
-    rt: &R,
-    alloc: Global,
-    row: &Row,
-    engine: &mut Engine,
-) -> Option<()> {
-    let records = engine.submit_list(rt, alloc, row.jobs).ok()?;
-    expect_records(rt, row.name, &records, row.records);
-    expect_left(rt, row, engine.image());
-    Some(())
+/// How the jobs of a row are submitted.
+#[derive(Clone, Copy, Debug)]
+pub(super) enum Way {
+    List,
+    Batch,
 }
 
-/// Submits the jobs as a batch, and expects the same.
-fn expect_batch<R: Abort + Threads + Wait + Sync>(
+/// Submits a row's jobs, and expects its answers.
+pub(super) fn expect_from<R: Abort + Threads + Wait + Sync>(
     rt: &R,
     alloc: Global,
     row: &Row,
-    engine: &mut Engine,
+    way: Way,
+    engine: &mut EngineOver<'_>,
 ) -> Option<()> {
-    let (own, records) = engine.submit_batch(rt, alloc, row.jobs).ok()?;
-    expect_records(rt, row.name, &records, row.records);
-    expect_own(rt, row.name, own, row.status, row.jobs.len());
+    match way {
+        Way::List => {
+            let records = engine.submit_list(rt, alloc, row.jobs).ok()?;
+            expect_records(rt, row.name, &records, row.records);
+        }
+        Way::Batch => {
+            let (own, records) = engine.submit_batch(rt, alloc, row.jobs).ok()?;
+            expect_records(rt, row.name, &records, row.records);
+            expect_own(rt, row.name, own, row.status, row.jobs.len());
+        }
+    }
     expect_left(rt, row, engine.image());
     Some(())
 }
@@ -148,48 +157,23 @@ pub(super) fn expect_bytes(rt: &impl Abort, name: &str, image: &Image, addr: u64
 }
 
 /// An engine over a row's image, with its own gate or with one given.
-fn engine_of(alloc: Global, row: &Row, settings: Settings, given: bool) -> Option<Engine> {
+pub(super) fn engine_of(
+    alloc: Global,
+    row: &Row,
+    settings: Settings,
+    given: bool,
+) -> Option<Engine> {
     let engine = Engine::new(alloc, image_of(alloc, row)?, settings).ok()?;
     Some(with_given(engine, given))
 }
 
 /// The engine with its own gate, or with one given.
-pub(super) fn with_given(engine: Engine, given: bool) -> Engine {
+pub(super) fn with_given(engine: EngineOver<'_>, given: bool) -> EngineOver<'_> {
     if given {
         engine.with_gate(Free)
     } else {
         engine
     }
-}
-
-/// Expects what a row's list answers at all settings, with its own gate and with one given.
-fn lists_everywhere<R: Abort + Threads + Wait + Sync>(
-    rt: &R,
-    alloc: Global,
-    row: &Row,
-) -> Option<()> {
-    for settings in settings(row.staging) {
-        for given in [false, true] {
-            let mut engine = engine_of(alloc, row, settings, given)?;
-            expect_list(rt, alloc, row, &mut engine)?;
-        }
-    }
-    Some(())
-}
-
-/// The same of a row's batch.
-fn batches_everywhere<R: Abort + Threads + Wait + Sync>(
-    rt: &R,
-    alloc: Global,
-    row: &Row,
-) -> Option<()> {
-    for settings in settings(row.staging) {
-        for given in [false, true] {
-            let mut engine = engine_of(alloc, row, settings, given)?;
-            expect_batch(rt, alloc, row, &mut engine)?;
-        }
-    }
-    Some(())
 }
 
 /// Expects a row's answers at all settings, as a list and as a batch.
@@ -198,8 +182,8 @@ pub(super) fn expect<R: Abort + Threads + Wait + Sync>(
     alloc: Global,
     row: &Row,
 ) -> Result<(), Fail> {
-    lists_everywhere(rt, alloc, row).ok_or("no memory")?;
-    batches_everywhere(rt, alloc, row).ok_or("no memory")?;
+    everywhere(rt, alloc, row, Way::List).ok_or("no memory")?;
+    everywhere(rt, alloc, row, Way::Batch).ok_or("no memory")?;
     Ok(())
 }
 
@@ -209,6 +193,6 @@ pub(super) fn expect_as_list<R: Abort + Threads + Wait + Sync>(
     alloc: Global,
     row: &Row,
 ) -> Result<(), Fail> {
-    lists_everywhere(rt, alloc, row).ok_or("no memory")?;
+    everywhere(rt, alloc, row, Way::List).ok_or("no memory")?;
     Ok(())
 }

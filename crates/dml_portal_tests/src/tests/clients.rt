@@ -5,7 +5,7 @@ ghost use Rattle.dml_portal.specs.Seats.{IsSameSeat};
 use super::portals::Two;
 use super::{done, engine};
 use dml_pool::Free;
-use dml_portal::{LogEntry, Seat, Server, Settled};
+use dml_portal::{LogEntry, Seat, Server, ServerOver, Settled};
 use dml_types::{Job, Record};
 use std::alloc::Global;
 use std::process::Abort;
@@ -14,12 +14,12 @@ use std::test::Fail;
 use std::thread::{self, Threads};
 
 /// The turns for which a seat polls, and a server serves rounds.
-const TURNS: u32 = 10_000;
+pub(super) const TURNS: u32 = 10_000;
 
 const PATTERN: u64 = 0xa5a5_a5a5_a5a5_a5a5;
 
 /// What the first client submits, with its records.
-fn first_list() -> [(Job, Record); 2] {
+pub(super) fn first_list() -> [(Job, Record); 2] {
     [
         (Job::fill(PATTERN, 0, 64), done(64)),
         (Job::compare_pattern(0, PATTERN, 64), done(64)),
@@ -27,12 +27,12 @@ fn first_list() -> [(Job, Record); 2] {
 }
 
 /// What the second client submits, with its record.
-fn second_list() -> [(Job, Record); 1] {
+pub(super) fn second_list() -> [(Job, Record); 1] {
     [(Job::fill(1, 256, 8), done(8))]
 }
 
 /// A portal of two clients over a page of zeros.
-fn portal_of_two(alloc: Global) -> Option<Two> {
+pub(super) fn portal_of_two(alloc: Global) -> Option<Two> {
     Two::open(alloc, engine(alloc)?, 4)
 }
 
@@ -48,7 +48,7 @@ fn submitted(rt: &impl Abort, seat: Seat, list: &[(Job, Record)]) -> Seat
 }
 
 /// The client's part of the log is this list.
-fn expect_part(rt: &impl Abort, log: &[LogEntry], client: u32, list: &[(Job, Record)]) {
+pub(super) fn expect_part(rt: &impl Abort, log: &[LogEntry], client: u32, list: &[(Job, Record)]) {
     let mut part = log.iter().filter(|entry| entry.client == client);
     for (job, answer) in list {
         let wanted = LogEntry {
@@ -118,7 +118,12 @@ fn strangers(rt: HostRuntime) -> Result<(), Fail> {
 }
 
 /// Submits jobs and polls for so many turns: the seat, and the records that it has polled.
-fn polled(rt: &impl Abort, alloc: Global, seat: Seat, list: &[(Job, Record)]) -> (Seat, Vec<Record>)
+pub(super) fn polled(
+    rt: &impl Abort,
+    alloc: Global,
+    seat: Seat,
+    list: &[(Job, Record)],
+) -> (Seat, Vec<Record>)
     ensures { IsSameSeat seat result.0 }
 {
     let mut seat = submitted(rt, seat, list);
@@ -133,11 +138,11 @@ fn polled(rt: &impl Abort, alloc: Global, seat: Seat, list: &[(Job, Record)]) ->
 }
 
 /// Serves rounds for so many turns.
-fn served<R: Abort + Threads + Wait + Sync>(
+fn served<'a, R: Abort + Threads + Wait + Sync>(
     rt: &R,
     alloc: Global,
-    server: Server<Free>,
-) -> Server<Free>
+    server: ServerOver<'a, Free>,
+) -> ServerOver<'a, Free>
     ensures { AreSameLanes server.entry.lanes.items result.lanes.items }
 {
     let mut server = server;
@@ -149,7 +154,12 @@ fn served<R: Abort + Threads + Wait + Sync>(
 }
 
 /// The seat polls what is left: behind what was polled, the records of this list and no more.
-fn polled_to_the_end(rt: &impl Abort, seat: Seat, polled: &[Record], list: &[(Job, Record)]) -> Seat
+pub(super) fn polled_to_the_end(
+    rt: &impl Abort,
+    seat: Seat,
+    polled: &[Record],
+    list: &[(Job, Record)],
+) -> Seat
     ensures { IsSameSeat seat result }
 {
     let mut seat = seat;
@@ -189,12 +199,12 @@ fn expect_all_polled<R: Abort + Threads + Wait + Sync>(
 }
 
 /// The second client polls on a thread of its own, while the server serves rounds on this one.
-fn polled_and_served<R: Abort + Threads + Wait + Sync>(
+fn polled_and_served<'a, R: Abort + Threads + Wait + Sync>(
     rt: &R,
     alloc: Global,
-    server: Server<Free>,
+    server: ServerOver<'a, Free>,
     second: Seat,
-) -> (Server<Free>, Seat, Vec<Record>)
+) -> (ServerOver<'a, Free>, Seat, Vec<Record>)
     ensures lanes { AreSameLanes server.entry.lanes.items result.0.lanes.items }
     ensures seat { IsSameSeat second result.1 }
 {
@@ -203,7 +213,7 @@ fn polled_and_served<R: Abort + Threads + Wait + Sync>(
         || -> (Seat, Vec<Record>)
             ensures { IsSameSeat second result.0 }
         { polled(rt, alloc, second, &second_list()) },
-        || -> Server<Free>
+        || -> ServerOver<'_, Free>
             ensures { AreSameLanes server.entry.lanes.items result.lanes.items }
         { served(rt, alloc, server) },
     );

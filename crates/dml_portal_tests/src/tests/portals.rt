@@ -5,9 +5,11 @@ ghost use Rattle.dml_portal.specs.Lanes.{IsSeatOf};
 
 use super::engine;
 use super::steps::{expect_polled, expect_served, submit_all};
-use dml_engine::Engine;
+use dml_engine::{Engine, EngineOver};
 use dml_pool::Free;
-use dml_portal::{Done, Full, Portal, PortalError, Seat, Server, SettleFault, Settled};
+use dml_portal::{
+    Done, Full, Portal, PortalError, Seat, Server, ServerOver, SettleFault, Settled, SettledOver,
+};
 use dml_types::{Job, Record};
 use std::alloc::Global;
 use std::process::Abort;
@@ -16,8 +18,8 @@ use std::thread::Threads;
 
 /// A portal of one client.
 #[derive(Drop)]
-pub(super) struct One {
-    pub(super) server: Server<Free>,
+pub(super) struct One<'a> {
+    pub(super) server: ServerOver<'a, Free>,
     pub(super) seat: Seat,
     ghost own_seat: { IsSeatOf server.lanes.items seat },
 }
@@ -34,8 +36,8 @@ pub(super) struct Two {
 
 /// A portal of three clients.
 #[derive(Drop)]
-pub(super) struct Three {
-    pub(super) server: Server<Free>,
+pub(super) struct Three<'a> {
+    pub(super) server: ServerOver<'a, Free>,
     pub(super) first: Seat,
     pub(super) second: Seat,
     pub(super) third: Seat,
@@ -44,10 +46,15 @@ pub(super) struct Three {
     ghost own_third: { IsSeatOf server.lanes.items third },
 }
 
-impl One {
+impl<'a> One<'a> {
     /// A portal over a page of zeros.
-    pub(super) fn open(alloc: Global, capacity: u32) -> Option<One> {
-        let Ok((server, mut seats)) = Portal::open(alloc, engine(alloc)?, 1, capacity) else {
+    pub(super) fn open(alloc: Global, capacity: u32) -> Option<One<'static>> {
+        One::over(alloc, engine(alloc)?, capacity)
+    }
+
+    /// A portal over an engine.
+    pub(super) fn over(alloc: Global, engine: EngineOver<'a>, capacity: u32) -> Option<One<'a>> {
+        let Ok((server, mut seats)) = Portal::open(alloc, engine, 1, capacity) else {
             return None;
         };
         let seat = seats.pop()?;
@@ -76,7 +83,11 @@ impl One {
     }
 
     /// The client finishes, and the portal is settled.
-    pub(super) fn settle<R: Threads + Wait + Sync>(self, rt: &R, alloc: Global) -> Option<Settled> {
+    pub(super) fn settle<R: Threads + Wait + Sync>(
+        self,
+        rt: &R,
+        alloc: Global,
+    ) -> Option<SettledOver<'a>> {
         let One { server, seat } = self;
         let dones = vec![in alloc; seat.finish()].ok()?;
         server.settle(rt, alloc, dones).ok()
@@ -171,11 +182,11 @@ impl Two {
             second,
         } = self;
         let dones = vec![in alloc; first.finish()].ok()?;
-        let Err((server, mut dones, SettleFault::Strangers)) = server.settle(rt, alloc, dones)
-        else {
+        let Err(kept) = server.settle(rt, alloc, dones) else {
             return None;
         };
-        if dones.len() != 1 {
+        let (server, mut dones, fault) = kept;
+        if fault != SettleFault::Strangers || dones.len() != 1 {
             return None;
         }
         let Ok(()) = dones.push(second.finish()) else {
@@ -185,10 +196,15 @@ impl Two {
     }
 }
 
-impl Three {
+impl<'a> Three<'a> {
     /// A portal over a page of zeros.
-    pub(super) fn open(alloc: Global, capacity: u32) -> Option<Three> {
-        let Ok((server, mut seats)) = Portal::open(alloc, engine(alloc)?, 3, capacity) else {
+    pub(super) fn open(alloc: Global, capacity: u32) -> Option<Three<'static>> {
+        Three::over(alloc, engine(alloc)?, capacity)
+    }
+
+    /// A portal over an engine.
+    pub(super) fn over(alloc: Global, engine: EngineOver<'a>, capacity: u32) -> Option<Three<'a>> {
+        let Ok((server, mut seats)) = Portal::open(alloc, engine, 3, capacity) else {
             return None;
         };
         let third = seats.pop()?;
@@ -230,7 +246,11 @@ impl Three {
     }
 
     /// The clients finish, and the portal is settled.
-    pub(super) fn settle<R: Threads + Wait + Sync>(self, rt: &R, alloc: Global) -> Option<Settled> {
+    pub(super) fn settle<R: Threads + Wait + Sync>(
+        self,
+        rt: &R,
+        alloc: Global,
+    ) -> Option<SettledOver<'a>> {
         let Three {
             server,
             first,

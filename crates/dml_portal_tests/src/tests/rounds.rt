@@ -49,7 +49,7 @@ fn expect_log(rt: &impl Abort, log: &[LogEntry], fetched: &[(u32, u32, u32)]) {
 }
 
 /// Three clients submit all their jobs in turn, the last one first.
-fn submit_in_turn(rt: &impl Abort, portal: &mut Three) {
+fn submit_in_turn(rt: &impl Abort, portal: &mut Three<'_>) {
     for number in 0..130 {
         for (client, count) in [(2, COUNTS[2]), (1, COUNTS[1]), (0, COUNTS[0])] {
             if number < count {
@@ -60,7 +60,7 @@ fn submit_in_turn(rt: &impl Abort, portal: &mut Three) {
 }
 
 /// Each client polls the records of all its jobs, and no more.
-fn expect_all_polled(rt: &impl Abort, portal: &mut Three) {
+fn expect_all_polled(rt: &impl Abort, portal: &mut Three<'_>) {
     for (client, count) in [(1, COUNTS[1]), (0, COUNTS[0]), (2, COUNTS[2])] {
         for _ in 0..count {
             assert_eq!(rt; portal.poll(client), Some(done(8)));
@@ -69,23 +69,35 @@ fn expect_all_polled(rt: &impl Abort, portal: &mut Three) {
     }
 }
 
+/// What the jobs of three clients leave of the page.
+const BYTES: [(u64, u8); 4] = [(0, 129), (8, 2), (16, 128), (24, 0)];
+
 /// Three clients submit in turn, and are fetched by two rounds.
-#[test]
-fn three_clients_fetched_in_turn(rt: HostRuntime) -> Result<(), Fail> {
-    let mut portal = Three::open(rt.alloc(), 200).ok_or("no memory")?;
-    submit_in_turn(&rt, &mut portal);
-    portal.expect_served(&rt, rt.alloc(), 259);
-    portal.expect_served(&rt, rt.alloc(), 3);
-    portal.expect_served(&rt, rt.alloc(), 0);
-    expect_all_polled(&rt, &mut portal);
-    let settled = portal.settle(&rt, rt.alloc()).ok_or("not settled")?;
-    expect_log(&rt, settled.log.list.as_slice(), &FETCHED);
-    expect_bytes(&rt, &settled.image, &[(0, 129), (8, 2), (16, 128), (24, 0)]);
+pub(super) fn expect_fetched_in_turn<R: Abort + Threads + Wait + Sync>(
+    rt: &R,
+    alloc: Global,
+    portal: Three<'_>,
+) -> Result<(), Fail> {
+    let mut portal = portal;
+    submit_in_turn(rt, &mut portal);
+    portal.expect_served(rt, alloc, 259);
+    portal.expect_served(rt, alloc, 3);
+    portal.expect_served(rt, alloc, 0);
+    expect_all_polled(rt, &mut portal);
+    let settled = portal.settle(rt, alloc).ok_or("not settled")?;
+    expect_log(rt, settled.log.list.as_slice(), &FETCHED);
+    expect_bytes(rt, &settled.image, &BYTES);
     Ok(())
 }
 
+#[test]
+fn three_clients_fetched_in_turn(rt: HostRuntime) -> Result<(), Fail> {
+    let portal = Three::open(rt.alloc(), 200).ok_or("no memory")?;
+    expect_fetched_in_turn(&rt, rt.alloc(), portal)
+}
+
 /// Each of three clients submits all its jobs before the next one does, the first one last.
-fn submit_one_by_one(rt: &impl Abort, portal: &mut Three) {
+fn submit_one_by_one(rt: &impl Abort, portal: &mut Three<'_>) {
     for (client, count) in [(1, COUNTS[1]), (2, COUNTS[2]), (0, COUNTS[0])] {
         for number in 0..count {
             assert_eq!(rt; portal.submit(client, job(client, number)), Ok(()));
@@ -94,13 +106,23 @@ fn submit_one_by_one(rt: &impl Abort, portal: &mut Three) {
 }
 
 /// A settlement fetches the same by the same rounds.
+pub(super) fn expect_settled_in_turn<R: Abort + Threads + Wait + Sync>(
+    rt: &R,
+    alloc: Global,
+    portal: Three<'_>,
+) -> Result<(), Fail> {
+    let mut portal = portal;
+    submit_one_by_one(rt, &mut portal);
+    let settled = portal.settle(rt, alloc).ok_or("not settled")?;
+    expect_log(rt, settled.log.list.as_slice(), &FETCHED);
+    expect_bytes(rt, &settled.image, &BYTES);
+    Ok(())
+}
+
 #[test]
 fn three_clients_settled_in_turn(rt: HostRuntime) -> Result<(), Fail> {
-    let mut portal = Three::open(rt.alloc(), 130).ok_or("no memory")?;
-    submit_one_by_one(&rt, &mut portal);
-    let settled = portal.settle(&rt, rt.alloc()).ok_or("not settled")?;
-    expect_log(&rt, settled.log.list.as_slice(), &FETCHED);
-    Ok(())
+    let portal = Three::open(rt.alloc(), 130).ok_or("no memory")?;
+    expect_settled_in_turn(&rt, rt.alloc(), portal)
 }
 
 /// What two clients submit: three jobs, three more, and one.
@@ -203,7 +225,7 @@ fn last_two_submitted<R: Abort + Threads + Sync>(rt: &R, second: Seat, third: Se
 }
 
 /// Each of three clients submits on a thread of its own.
-fn submitted_at_once<R: Abort + Threads + Sync>(rt: &R, portal: Three) -> Three {
+fn submitted_at_once<'a, R: Abort + Threads + Sync>(rt: &R, portal: Three<'a>) -> Three<'a> {
     let Three {
         server,
         first,

@@ -3,7 +3,7 @@ ghost use Rattle.dml_portal.specs.Lanes.{AreSameLanes};
 ghost use Rattle.dml_portal.specs.Seats.{IsSameSeat};
 
 use dml_pool::Gate;
-use dml_portal::{Seat, Server};
+use dml_portal::{Seat, ServerOver};
 use dml_types::{Job, Record};
 use std::alloc::Global;
 use std::process::Abort;
@@ -33,7 +33,7 @@ pub(super) fn expect_polled(rt: &impl Abort, seat: &mut Seat, records: &[Record]
 pub(super) fn expect_served<R: Abort + Threads + Wait + Sync, G: Gate + Sync>(
     rt: &R,
     alloc: Global,
-    server: &mut Server<G>,
+    server: &mut ServerOver<'_, G>,
     jobs: usize,
 )
     ensures { AreSameLanes server.old.lanes.items server.new.lanes.items }

@@ -81,13 +81,15 @@ fn compares_from_any_offset(rt: HostRuntime) -> Result<(), Fail> {
     Ok(())
 }
 
-/// A difference in each part of two turns of four steps, and behind them.
+/// A difference in each step of two blocks of four, and behind them.
 #[test]
 fn compares_of_blocks(rt: HostRuntime) -> Result<(), Fail> {
     let mut arena = Arena::new(rt.alloc(), STAGING)?;
-    for place in [0, 127, 128, 300, 511, 512, 900, 1023, 1024, 1160, 1199] {
+    for place in [
+        0, 127, 128, 300, 383, 384, 511, 512, 639, 640, 900, 1023, 1024, 1151, 1152, 1160, 1199,
+    ] {
         let image = image_but(rt.alloc(), &[0, 1], 0x5a, &[4096 + u64::from(place)])?;
-        for len in [1200, 1199, 1024, 512] {
+        for len in [1200, 1199, 1152, 1024, 640, 512, 384, 383, 128] {
             let job = Job::compare(100, 4096, len);
             let want = if place < len {
                 Found::Differs { done: place }

@@ -1,15 +1,10 @@
-use Rattle.std.proofs.Common.{◌≡◌, ℕ, ◌/◌, Bool, true, List, length, replicate, Some, refl, sym, ◌∙◌, ap, ap₂, subst, rules}
+use Rattle.std.proofs.Common.{◌≡◌, Some, refl, sym, ◌∙◌, ap, subst, rules}
 use Rattle.std.specs.Option.{IsSome}
-use Rattle.dml_types.specs.Memory.{Memory, at_home}
+use Rattle.dml_types.specs.Memory.{Memory}
 use Rattle.dml_types.specs.Step.{step}
 use Rattle.dml_effect.specs.Pages.{all_present}
-use Rattle.dml_effect.proofs.PageLemmas.{answer_there, bytes_there, home_there}
+use Rattle.dml_effect.proofs.PageLemmas.{answer_there, bytes_there, home_there, lent_is}
 use Rattle.dml_effect.proofs.lending.submit_straight_over.Goals as goal
-
--- the lent image is the caller's pages
-lent_is : (content : List ℕ) (present : List Bool) (bytes : List ℕ) (memory : Memory) (name : ℕ) → memory ≡ record { present = present; bytes = bytes; home = Some name } → present ≡ replicate (length content / 4096) true → bytes ≡ content → memory ≡ at_home (all_present content) (Some name)
-lent_is content present bytes memory name is all same =
-    is ∙ ap₂ (λ (p : List Bool) (b : List ℕ). record { present = p; bytes = b; home = Some name }) all same
 
 pub put-requires : goal.put-requires
 put-requires c =

@@ -29,7 +29,7 @@ returns-then-is_ok-clause-pushed c =
     let log = c.args.log.now in
     let records = c.args.records.now in
     let ok = on_ok c.push_entire_slice.result _ c.push_entire_slice.ensures.ok (sym c.is_ok.ensures.value ∙ c.if-is_ok.true) in
-    let now : Lane = record { jobs = lane.jobs; records = c.push_entire_slice.new.self; answered = length log; before = lane.before; fetched = lane.fetched } in
+    let now : Lane = record { jobs = lane.jobs; records = c.push_entire_slice.new.self; answered = length log; late = lane.late; before = lane.before; fetched = lane.fetched } in
     block_pushed log c.args.client lane now c.args.start records c.requires.answers c.requires.block c.requires.pushed (omega (arith, c.if-lane-start.true))
     (ok.0 ∙ ap (λ n. sent lane.records ++ take n (drop lane.before records)) (add-sub_cancel_left lane.before lane.fetched))
     refl

@@ -5,18 +5,18 @@ use Rattle.dml_scan.proofs.lanes.is_repeated_step.Goals as goal
 pub returns : goal.returns
 returns c =
     let step = step_repeated c.args.bytes.now c.args.repeated c.args.at c.requires c.fits-repeated.0 in (
-      λ zero. (let parts = c.are_zero.ensures.0 zero in
+      λ full. (let parts = c.all_of.ensures.0 (c.is_full.ensures.0 full) in
           step.0 (
-            sym c.load.ensures ∙ c.unlike-first.ensures.0 parts.0,
-            sym c.load-2.ensures ∙ c.unlike-second.ensures.0 parts.1,
-            sym c.load-3.ensures ∙ c.unlike-third.ensures.0 parts.2,
-            sym c.load-4.ensures ∙ c.unlike-fourth.ensures.0 parts.3,
+            sym c.load.ensures ∙ c.alike-first.ensures.0 parts.0,
+            sym c.load-2.ensures ∙ c.alike-second.ensures.0 parts.1,
+            sym c.load-3.ensures ∙ c.alike-third.ensures.0 parts.2,
+            sym c.load-4.ensures ∙ c.alike-fourth.ensures.0 parts.3,
           )),
       λ alike. (let parts = step.1 alike in
-          c.are_zero.ensures.1 (
-            c.unlike-first.ensures.1 (c.load.ensures ∙ parts.0),
-            c.unlike-second.ensures.1 (c.load-2.ensures ∙ parts.1),
-            c.unlike-third.ensures.1 (c.load-3.ensures ∙ parts.2),
-            c.unlike-fourth.ensures.1 (c.load-4.ensures ∙ parts.3),
-          )),
+          c.is_full.ensures.1 (c.all_of.ensures.1 (
+            c.alike-first.ensures.1 (c.load.ensures ∙ parts.0),
+            c.alike-second.ensures.1 (c.load-2.ensures ∙ parts.1),
+            c.alike-third.ensures.1 (c.load-3.ensures ∙ parts.2),
+            c.alike-fourth.ensures.1 (c.load-4.ensures ∙ parts.3),
+          ))),
     )

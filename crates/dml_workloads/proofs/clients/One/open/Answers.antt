@@ -1,4 +1,5 @@
-use Rattle.std.specs.Prelude.{Some}
+use Rattle.std.specs.Prelude.{IfOk, Some}
+use Rattle.std.specs.List.{All}
 use Rattle.std.proofs.lemmas.List.Elements.{All-pop}
 use Rattle.dml_portal.specs.Lanes.{IsSeatOf}
 use Rattle.dml_portal.specs.Servers.{lanes_of}
@@ -7,5 +8,8 @@ use Rattle.dml_workloads.proofs.clients.One.open.Goals as goal
 pub invariant_of-result : goal.invariant_of-result
 invariant_of-result c =
     let opened = c.in-Ok in
-    let all = All-pop (IsSeatOf (lanes_of opened.server)) opened.seats.items c.pop.new.self.items (Some c.in_ok-seat.seat) c.in_ok-seat.ensures.items opened.ensures.own_seats in
+    let of_lanes = IsSeatOf (lanes_of opened.server) in
+    let own : IfOk c.open.result (λ made. All (IsSeatOf (lanes_of made.0)) made.1.items) → All of_lanes opened.seats.items =
+    rw (← c.open-2.view_is, opened.is) (λ known. known) in
+    let all = All-pop of_lanes opened.seats.items c.pop.new.self.items (Some c.in_ok-seat.seat) c.in_ok-seat.ensures.items (own c.open.ensures.own_seats) in
     record { own_seat = all.1 }

@@ -1,0 +1,189 @@
+//! Portals over memory that a caller lends.
+
+use super::portals::{One, Three};
+use super::rounds::{expect_fetched_in_turn, expect_settled_in_turn};
+use super::steps::{expect_polled, submit_all};
+use super::{Row, done};
+use dml_engine::EngineOver;
+use dml_image::{Image, ImageError, Lent, Whole};
+use dml_types::{Job, Record, Settings, Status};
+use std::alloc::Global;
+use std::process::Abort;
+use std::sync::Wait;
+use std::test::Fail;
+use std::thread::Threads;
+
+/// A mebibyte of staging, tasks of a page, four workers.
+const SETTINGS: Settings = Settings {
+    staging: 1 << 20,
+    chunk: 4096,
+    workers: 4,
+};
+
+/// A client fills 12 bytes from 6 before an address on, behind which no page is, and moves 4 of them to address 8.
+fn expect_served<R: Abort + Threads + Wait + Sync>(
+    rt: &R,
+    alloc: Global,
+    image: Image<'_>,
+    end: u32,
+) -> Result<(), Fail> {
+    let end = u64::from(end);
+    let Ok(engine) = EngineOver::new(alloc, image, SETTINGS) else {
+        return Err("no memory".into());
+    };
+    let mut portal = One::over(alloc, engine, 4).ok_or("no memory")?;
+    portal.submit_all(
+        rt,
+        &[
+            Job::fill(0x0807_0605_0403_0201, end.saturating_sub(6), 12),
+            Job::move_bytes(end.saturating_sub(4), 8, 4),
+        ],
+    );
+    portal.expect_served(rt, alloc, 2);
+    let fault = Record {
+        completed: 6,
+        fault: end,
+        ..Record::refused(Status::WriteFault)
+    };
+    portal.expect_polled(rt, &[fault, done(4)]);
+    drop(portal.settle(rt, alloc).ok_or("not settled")?);
+    Ok(())
+}
+
+/// Expects what that leaves in the caller's memory.
+fn expect_content(rt: &impl Abort, content: &[u8], end: usize) {
+    for (place, byte) in (8..12_usize).zip(3_u8..7) {
+        assert_eq!(rt; content.get(place), Some(&byte));
+    }
+    for (before, byte) in (1..7_usize).zip(1_u8..7) {
+        assert_eq!(rt;
+            content.get(end.wrapping_sub(7).wrapping_add(before)),
+            Some(&byte)
+        );
+    }
+}
+
+/// What a client's jobs write stands in the caller's memory, of which one page is present.
+#[test]
+fn portal_over_lent_memory(rt: HostRuntime) -> Result<(), Fail> {
+    let mut content = [0; 8192];
+    let mut lent = Lent::new(&[true, false], &mut content);
+    assert!(rt; lent.is_memory());
+    expect_served(&rt, rt.alloc(), lent.take(), 4096)?;
+    drop(lent);
+    expect_content(&rt, &content, 4096);
+    assert_eq!(rt; content[4096], 0);
+    Ok(())
+}
+
+/// The same in one piece of more pages than an image has of its own.
+#[test]
+fn portal_over_one_piece(rt: HostRuntime) -> Result<(), Fail> {
+    let mut content = vec![in rt.alloc(); 0; 4100 * 4096]?;
+    let mut whole = Whole::new(content.as_mut_slice());
+    assert!(rt; whole.is_memory());
+    expect_served(&rt, rt.alloc(), whole.take(), 4100 * 4096)?;
+    drop(whole);
+    expect_content(&rt, &content, 4100 * 4096);
+    Ok(())
+}
+
+/// A portal of one client over an image.
+fn over<'a>(alloc: Global, image: Image<'a>, row: Row) -> Option<One<'a>> {
+    let engine = EngineOver::new(alloc, image, SETTINGS).ok()?;
+    One::over(alloc, engine, row.capacity())
+}
+
+#[test]
+fn rows_over_lent_memory(rt: HostRuntime) -> Result<(), Fail> {
+    for row in Row::ALL {
+        let mut content = [0; 4096];
+        let mut lent = Lent::new(&[true], &mut content);
+        assert!(rt; lent.is_memory());
+        let portal = over(rt.alloc(), lent.take(), row).ok_or("no memory")?;
+        row.expect(&rt, rt.alloc(), portal)?;
+    }
+    Ok(())
+}
+
+#[test]
+fn rows_over_one_piece(rt: HostRuntime) -> Result<(), Fail> {
+    for row in Row::ALL {
+        let mut content = [0; 4096];
+        let mut whole = Whole::new(&mut content);
+        assert!(rt; whole.is_memory());
+        let portal = over(rt.alloc(), whole.take(), row).ok_or("no memory")?;
+        row.expect(&rt, rt.alloc(), portal)?;
+    }
+    Ok(())
+}
+
+/// A portal of three clients over an image.
+fn three_over<'a>(alloc: Global, image: Image<'a>, capacity: u32) -> Option<Three<'a>> {
+    let engine = EngineOver::new(alloc, image, SETTINGS).ok()?;
+    Three::over(alloc, engine, capacity)
+}
+
+/// Three clients are fetched in turn over lent memory as over an image's own pages.
+#[test]
+fn three_clients_over_lent_memory(rt: HostRuntime) -> Result<(), Fail> {
+    let (mut content, mut other) = ([0; 4096], [0; 4096]);
+    let mut lent = Lent::new(&[true], &mut content);
+    assert!(rt; lent.is_memory());
+    let portal = three_over(rt.alloc(), lent.take(), 200).ok_or("no memory")?;
+    expect_fetched_in_turn(&rt, rt.alloc(), portal)?;
+    let mut lent = Lent::new(&[true], &mut other);
+    assert!(rt; lent.is_memory());
+    let portal = three_over(rt.alloc(), lent.take(), 130).ok_or("no memory")?;
+    expect_settled_in_turn(&rt, rt.alloc(), portal)
+}
+
+/// The same in one piece.
+#[test]
+fn three_clients_over_one_piece(rt: HostRuntime) -> Result<(), Fail> {
+    let (mut content, mut other) = ([0; 4096], [0; 4096]);
+    let mut whole = Whole::new(&mut content);
+    assert!(rt; whole.is_memory());
+    let portal = three_over(rt.alloc(), whole.take(), 200).ok_or("no memory")?;
+    expect_fetched_in_turn(&rt, rt.alloc(), portal)?;
+    let mut whole = Whole::new(&mut other);
+    assert!(rt; whole.is_memory());
+    let portal = three_over(rt.alloc(), whole.take(), 130).ok_or("no memory")?;
+    expect_settled_in_turn(&rt, rt.alloc(), portal)
+}
+
+/// A server that stays up over an image of two pages, the second of which is absent and lent, brings no page, and a
+/// client's job faults on it.
+fn expect_stays_up<R: Abort + Threads + Wait + Sync>(
+    rt: &R,
+    alloc: Global,
+    image: Image<'_>,
+) -> Result<(), Fail> {
+    let engine = EngineOver::new(alloc, image, SETTINGS).ok();
+    let portal = One::over(alloc, engine.ok_or("no memory")?, 4).ok_or("no memory")?;
+    let One { server, mut seat } = portal;
+    let mut server = server.stay_up(4).ok().ok_or("no memory")?;
+    assert_eq!(rt; server.bring(1, &[0; 4096]), Err(ImageError::NoMemory));
+    submit_all(rt, &mut seat, &[Job::fill(7, 4092, 8)]);
+    assert_eq!(rt; server.serve_round(rt, alloc), Ok(1));
+    let fault = Record {
+        completed: 4,
+        fault: 4096,
+        ..Record::refused(Status::WriteFault)
+    };
+    expect_polled(rt, &mut seat, &[fault]);
+    assert_eq!(rt; server.give_up().log.list.len(), 1);
+    Ok(())
+}
+
+/// What a client's job writes stands in the caller's memory.
+#[test]
+fn stays_up_over_lent_memory(rt: HostRuntime) -> Result<(), Fail> {
+    let mut content = [0; 8192];
+    let mut lent = Lent::new(&[true, false], &mut content);
+    assert!(rt; lent.is_memory());
+    expect_stays_up(&rt, rt.alloc(), lent.take())?;
+    drop(lent);
+    assert_eq!(rt; (content[4092], content[4096]), (7, 0));
+    Ok(())
+}

@@ -91,9 +91,6 @@ accepted_free : (job : Job) (staging : ℕ) → refusal job staging ≡ None →
 accepted_free job staging accepted =
     ap (λ (j : Job). refusal j staging) (unfenced_where_accepted job staging accepted) ∙ accepted
 
-pub rules_of_job : (job : Job) (staging : ℕ) (op : Op) → op_of job ≡ Some op → refusal job staging ≡ None → KeepsRules op job
-rules_of_job job staging op operation accepted = rules_kept_at job staging op operation (accepted_free job staging accepted)
-
 pub need_within : (job : Job) (staging : ℕ) → refusal job staging ≡ None → need job ≤ staging
 need_within job staging accepted = need_within_free job staging (accepted_free job staging accepted)
 

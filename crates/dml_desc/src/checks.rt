@@ -1,5 +1,5 @@
-ghost use Rattle.std.specs.Prelude.{◌≡◌, if◌then◌else◌, IfOk, IfErr, IsOk, IsTrue, None, Some};
-ghost use Rattle.dml_types.specs.Job.{op_of, unfenced};
+ghost use Rattle.std.specs.Prelude.{◌≡◌, if◌then◌else◌, IfOk, IfErr, None, Some};
+ghost use Rattle.dml_types.specs.Job.{unfenced};
 ghost use Rattle.dml_types.specs.Refusal.{refusal, operation_need};
 ghost use Rattle.dml_types.specs.Refusal as rule;
 ghost use Rattle.dml_desc.specs.Checked.{IsChecked, KeepsRules, Limits};
@@ -78,65 +78,14 @@ fn refuse_if(broken: bool, status: Status) -> Result<(), Status>
 /// first rule that it breaks: BadOpcode, BadFlags, BadSize, BadDeltaSize, Misaligned, DualcastBits, Overlap,
 /// RangePast or StagingRefused, in this order.
 #[inline(always)]
-#[tactic(auto, using(crate::proofs::CheckedLemmas::rules_of_job))]
+#[tactic(auto, using(crate::proofs::CheckedLemmas::unfenced_where_flags))]
 pub fn check(job: &Job, staging: u32) -> Result<Checked, Status>
     ensures same { IfOk result (λ checked. checked ≡ job.now) }
     ensures accepted { IfOk result (λ _. refusal job.now staging ≡ None) }
     ensures refused { IfErr result (λ status. refusal job.now staging ≡ Some status) }
 {
+    let room = u64::from(staging);
     let op = job.op().ok_or(Status::BadOpcode)?;
-    if !keeps_few_rules(op, job, staging) {
-        keep_rules(op, job, staging)?;
-    }
-    Ok(Checked { job: *job, op })
-}
-
-/// Whether a job whose operation has few rules breaks none: with one jump, as a rule is no more than a comparison there.
-/// Of other operations nothing is said.
-#[inline(always)]
-fn keeps_few_rules(op: Op, job: &Job, staging: u32) -> bool
-    requires { op_of job.now ≡ Some op }
-    ensures { IsTrue result → refusal job.now staging ≡ None }
-{
-    match op {
-        // the same text: each has the rules of its operation alone
-        Op::NoOp => keeps_each_rule(Op::NoOp, job, staging),
-        Op::Move => keeps_each_rule(Op::Move, job, staging),
-        Op::Fill => keeps_each_rule(Op::Fill, job, staging),
-        Op::Compare => keeps_each_rule(Op::Compare, job, staging),
-        Op::ComparePattern => keeps_each_rule(Op::ComparePattern, job, staging),
-        Op::CreateDelta | Op::ApplyDelta | Op::Dualcast => false,
-    }
-}
-
-/// Whether a job breaks no rule, each of which is looked at.
-#[inline(always)]
-fn keeps_each_rule(op: Op, job: &Job, staging: u32) -> bool
-    requires { op_of job.now ≡ Some op }
-    ensures { IsTrue result → refusal job.now staging ≡ None }
-{
-    let is_broken = rules::has_bad_flags(job)
-        | rules::has_bad_size(op, job)
-        | rules::has_bad_delta_size(op, job)
-        | rules::is_misaligned(op, job)
-        | rules::has_dualcast_bits(op, job)
-        | rules::has_overlap(op, job)
-        | rules::has_range_past(op, job)
-        | (operation_need(op, job) > u64::from(staging));
-    !is_broken
-}
-
-/// Goes through the rules of a job in order, up to the first that it breaks. It stands apart, so that jobs of few rules
-/// that break none have none of its code.
-///
-/// # Errors
-/// The status of that rule.
-#[inline(never)]
-fn keep_rules(op: Op, job: &Job, staging: u32) -> Result<(), Status>
-    requires { op_of job.now ≡ Some op }
-    ensures accepted { IsOk result → refusal job.now staging ≡ None }
-    ensures refused { IfErr result (λ status. refusal job.now staging ≡ Some status) }
-{
     refuse_if(rules::has_bad_flags(job), Status::BadFlags)?;
     refuse_if(rules::has_bad_size(op, job), Status::BadSize)?;
     refuse_if(rules::has_bad_delta_size(op, job), Status::BadDeltaSize)?;
@@ -144,10 +93,8 @@ fn keep_rules(op: Op, job: &Job, staging: u32) -> Result<(), Status>
     refuse_if(rules::has_dualcast_bits(op, job), Status::DualcastBits)?;
     refuse_if(rules::has_overlap(op, job), Status::Overlap)?;
     refuse_if(rules::has_range_past(op, job), Status::RangePast)?;
-    refuse_if(
-        operation_need(op, job) > u64::from(staging),
-        Status::StagingRefused,
-    )
+    refuse_if(operation_need(op, job) > room, Status::StagingRefused)?;
+    Ok(Checked { job: *job, op })
 }
 
 /// The same for a job of a batch, where the fence is accepted: it breaks no rule and changes no other.

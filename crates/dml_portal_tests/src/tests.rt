@@ -14,6 +14,7 @@ mod staying_clients;
 mod staying_growths;
 mod stays;
 mod steps;
+mod vanishing;
 mod waiting_clients;
 
 use dml_engine::Engine;

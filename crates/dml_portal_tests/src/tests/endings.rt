@@ -3,13 +3,9 @@
 use super::portals::Two;
 use super::stays::Stay;
 use super::{engine, expect_bytes};
-use dml_portal::Settled;
 use dml_types::Job;
 use std::alloc::Global;
-use std::process::Abort;
-use std::sync::Wait;
 use std::test::Fail;
-use std::thread::Threads;
 
 /// A portal over a page of zeros.
 fn portal_of_two(alloc: Global) -> Option<Two> {
@@ -81,49 +77,6 @@ fn given_up(rt: HostRuntime) -> Result<(), Fail> {
     assert!(rt; second.is_server_gone());
     assert_eq!(rt; settled.log.list.len(), 1);
     expect_bytes(&rt, &settled.image, &[(0, 1), (1, 0)]);
-    Ok(())
-}
-
-/// How many jobs the first client of the portal below has submitted before each of its steps, a submission and a round in
-/// turn.
-const SUBMITTED: [usize; 5] = [0, 1, 1, 2, 2];
-
-/// A portal whose first client vanishes before this step of its own: what its server leaves once the second client's job
-/// is carried out.
-fn given_up_before<R: Abort + Threads + Wait + Sync>(
-    rt: &R,
-    alloc: Global,
-    steps: usize,
-) -> Option<Settled> {
-    let mut portal = stay(alloc)?;
-    for step in 0..steps {
-        match step {
-            0 | 2 => assert!(rt; portal.submit_first(Job::no_op())),
-            _ => assert_eq!(rt; portal.serve(rt, alloc), Ok(1)),
-        }
-    }
-    let Stay {
-        mut server,
-        first,
-        mut second,
-    } = portal;
-    drop(first);
-    assert!(rt; server.is_seat_gone(0));
-    assert!(rt; second.try_submit(Job::fill(1, 0, 8)).is_ok());
-    assert!(rt; server.serve_round(rt, alloc).is_ok());
-    assert!(rt; second.poll().is_some());
-    Some(server.give_up())
-}
-
-/// A client vanishes before each step. The jobs that it has submitted are carried out all the same, and the other client
-/// is served.
-#[test]
-fn client_vanishes(rt: HostRuntime) -> Result<(), Fail> {
-    for (steps, submitted) in SUBMITTED.iter().enumerate() {
-        let settled = given_up_before(&rt, rt.alloc(), steps).ok_or("no memory")?;
-        assert_eq!(rt; settled.log.list.len(), *submitted + 1);
-        expect_bytes(&rt, &settled.image, &[(0, 1), (8, 0)]);
-    }
     Ok(())
 }
 

@@ -14,7 +14,8 @@ use std::process::Abort;
 use std::sync::Wait;
 use std::thread::Threads;
 
-/// Expects what a row answers at all settings, with the engine's own gate and with one given, over each kind of memory.
+/// Expects what a row answers at all settings, with the engine's own gate and with one given, over each kind of memory,
+/// and without an engine.
 pub(super) fn everywhere<R: Abort + Threads + Wait + Sync>(
     rt: &R,
     alloc: Global,
@@ -28,7 +29,10 @@ pub(super) fn everywhere<R: Abort + Threads + Wait + Sync>(
             let own = engine.image();
             over_lent(rt, alloc, row, way, settings, given, own)?;
             in_one_piece(rt, alloc, row, way, settings, given, own)?;
-            without_engine(rt, alloc, row, way, settings, own)?;
+            // No gate can be given where there is no engine.
+            if !given {
+                without_engine(rt, alloc, row, way, settings, own)?;
+            }
         }
     }
     Some(())

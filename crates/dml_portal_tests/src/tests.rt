@@ -7,6 +7,7 @@ mod entering;
 mod gates;
 mod growths;
 mod lent;
+mod parts;
 mod portals;
 mod rounds;
 mod staying;

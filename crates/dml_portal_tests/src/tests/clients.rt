@@ -62,7 +62,7 @@ pub(super) fn expect_part(rt: &impl Abort, log: &[LogEntry], client: u32, list: 
 }
 
 /// Each client's part of the log is its list, and the image has what they wrote.
-fn expect_settled(rt: &impl Abort, settled: &Settled) {
+pub(super) fn expect_settled(rt: &impl Abort, settled: &Settled) {
     let log = settled.log.list.as_slice();
     assert_eq!(rt; log.len(), 3);
     expect_part(rt, log, 0, &first_list());
@@ -73,13 +73,15 @@ fn expect_settled(rt: &impl Abort, settled: &Settled) {
 }
 
 /// Each client submits its list on a thread of its own.
-fn submitted_at_once<R: Abort + Threads + Sync>(rt: &R, portal: Two) -> Two {
-    let Two {
-        server,
-        first,
-        second,
-    } = portal;
-    let (first, second) = thread::join(
+pub(super) fn both_submitted<R: Abort + Threads + Sync>(
+    rt: &R,
+    first: Seat,
+    second: Seat,
+) -> (Seat, Seat)
+    ensures first { IsSameSeat first result.0 }
+    ensures second { IsSameSeat second result.1 }
+{
+    thread::join(
         rt,
         || -> Seat
             ensures { IsSameSeat first result }
@@ -87,7 +89,17 @@ fn submitted_at_once<R: Abort + Threads + Sync>(rt: &R, portal: Two) -> Two {
         || -> Seat
             ensures { IsSameSeat second result }
         { submitted(rt, second, &second_list()) },
-    );
+    )
+}
+
+/// The portal once they have.
+fn submitted_at_once<R: Abort + Threads + Sync>(rt: &R, portal: Two) -> Two {
+    let Two {
+        server,
+        first,
+        second,
+    } = portal;
+    let (first, second) = both_submitted(rt, first, second);
     Two {
         server,
         first,
@@ -249,8 +261,8 @@ fn polled_while_served<R: Abort + Threads + Wait + Sync>(
     (portal, of_first, of_second)
 }
 
-/// Two clients poll on threads of their own while a third thread serves. The rings hold all their records, so in the end
-/// each client has polled all of its own.
+/// Two clients poll on threads of their own while a third thread serves. The rings hold all their records, so in the
+/// end each client has polled all of its own.
 #[test]
 fn polls_while_serving(rt: HostRuntime) -> Result<(), Fail> {
     for _ in 0..10 {

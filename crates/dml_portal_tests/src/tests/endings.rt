@@ -2,7 +2,7 @@
 
 use super::portals::Two;
 use super::stays::Stay;
-use super::{engine, expect_bytes};
+use super::{done, engine, expect_bytes};
 use dml_types::Job;
 use std::alloc::Global;
 use std::test::Fail;
@@ -17,7 +17,7 @@ fn stay(alloc: Global) -> Option<Stay> {
     Stay::of(portal_of_two(alloc)?, 4).ok()
 }
 
-/// All that a client submitted is carried out, and its seat is the next client's.
+/// All that a client submitted is carried out, and its seat is the next client's, who polls what it left first.
 #[test]
 fn seat_used_again(rt: HostRuntime) -> Result<(), Fail> {
     let mut portal = stay(rt.alloc()).ok_or("no memory")?;
@@ -27,16 +27,18 @@ fn seat_used_again(rt: HostRuntime) -> Result<(), Fail> {
         first,
         second,
     } = portal;
-    let mut done = second.finish();
-    assert!(rt; !server.is_served(&mut done));
+    let mut finished = second.finish();
+    assert!(rt; !server.is_served(&mut finished));
     assert_eq!(rt; server.serve_round(&rt, rt.alloc()), Ok(1));
-    assert!(rt; server.is_served(&mut done));
+    assert!(rt; server.is_served(&mut finished));
     let mut portal = Stay {
         server,
         first,
-        second: done.again(),
+        second: finished.again(),
     };
-    assert!(rt; portal.submit_second(Job::no_op()));
+    assert!(rt; portal.submit_second(Job::fill(1, 0, 8)));
+    assert_eq!(rt; portal.serve(&rt, rt.alloc()), Ok(1));
+    portal.expect_polled(&rt, &[], &[done(0), done(8)]);
     let settled = portal.settle(&rt, rt.alloc()).ok_or("not settled")?;
     assert_eq!(rt; settled.log.list.len(), 2);
     Ok(())
@@ -52,10 +54,10 @@ fn seat_served(rt: HostRuntime) -> Result<(), Fail> {
         second,
         ..
     } = portal;
-    let mut done = second.finish();
-    assert!(rt; !server.is_served(&mut done));
+    let mut finished = second.finish();
+    assert!(rt; !server.is_served(&mut finished));
     assert_eq!(rt; server.serve_round(&rt, rt.alloc()), Ok(1));
-    assert!(rt; server.is_served(&mut done));
+    assert!(rt; server.is_served(&mut finished));
     Ok(())
 }
 

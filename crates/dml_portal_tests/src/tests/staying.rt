@@ -40,8 +40,8 @@ fn expect_round<R: Abort + Threads + Wait + Sync>(
     assert_eq!(rt; log.len().checked_sub(before), Some(jobs));
 }
 
-/// The first client submits four jobs a round and polls nothing: four records fill its ring, four more wait with it, and
-/// with eight it is held back.
+/// The first client submits four jobs a round and polls nothing: four records fill its ring, four more wait with it,
+/// and with eight it is held back.
 fn hold_first_back<R: Abort + Threads + Wait + Sync>(
     rt: &R,
     alloc: Global,

@@ -3,7 +3,8 @@ ghost use Rattle.dml_portal.specs.Lanes.{AreSameLanes};
 ghost use Rattle.dml_portal.specs.Seats.{IsSameSeat};
 
 use super::clients::{
-    TURNS, expect_part, first_list, polled, polled_to_the_end, portal_of_two, second_list,
+    TURNS, both_submitted, expect_part, expect_settled, first_list, polled, polled_to_the_end,
+    portal_of_two, second_list,
 };
 use super::stays::Stay;
 use dml_pool::Free;
@@ -122,6 +123,30 @@ fn polls_while_the_log_is_taken(rt: HostRuntime) -> Result<(), Fail> {
         log.extend_from_slice(settled.log.list.as_slice())?;
         expect_part(&rt, log.as_slice(), 0, &first_list());
         expect_part(&rt, log.as_slice(), 1, &second_list());
+    }
+    Ok(())
+}
+
+/// Two clients submit at once to a server that stays up.
+#[test]
+fn two_seats_while_up(rt: HostRuntime) -> Result<(), Fail> {
+    for _ in 0..10 {
+        let Ok(portal) = Stay::of(portal_of_two(rt.alloc()).ok_or("no memory")?, 0) else {
+            return Err("no memory".into());
+        };
+        let Stay {
+            server,
+            first,
+            second,
+        } = portal;
+        let (first, second) = both_submitted(&rt, first, second);
+        let portal = Stay {
+            server,
+            first,
+            second,
+        };
+        let settled = portal.settle(&rt, rt.alloc()).ok_or("not settled")?;
+        expect_settled(&rt, &settled);
     }
     Ok(())
 }

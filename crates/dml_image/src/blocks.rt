@@ -21,6 +21,7 @@ const FOUR: usize = 4;
 /// that is not all among them. Returns how many entries there are up to there.
 ///
 /// Four go at once behind one look at where they lie, so that few jumps stand in the loop.
+#[inline(always)]
 pub fn put_inside(bytes: &mut [u8], begin: u64, target: u64, entries: &[u8], first: usize) -> usize
     requires end { begin + length bytes.old ≤ 2 ^ 64 }
     requires target { target ≤ 17592186044416 }

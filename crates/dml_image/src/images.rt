@@ -285,6 +285,17 @@ impl Image<'_> {
         if len as usize <= rest_of_page(addr) {
             return present_in_page(self, addr, len);
         }
+        self.present_over_pages(addr, len, direction)
+    }
+
+    /// The same for bytes that lie in more than one page: apart, so that nothing is saved for it where all
+    /// lie in one.
+    #[inline(never)]
+    fn present_over_pages(&self, addr: u64, len: u32, direction: Direction) -> u32
+        requires { addr + len ≤ 2 ^ 64 }
+        ensures count { result ≡ present_toward direction self.now addr len }
+        ensures within { result ≤ len }
+    {
         match direction {
             Direction::Forward => present_upwards(self, addr, len),
             Direction::Backward => present_downwards(self, addr, len),

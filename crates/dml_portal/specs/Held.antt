@@ -31,14 +31,14 @@ AreTakenOrHeld most lanes entries now =
     (λ client lane. IsTakenOrHeld most (slice_index_or lanes client lane) lane (jobs_in (part_of client entries)))
     now
 
--- with each client wait no more records than before, or than those of one round beyond the bound
+-- with each client wait at most as many records as before, or, where that is more, the bound and those of one round
 abbrev pub AreBounded : ℕ → List Lane → List Lane → Type 0
 AreBounded most lanes now =
     EachLane
     (λ client lane. length (late_of lane) ≤ max (length (late_of (slice_index_or lanes client lane))) (most + 128))
     now
 
--- and the room for them is that of before, or that of those at most
+-- and the room for them is at most that of before, or, where that is more, of the bound and of one round
 abbrev pub HasRoomWithin : ℕ → Lane → Lane → Type 0
 HasRoomWithin most lane now = room_by now ≤ max (room_by lane) (most + 128)
 

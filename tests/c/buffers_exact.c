@@ -432,62 +432,74 @@ static void expect_fault(const struct job *job)
     }
 }
 
-/* Jobs of each operation that have a range which goes on into a page that is not mapped, or one at address 0. */
-static void try_unmapped(void)
+/* Jobs of each operation that have a range which goes on into a page that is not mapped. */
+static void try_past_the_end(uint32_t size)
 {
     uint64_t one = (uintptr_t)areas[0], other = (uintptr_t)areas[1], third = (uintptr_t)areas[2];
     uint64_t end = one + AREA, other_end = other + AREA, third_end = third + AREA;
     uint64_t blank = UINT64_C(0x0101010101010101) * BLANK;
+    put_number(areas[2], size / 8, 2); /* an entry for the block behind the first `size` bytes */
+    const struct job jobs[] = {
+        {.opcode = FILL, .target = end - size, .size = size + 1},
+        {.opcode = MOVE, .source = end - size, .target = other, .size = size + 1},
+        {.opcode = MOVE, .source = other, .target = end - size, .size = size + 1},
+        {.opcode = MOVE, .source = end - size, .target = end - size / 2, .size = size},
+        {.opcode = MOVE, .source = end - size / 2, .target = end - size, .size = size},
+        {.opcode = COMPARE, .source = end - size, .target = other, .size = size + 1},
+        {.opcode = COMPARE, .source = other, .target = end - size, .size = size + 1},
+        {.opcode = COMPARE_PATTERN, .source = end - size, .target = blank, .size = size + 1},
+        {.opcode = CREATE, .source = end - size, .target = other, .extra = third, .size = size + 8,
+         .delta_size = 10},
+        {.opcode = CREATE, .source = other, .target = end - size, .extra = third, .size = size + 8,
+         .delta_size = 10},
+        {.opcode = CREATE, .source = one, .target = other, .extra = third_end - 5, .size = size, .delta_size = 10},
+        {.opcode = APPLY, .source = end - 1, .target = other, .size = size, .delta_size = 10},
+        {.opcode = APPLY, .source = third, .target = end - size, .size = size + 8, .delta_size = 10},
+        {.opcode = DUALCAST, .source = end - size, .target = other, .extra = third, .size = size + 1},
+        {.opcode = DUALCAST, .source = one, .target = other_end - size, .extra = third_end - PAGE - size,
+         .size = size + 1},
+        {.opcode = DUALCAST, .source = one, .target = other_end - PAGE - size, .extra = third_end - size,
+         .size = size + 1},
+    };
+    for (size_t k = 0; k < sizeof jobs / sizeof *jobs; k++)
+        expect_fault(&jobs[k]);
+}
+
+/* Jobs of each operation that have a range at address 0. */
+static void try_at_zero(uint32_t size)
+{
+    uint64_t one = (uintptr_t)areas[0], other = (uintptr_t)areas[1], third = (uintptr_t)areas[2];
+    const struct job jobs[] = {
+        {.opcode = FILL, .target = 0, .size = size},
+        {.opcode = MOVE, .source = 0, .target = other, .size = size},
+        {.opcode = MOVE, .source = one, .target = 0, .size = size},
+        {.opcode = MOVE, .source = 0, .target = size / 2, .size = size},
+        {.opcode = MOVE, .source = size / 2, .target = 0, .size = size},
+        {.opcode = COMPARE, .source = 0, .target = other, .size = size},
+        {.opcode = COMPARE, .source = one, .target = 0, .size = size},
+        {.opcode = COMPARE, .source = 0, .target = 0, .size = size},
+        {.opcode = COMPARE_PATTERN, .source = 0, .target = 0, .size = size},
+        {.opcode = CREATE, .source = 0, .target = other, .extra = third, .size = size, .delta_size = 10},
+        {.opcode = CREATE, .source = one, .target = 0, .extra = third, .size = size, .delta_size = 10},
+        {.opcode = CREATE, .source = one, .target = other, .extra = 0, .size = size, .delta_size = 10},
+        {.opcode = APPLY, .source = 0, .target = other, .size = size, .delta_size = 10},
+        {.opcode = APPLY, .source = one, .target = 0, .size = size, .delta_size = 10},
+        {.opcode = DUALCAST, .source = 0, .target = other, .extra = third, .size = size},
+        {.opcode = DUALCAST, .source = one, .target = 0, .extra = third, .size = size},
+        {.opcode = DUALCAST, .source = one, .target = other, .extra = 0, .size = size},
+    };
+    for (size_t k = 0; k < sizeof jobs / sizeof *jobs; k++)
+        expect_fault(&jobs[k]);
+}
+
+/* Both, for three sizes. */
+static void try_unmapped(void)
+{
     static const uint32_t sizes[] = {8, 64, PAGE};
     memset(areas[0], 0, 10); /* an entry for the first block, which differs from that of the other area */
     for (size_t i = 0; i < sizeof sizes / sizeof *sizes; i++) {
-        uint32_t size = sizes[i];
-        put_number(areas[2], size / 8, 2); /* an entry for the block behind the first `size` bytes */
-        const struct job past_the_end[] = {
-            {.opcode = FILL, .target = end - size, .size = size + 1},
-            {.opcode = MOVE, .source = end - size, .target = other, .size = size + 1},
-            {.opcode = MOVE, .source = other, .target = end - size, .size = size + 1},
-            {.opcode = MOVE, .source = end - size, .target = end - size / 2, .size = size},
-            {.opcode = MOVE, .source = end - size / 2, .target = end - size, .size = size},
-            {.opcode = COMPARE, .source = end - size, .target = other, .size = size + 1},
-            {.opcode = COMPARE, .source = other, .target = end - size, .size = size + 1},
-            {.opcode = COMPARE_PATTERN, .source = end - size, .target = blank, .size = size + 1},
-            {.opcode = CREATE, .source = end - size, .target = other, .extra = third, .size = size + 8,
-             .delta_size = 10},
-            {.opcode = CREATE, .source = other, .target = end - size, .extra = third, .size = size + 8,
-             .delta_size = 10},
-            {.opcode = CREATE, .source = one, .target = other, .extra = third_end - 5, .size = size, .delta_size = 10},
-            {.opcode = APPLY, .source = end - 1, .target = other, .size = size, .delta_size = 10},
-            {.opcode = APPLY, .source = third, .target = end - size, .size = size + 8, .delta_size = 10},
-            {.opcode = DUALCAST, .source = end - size, .target = other, .extra = third, .size = size + 1},
-            {.opcode = DUALCAST, .source = one, .target = other_end - size, .extra = third_end - PAGE - size,
-             .size = size + 1},
-            {.opcode = DUALCAST, .source = one, .target = other_end - PAGE - size, .extra = third_end - size,
-             .size = size + 1},
-        };
-        const struct job at_zero[] = {
-            {.opcode = FILL, .target = 0, .size = size},
-            {.opcode = MOVE, .source = 0, .target = other, .size = size},
-            {.opcode = MOVE, .source = one, .target = 0, .size = size},
-            {.opcode = MOVE, .source = 0, .target = size / 2, .size = size},
-            {.opcode = MOVE, .source = size / 2, .target = 0, .size = size},
-            {.opcode = COMPARE, .source = 0, .target = other, .size = size},
-            {.opcode = COMPARE, .source = one, .target = 0, .size = size},
-            {.opcode = COMPARE, .source = 0, .target = 0, .size = size},
-            {.opcode = COMPARE_PATTERN, .source = 0, .target = 0, .size = size},
-            {.opcode = CREATE, .source = 0, .target = other, .extra = third, .size = size, .delta_size = 10},
-            {.opcode = CREATE, .source = one, .target = 0, .extra = third, .size = size, .delta_size = 10},
-            {.opcode = CREATE, .source = one, .target = other, .extra = 0, .size = size, .delta_size = 10},
-            {.opcode = APPLY, .source = 0, .target = other, .size = size, .delta_size = 10},
-            {.opcode = APPLY, .source = one, .target = 0, .size = size, .delta_size = 10},
-            {.opcode = DUALCAST, .source = 0, .target = other, .extra = third, .size = size},
-            {.opcode = DUALCAST, .source = one, .target = 0, .extra = third, .size = size},
-            {.opcode = DUALCAST, .source = one, .target = other, .extra = 0, .size = size},
-        };
-        for (size_t k = 0; k < sizeof past_the_end / sizeof *past_the_end; k++)
-            expect_fault(&past_the_end[k]);
-        for (size_t k = 0; k < sizeof at_zero / sizeof *at_zero; k++)
-            expect_fault(&at_zero[k]);
+        try_past_the_end(sizes[i]);
+        try_at_zero(sizes[i]);
     }
 }
 

@@ -119,6 +119,30 @@ static int try_buffers()
     return numbers[7] == 9 && numbers[8] == 0 ? 0 : 41;
 }
 
+// Buffers of another length than the first one's, each place in turn; and one with room for more than a record has.
+static int try_lengths()
+{
+    const_view fewer = first.first(56);
+    view all = target, second = all.subspan(4096, 64), aligned = all.subspan(1024, 64);
+    if (compare(first, fewer).status != status_code::inconsistent_size)
+        return 42;
+    if (create_delta(first, fewer, delta).status != status_code::inconsistent_size)
+        return 43;
+    if (dualcast(first, all.first(64), second.first(63)).status != status_code::inconsistent_size)
+        return 44;
+    if (dualcast(first, all.first(63), second).status != status_code::inconsistent_size)
+        return 45;
+    job_result made = create_delta(first, make_view(zeros), all);
+    if (made.status != status_code::ok || made.delta_record_size != 80)
+        return 46;
+    if (fill(0x0101010101010101, aligned).status != status_code::ok)
+        return 47;
+    job_result applied = apply_delta(all.first(10), aligned, made); // one entry of the eight lies in this buffer
+    if (applied.status != status_code::ok || applied.bytes_processed != 10)
+        return 48;
+    return aligned[7] == 0 && aligned[8] == 1 ? 0 : 49;
+}
+
 // Buffers of 4 GiB and some bytes, none of which may be touched: a length that was cut to 32 bits would be that of a
 // job that is accepted.
 static int try_too_long()
@@ -141,7 +165,7 @@ static int try_too_long()
 
 int main()
 {
-    for (int (*part)() : {try_compares, try_dualcasts, try_deltas, try_buffers, try_too_long})
+    for (int (*part)() : {try_compares, try_dualcasts, try_deltas, try_buffers, try_lengths, try_too_long})
         if (int number = part(); number != 0)
             return number;
     return 0;

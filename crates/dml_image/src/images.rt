@@ -275,6 +275,8 @@ impl Image<'_> {
     }
 
     /// How many of `len` bytes from this address on come before the first absent one, in the order of `direction`.
+    // It is a call, so that what stands around it stays small enough to be put into its own caller.
+    #[inline(never)]
     pub fn present_toward(&self, addr: u64, len: u32, direction: Direction) -> u32
         requires { addr + len ≤ 2 ^ 64 }
         ensures count { result ≡ present_toward direction self.now addr len }
@@ -288,8 +290,8 @@ impl Image<'_> {
         self.present_over_pages(addr, len, direction)
     }
 
-    /// The same for bytes that lie in more than one page: apart, so that nothing is saved for it where all
-    /// lie in one.
+    /// The same for bytes that lie in more than one page. It stands apart, so that nothing is saved for it where all lie
+    /// in one page.
     #[inline(never)]
     fn present_over_pages(&self, addr: u64, len: u32, direction: Direction) -> u32
         requires { addr + len ≤ 2 ^ 64 }

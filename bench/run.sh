@@ -22,7 +22,7 @@ if [ ! -x "$proved" ]; then
 fi
 work=$(mktemp -d) || exit 2
 trap 'rm -rf "$work"' EXIT
-for name in memmove staged fill compare create compares ruled; do
+for name in memmove staged fill compare create compares ruled bells; do
     "${CC:-clang}" ${CFLAGS:--O2} -pthread -o "$work/$name" "$here/$name.c" || exit 2
 done
 
@@ -51,9 +51,9 @@ while [ "$round" -le "$rounds" ]; do
     : >"$work/round"
     before=$(host)
     set -- "$proved" "$work/memmove" "$work/staged" "$work/fill" "$work/compare" "$work/create" \
-        "$work/compares" "$work/ruled"
+        "$work/compares" "$work/ruled" "$work/bells"
     [ $((round % 2)) -eq 0 ] &&
-        set -- "$work/ruled" "$work/compares" "$work/create" "$work/compare" "$work/fill" "$work/staged" \
+        set -- "$work/bells" "$work/ruled" "$work/compares" "$work/create" "$work/compare" "$work/fill" "$work/staged" \
             "$work/memmove" "$proved"
     for program in "$@"; do
         one "$round" "$program"
@@ -125,7 +125,7 @@ awk '
             "levels_dualcasts:64 levels_dualcasts:1024 levels_one_source:1024 levels_many_cells:1024 " \
             "levels_chain:1024 waves_in_order:1024 waves_chain:1024 ring_push:1024 seat_submit:1024 ring_pop:1024 " \
             "seat_poll:1024 round_no_ops:1024 clients_list:128 clients_round:128 clients_whole:128 " \
-            "log_kept:800 log_taken:800", row)
+            "log_kept:800 log_taken:800 bell_wake:1 futex_wake:1", row)
         for (n = 1; n <= rows; n++) {
             split(row[n], part, ":")
             printf "%-24s %9d %12.1f\n", part[1], part[2], middle(part[1], part[2])
@@ -188,5 +188,8 @@ awk '
         bar("round of eight clients, of the list", ratio("clients_round", "clients_list", 128), 1.3)
         bar("the same with submits and polls, of the list", ratio("clients_whole", "clients_list", 128), 1.3)
         atleast("rounds with the log taken off, of those that keep it", ratio("log_kept", "log_taken", 800), 1.5)
+        bar("a ring where nobody sleeps, in nanoseconds", middle("bell_ring_ps", 1) / 1000, 20)
+        bar("a ring that wakes, in nanoseconds", middle("bell_wake", 1), 10000)
+        bar("a ring that wakes, of a futex pair", ratio("bell_wake", "futex_wake", 1), 1.25)
         exit missed
     }' "$work/times"

@@ -1,6 +1,6 @@
 //! Times `Engine::submit` with one worker: moves, fills, dualcasts, compares, creates and applies; the calls of an
 //! image that they stand on; jobs over the caller's own pages; scans of creates and applies; levels and waves of lists;
-//! `Engine::submit_list` with 1, 2 and 4 workers; and the seats and rounds of a portal.
+//! `Engine::submit_list` with 1, 2 and 4 workers; the seats and rounds of a portal; and rings that wake.
 //!
 //! Each row of the standard error is a name, a number (a size in bytes, or the number of jobs, tasks or workers), and
 //! the nanoseconds of one call. Without arguments each job is timed once, and each list is one of two jobs, which shows
@@ -11,6 +11,7 @@
 ghost use Rattle.std.specs.Prelude.{◌≡◌, ◌<◌, ◌≤◌};
 ghost use Rattle.dml_types.specs.Step.{step};
 
+mod bells;
 mod clients;
 mod deltas;
 mod lent;
@@ -289,5 +290,6 @@ fn main(rt: HostRuntime) -> io::Result<()> {
     let large = shapes::time_pays(&rt, alloc, large, if measures { 20 } else { 1 })?;
     clients::time_portals(&rt, alloc, large, if measures { 50 } else { 1 })?;
     staying::time_logs(&rt, alloc, if measures { 50 } else { 1 })?;
+    bells::time_bells(&rt, alloc, if measures { 20_000 } else { 1 })?;
     println!(rt; "{} sizes", SIZES.len())
 }

@@ -7,10 +7,10 @@ use Rattle.std.specs.Prelude.{None, Option, Some, nat_eq}
 use Rattle.rtrb.specs.Ring.{known_items, sent}
 use Rattle.dml_portal.specs.Types.{Job, LogEntry}
 use Rattle.dml_portal.specs.Log.{answers_in, jobs_in, part_of, sent_for}
-use Rattle.dml_portal.specs.Lanes.{IsTaken, waiting}
+use Rattle.dml_portal.specs.Lanes.{IsTakenUpTo, waiting}
 use Rattle.dml_portal.specs.Served.{IsFetched}
 use Rattle.dml_portal.specs.Whole.{HasSentMore, HaveAnswered, HaveSentMore, kept_by, late_of, room_by}
-use Rattle.dml_portal.specs.Held.{AreBounded, AreTakenOrHeld, HasRoomWithin, HaveRoomWithin, IsOver, IsTakenOrHeld, still_late}
+use Rattle.dml_portal.specs.Held.{AreBounded, AreTakenOrHeldUpTo, HasRoomWithin, HaveRoomWithin, IsOver, IsTakenOrHeld, still_late}
 use Rattle.dml_portal.specs.declared.lanes.Lane.{Lane}
 use Rattle.dml_portal.proofs.LogLemmas.{jobs_part}
 use Rattle.dml_portal.proofs.LookLemmas.{each_more}
@@ -25,16 +25,16 @@ still_same : (lane now : Lane) → now.records ≡ lane.records → still_late l
 still_same lane now same =
     ap (λ (r : _). drop (length (sent r)) (kept_by lane)) same ∙ drop-append_seam (sent lane.records) (late_of lane)
 
-pub taken_open : (most : Option ℕ) (lane now : Lane) (taken : List Job) → now.records ≡ lane.records → (IsOver most (length (late_of lane)) → ⊥) → IsTaken (waiting lane) taken (waiting now) → IsTakenOrHeld most lane now taken
-taken_open most lane now taken same unheld is =
+pub taken_open : (number : ℕ) (most : Option ℕ) (lane now : Lane) (taken : List Job) → now.records ≡ lane.records → (IsOver most (length (late_of lane)) → ⊥) → IsTakenUpTo number (waiting lane) taken (waiting now) → IsTakenOrHeld number most lane now taken
+taken_open number most lane now taken same unheld is =
     record {
       either = inl is;
       few = λ _. is;
       many = λ over. absurd (unheld (subst (λ xs. IsOver most (length xs)) (still_same lane now same) over));
     }
 
-pub held_none : (most : Option ℕ) (lane now : Lane) → now.jobs ≡ lane.jobs → IsOver most (length (late_of lane)) → IsTakenOrHeld most lane now []
-held_none most lane now same over =
+pub held_none : (number : ℕ) (most : Option ℕ) (lane now : Lane) → now.jobs ≡ lane.jobs → IsOver most (length (late_of lane)) → IsTakenOrHeld number most lane now []
+held_none number most lane now same over =
     record {
       either = inr (refl, ap (λ (r : _). known_items r) same);
       few = λ unheld. absurd (unheld over);
@@ -48,19 +48,19 @@ kept_length : (lane : Lane) → length (kept_by lane) ≡ length (sent lane.reco
 kept_length lane = length-append (sent lane.records) (late_of lane)
 
 -- records are pushed before and behind
-held_one : (most : Option ℕ) (lane start fetched now : Lane) (taken : List Job) → waiting start ≡ waiting lane → waiting now ≡ waiting fetched → kept_by start ≡ kept_by lane → HasSentMore lane start → HasSentMore fetched now → IsTakenOrHeld most start fetched taken → IsTakenOrHeld most lane now taken
-held_one most lane start fetched now taken known left kept first last held =
+held_one : (number : ℕ) (most : Option ℕ) (lane start fetched now : Lane) (taken : List Job) → waiting start ≡ waiting lane → waiting now ≡ waiting fetched → kept_by start ≡ kept_by lane → HasSentMore lane start → HasSentMore fetched now → IsTakenOrHeld number most start fetched taken → IsTakenOrHeld number most lane now taken
+held_one number most lane start fetched now taken known left kept first last held =
     record {
       either = ⊎_elim
-          (λ (is : IsTaken (waiting start) taken (waiting fetched)). inl (taken_as is))
+          (λ (is : IsTakenUpTo number (waiting start) taken (waiting fetched)). inl (taken_as is))
           (λ (none : (taken ≡ []) × (waiting fetched ≡ waiting start)). inr (none.0, left ∙ (none.1 ∙ known)))
           held.either;
       few = λ unheld. taken_as (held.few (λ over. unheld (over_more most (length (late_of start)) (length (late_of lane)) fewer over)));
       many = λ over. held.many (over_more most (length (still_late lane now)) (length (still_late start fetched)) less over);
     }
   where
-    taken_as : IsTaken (waiting start) taken (waiting fetched) → IsTaken (waiting lane) taken (waiting now)
-    taken_as is = subst (λ w. IsTaken w taken (waiting now)) known (subst (IsTaken (waiting start) taken) (sym left) is)
+    taken_as : IsTakenUpTo number (waiting start) taken (waiting fetched) → IsTakenUpTo number (waiting lane) taken (waiting now)
+    taken_as is = subst (λ w. IsTakenUpTo number w taken (waiting now)) known (subst (IsTakenUpTo number (waiting start) taken) (sym left) is)
 
     fewer : length (late_of start) ≤ length (late_of lane)
     fewer = omega (arith, ap length kept, kept_length start, kept_length lane, first)
@@ -69,8 +69,8 @@ held_one most lane start fetched now taken known left kept first last held =
     less = omega (arith, ap length kept, still_length lane now, still_length start fetched, last)
 
 -- of each client, and the entries were sent as those that were fetched
-pub held_along : (most : Option ℕ) (lanes start fetched now : List Lane) (entries added : List LogEntry) → length start ≡ length lanes → length fetched ≡ length start → length now ≡ length fetched → map waiting start ≡ map waiting lanes → map waiting now ≡ map waiting fetched → map kept_by start ≡ map kept_by lanes → HaveSentMore lanes start → HaveSentMore fetched now → map sent_for added ≡ map sent_for entries → AreTakenOrHeld most start entries fetched → AreTakenOrHeld most lanes added now
-held_along most lanes start fetched now entries added long_start long_fetched long_now known left kept first last same taken client lane below =
+pub held_along : (number : ℕ) (most : Option ℕ) (lanes start fetched now : List Lane) (entries added : List LogEntry) → length start ≡ length lanes → length fetched ≡ length start → length now ≡ length fetched → map waiting start ≡ map waiting lanes → map waiting now ≡ map waiting fetched → map kept_by start ≡ map kept_by lanes → HaveSentMore lanes start → HaveSentMore fetched now → map sent_for added ≡ map sent_for entries → AreTakenOrHeldUpTo number most start entries fetched → AreTakenOrHeldUpTo number most lanes added now
+held_along number most lanes start fetched now entries added long_start long_fetched long_now known left kept first last same taken client lane below =
     let l : Lane = get_or now client lane in
     let f : Lane = get_or fetched client l in
     let s : Lane = get_or start client f in
@@ -79,8 +79,8 @@ held_along most lanes start fetched now entries added long_start long_fetched lo
     let in_lanes : client < length lanes = omega (arith, in_start, long_start) in
     let sent_first : HasSentMore (get_or lanes client l) s =
     subst (λ o. HasSentMore o s) (get_or_default lanes client s l in_lanes) (first client f in_start) in
-    subst (IsTakenOrHeld most (get_or lanes client l) l) (same_jobs entries added same client)
-    (held_one most (get_or lanes client l) s f l (jobs_in (part_of client entries))
+    subst (IsTakenOrHeld number most (get_or lanes client l) l) (same_jobs entries added same client)
+    (held_one number most (get_or lanes client l) s f l (jobs_in (part_of client entries))
     (same_at waiting start lanes client f l known in_lanes) (same_at waiting now fetched client lane l left in_fetched) (same_at kept_by start lanes client f l kept in_lanes)
     sent_first (last client lane below) (taken client l in_fetched))
 
@@ -102,8 +102,8 @@ bounded_free : (most : ℕ) (lane now : Lane) (more : List _) → kept_by now �
 bounded_free most lane now more grown few fits =
     omega (arith, ap length grown, length-append (kept_by lane) more, few, still_length lane now, kept_length now, fits)
 
-pub bounded : (most clients : ℕ) (lanes now : List Lane) (entries : List LogEntry) → IsFetched clients (map sent_for entries) → HaveSentMore lanes now → HaveAnswered lanes entries now → AreTakenOrHeld (Some most) lanes entries now → AreBounded most lanes now
-bounded most clients lanes now entries fetched sent_more grown taken client lane below =
+pub bounded : (number most clients : ℕ) (lanes now : List Lane) (entries : List LogEntry) → IsFetched clients (map sent_for entries) → HaveSentMore lanes now → HaveAnswered lanes entries now → AreTakenOrHeldUpTo number (Some most) lanes entries now → AreBounded most lanes now
+bounded number most clients lanes now entries fetched sent_more grown taken client lane below =
     let l : Lane = get_or now client lane in
     let o : Lane = get_or lanes client l in
     let mine : List LogEntry = part_of client entries in

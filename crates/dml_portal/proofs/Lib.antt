@@ -13,3 +13,4 @@ pub mod HistoryLemmas
 pub mod WholeLemmas
 pub mod HeldLemmas
 pub mod RingLeftLemmas
+pub mod PartLemmas

@@ -7,9 +7,9 @@ use mathlib.Core.List.{IsPrefix}
 use Rattle.dml_portal.specs.Types.{Job, LogEntry}
 use Rattle.dml_portal.specs.Log.{jobs_in, part_of, sent_for}
 use Rattle.dml_portal.specs.Lanes.{AreTaken, IsTaken, waiting}
-use Rattle.dml_portal.specs.Held.{AreTakenOrHeld, IsTakenOrHeld}
+use Rattle.dml_portal.specs.Held.{AreTakenOrHeld, AreTakenOrHeldUpTo, IsTakenOrHeld}
 use Rattle.dml_portal.specs.Blank.{blank}
-use Rattle.dml_portal.specs.Served.{IsFetched}
+use Rattle.dml_portal.specs.Served.{IsFetchedUpTo}
 use Rattle.dml_portal.specs.declared.lanes.Lane.{Lane}
 use Rattle.dml_portal.proofs.Lists.{below_set}
 use Rattle.dml_portal.proofs.FetchLemmas.{part_none}
@@ -46,24 +46,24 @@ batch_fetched client number start now next log_start log log_next jobs_start job
     )
 
 -- the clients below a number had their turn, and the others' rings are as they were
-pub record TakenBelow (most : Option ℕ) (clients : ℕ) (lanes : List Lane) (entries : List LogEntry) (now : List Lane) : Type 0 where
+pub record TakenBelow (number : ℕ) (most : Option ℕ) (clients : ℕ) (lanes : List Lane) (entries : List LogEntry) (now : List Lane) : Type 0 where
   pub below :
       (client : ℕ) (lane : Lane) → client < clients
-      → IsTakenOrHeld most (get_or lanes client (get_or now client lane)) (get_or now client lane) (jobs_in (part_of client entries))
+      → IsTakenOrHeld number most (get_or lanes client (get_or now client lane)) (get_or now client lane) (jobs_in (part_of client entries))
   pub above : (client : ℕ) (lane : Lane) → clients ≤ client → get_or now client lane ≡ get_or lanes client lane
 
-pub taken_none : (most : Option ℕ) (lanes : List Lane) (entries : List LogEntry) → TakenBelow most 0 lanes entries lanes
-taken_none most lanes entries = record { below = λ client lane below. absurd (omega (arith, below)); above = λ client lane from. refl }
+pub taken_none : (number : ℕ) (most : Option ℕ) (lanes : List Lane) (entries : List LogEntry) → TakenBelow number most 0 lanes entries lanes
+taken_none number most lanes entries = record { below = λ client lane below. absurd (omega (arith, below)); above = λ client lane from. refl }
 
 -- one more client has its turn
-pub taken_more : (most : Option ℕ) (i : ℕ) (lanes now : List Lane) (entries : List LogEntry) (jobs : List Job) (lane after : Lane) → i < length now → length now ≡ length lanes → lane ≡ get_or now i lane → IsFetched i (map sent_for entries) → IsTakenOrHeld most lane after jobs → TakenBelow most i lanes entries now → TakenBelow most (i + 1) lanes (entries ++ map (blank i) jobs) (set now i after)
-taken_more most i lanes now entries jobs lane after within long is fetched taken before =
+pub taken_more : (number : ℕ) (most : Option ℕ) (i : ℕ) (lanes now : List Lane) (entries : List LogEntry) (jobs : List Job) (lane after : Lane) → i < length now → length now ≡ length lanes → lane ≡ get_or now i lane → IsFetchedUpTo number i (map sent_for entries) → IsTakenOrHeld number most lane after jobs → TakenBelow number most i lanes entries now → TakenBelow number most (i + 1) lanes (entries ++ map (blank i) jobs) (set now i after)
+taken_more number most i lanes now entries jobs lane after within long is fetched taken before =
     record {
-      below = below_set (λ client l. IsTakenOrHeld most (get_or lanes client l) l (jobs_in (part_of client (entries ++ map (blank i) jobs)))) now i after within
-          (subst (λ l. IsTakenOrHeld most l after (jobs_in (part_of i (entries ++ map (blank i) jobs)))) here
-          (subst (λ js. IsTakenOrHeld most lane after js) (sym mine) taken))
+      below = below_set (λ client l. IsTakenOrHeld number most (get_or lanes client l) l (jobs_in (part_of client (entries ++ map (blank i) jobs)))) now i after within
+          (subst (λ l. IsTakenOrHeld number most l after (jobs_in (part_of i (entries ++ map (blank i) jobs)))) here
+          (subst (λ js. IsTakenOrHeld number most lane after js) (sym mine) taken))
           (λ client d less.
-          subst (λ js. IsTakenOrHeld most (get_or lanes client (get_or now client d)) (get_or now client d) js)
+          subst (λ js. IsTakenOrHeld number most (get_or lanes client (get_or now client d)) (get_or now client d) js)
           (sym (jobs_theirs i client entries jobs (λ e. omega (arith, e, less)))) (before.below client d less));
       above = λ client d from.
           get_or-set_other now i client after d (λ e. omega (arith, e, from)) ∙ before.above client d (omega (arith, from));
@@ -78,8 +78,8 @@ taken_more most i lanes now entries jobs lane after within long is fetched taken
         ∙ ap (λ front. front ++ jobs)
         (jobs_part i entries ∙ ap (map (λ sent. sent.job)) (part_none i 0 i (map sent_for entries) (omega arith) fetched.order))
 
-pub taken_all : (most : Option ℕ) (lanes : List Lane) (entries : List LogEntry) (now : List Lane) (clients : ℕ) → length now ≤ clients → TakenBelow most clients lanes entries now → AreTakenOrHeld most lanes entries now
-taken_all most lanes entries now clients all taken client lane below = taken.below client lane (omega (arith, below, all))
+pub taken_all : (number : ℕ) (most : Option ℕ) (lanes : List Lane) (entries : List LogEntry) (now : List Lane) (clients : ℕ) → length now ≤ clients → TakenBelow number most clients lanes entries now → AreTakenOrHeldUpTo number most lanes entries now
+taken_all number most lanes entries now clients all taken client lane below = taken.below client lane (omega (arith, below, all))
 
 -- without a bound nobody is held back
 pub taken_unheld : (lanes : List Lane) (entries : List LogEntry) (now : List Lane) → AreTakenOrHeld None lanes entries now → AreTaken lanes entries now

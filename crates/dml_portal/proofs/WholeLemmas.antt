@@ -9,7 +9,8 @@ use Rattle.dml_portal.specs.Types.{Job, LogEntry, Record}
 use Rattle.dml_portal.specs.Log.{added, answers_in, jobs_in, part_of, sent_for}
 use Rattle.dml_portal.specs.Lanes.{EachLane, IsSeatOf}
 use Rattle.dml_portal.specs.Blocks.{AreBlocks}
-use Rattle.dml_portal.specs.Whole.{AreWhole, FitBlocks, HasPushed, HasRoom, HasSentMore, HaveAnswered, HaveBlocks, HaveGrown, HavePushed, HaveReceived, HaveSentMore, StayWhole, kept_by, late_of}
+use Rattle.dml_portal.specs.Whole.{AreWhole, HasPushed, HasRoom, HasSentMore, HaveAnswered, HaveGrown, HavePushed, HaveReceived, HaveSentMore, StayWhole, kept_by, late_of}
+use Rattle.dml_portal.specs.Parts.{ArePartly}
 use Rattle.dml_portal.specs.Seats.{polled}
 use Rattle.dml_portal.specs.Settled.{AreUnusedLanes, IsDrained, IsSettled}
 use Rattle.dml_portal.specs.Blank.{blank}
@@ -17,7 +18,7 @@ use Rattle.dml_portal.specs.declared.lanes.Lane.{Lane}
 use Rattle.dml_portal.specs.declared.seats.Done.{Done}
 use Rattle.dml_portal.proofs.Lists.{each_set}
 use Rattle.dml_portal.proofs.LogLemmas.{jobs_append, jobs_mine, jobs_part, jobs_theirs, part_append}
-use Rattle.dml_portal.proofs.BlockLemmas.{block_answers, block_fits}
+use Rattle.dml_portal.proofs.BlockLemmas.{block_answers}
 use Rattle.dml_portal.proofs.ServedLemmas.{added_is, whole_is}
 use Rattle.dml_portal.proofs.LookLemmas.{each_more, popped_unused}
 
@@ -183,13 +184,9 @@ pushed_again lanes i lane now within is records late before =
     before
 
 -- each client's block of a round's records is its part of the round's entries
-pub blocks_answered : (lanes now : List Lane) (log : List LogEntry) (start : ℕ) (records : List Record) → length now ≡ length lanes → answers_in (drop start log) ≡ records → AreBlocks lanes (drop start log) → HaveBlocks records lanes now → HaveAnswered lanes (drop start log) now
+pub blocks_answered : (lanes now : List Lane) (log : List LogEntry) (start : ℕ) (records : List Record) → length now ≡ length lanes → answers_in (drop start log) ≡ records → AreBlocks lanes (drop start log) → ArePartly records lanes now → HaveAnswered lanes (drop start log) now
 blocks_answered lanes now log start records long answers blocks have client lane below =
     let l : Lane = get_or now client lane in
     let old : Lane = get_or lanes client l in
-    have client lane below
+    (have client lane below).kept
     ∙ ap (λ xs. kept_by old ++ xs) (sym (block_answers log client old start records answers (blocks client l (omega (arith, below, long)))))
-
-pub blocks_fit : (lanes : List Lane) (log : List LogEntry) (start : ℕ) (records : List Record) → answers_in (drop start log) ≡ records → AreBlocks lanes (drop start log) → FitBlocks records lanes
-blocks_fit lanes log start records answers blocks client lane below =
-    block_fits log client (get_or lanes client lane) start records answers (blocks client lane below)

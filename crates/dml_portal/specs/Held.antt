@@ -4,7 +4,7 @@ use Rattle.std.specs.VecDeque.{deque_capacity, deque_len}
 use Rattle.rtrb.specs.Ring.{sent}
 use Rattle.dml_portal.specs.Types.{Job, LogEntry, Record}
 use Rattle.dml_portal.specs.Log.{jobs_in, part_of}
-use Rattle.dml_portal.specs.Lanes.{EachLane, IsTaken, waiting}
+use Rattle.dml_portal.specs.Lanes.{EachLane, IsTakenUpTo, waiting}
 use Rattle.dml_portal.specs.Whole.{kept_by, late_of, room_by}
 use Rattle.dml_portal.specs.declared.lanes.Lane.{Lane}
 
@@ -17,19 +17,23 @@ IsOver (Some most) number = most < number
 abbrev pub still_late : Lane → Lane → List Record
 still_late lane now = drop (length (sent now.records)) (kept_by lane)
 
--- a client's jobs are taken, or it is held back and none is: it may be held back where more records than the bound
--- waited before, and is where more of them wait still
-pub record IsTakenOrHeld (most : Option ℕ) (lane now : Lane) (taken : List Job) : Type 0 where
-  pub either : IsTaken (waiting lane) taken (waiting now) ⊎ ((taken ≡ []) × (waiting now ≡ waiting lane))
-  pub few : (IsOver most (length (late_of lane)) → ⊥) → IsTaken (waiting lane) taken (waiting now)
+-- at most so many of a client's jobs are taken, or it is held back and none is: it may be held back where more records
+-- than the bound waited before, and is where more of them wait still
+pub record IsTakenOrHeld (number : ℕ) (most : Option ℕ) (lane now : Lane) (taken : List Job) : Type 0 where
+  pub either : IsTakenUpTo number (waiting lane) taken (waiting now) ⊎ ((taken ≡ []) × (waiting now ≡ waiting lane))
+  pub few : (IsOver most (length (late_of lane)) → ⊥) → IsTakenUpTo number (waiting lane) taken (waiting now)
   pub many : IsOver most (length (still_late lane now)) → taken ≡ []
 
 -- of each client with the jobs of its part of these entries
-abbrev pub AreTakenOrHeld : Option ℕ → List Lane → List LogEntry → List Lane → Type 0
-AreTakenOrHeld most lanes entries now =
+abbrev pub AreTakenOrHeldUpTo : ℕ → Option ℕ → List Lane → List LogEntry → List Lane → Type 0
+AreTakenOrHeldUpTo number most lanes entries now =
     EachLane
-    (λ client lane. IsTakenOrHeld most (slice_index_or lanes client lane) lane (jobs_in (part_of client entries)))
+    (λ client lane. IsTakenOrHeld number most (slice_index_or lanes client lane) lane (jobs_in (part_of client entries)))
     now
+
+-- 128 of each
+abbrev pub AreTakenOrHeld : Option ℕ → List Lane → List LogEntry → List Lane → Type 0
+AreTakenOrHeld most lanes entries now = AreTakenOrHeldUpTo 128 most lanes entries now
 
 -- with each client wait at most as many records as before, or, where that is more, the bound and those of one round
 abbrev pub AreBounded : ℕ → List Lane → List Lane → Type 0

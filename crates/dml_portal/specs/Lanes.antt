@@ -40,10 +40,14 @@ AreAnswered lanes log = EachLane (IsAnswered log) lanes
 abbrev pub waiting : Lane → List Job
 waiting lane = known_items lane.jobs
 
--- first the jobs that were known to wait are taken, and 128 in all, or until none is known to wait
-pub record IsTaken (known taken left : List Job) : Type 0 where
+-- first the jobs that were known to wait are taken, and so many in all, or until none is known to wait
+pub record IsTakenUpTo (number : ℕ) (known taken left : List Job) : Type 0 where
   pub first : IsPrefix known (taken ++ left)
-  pub most : (length taken ≡ 128) ⊎ (left ≡ [])
+  pub most : (length taken ≡ number) ⊎ (left ≡ [])
+
+-- 128 in all, or until none is known to wait
+abbrev pub IsTaken : List Job → List Job → List Job → Type 0
+IsTaken known taken left = IsTakenUpTo 128 known taken left
 
 -- of each client the jobs of its part of these entries were taken
 abbrev pub AreTaken : List Lane → List LogEntry → List Lane → Type 0

@@ -4,6 +4,7 @@ pub mod Seats
 pub mod Lanes
 pub mod Whole
 pub mod Held
+pub mod Parts
 pub mod Blank
 pub mod Blocks
 pub mod Served

@@ -12,10 +12,14 @@ AreInOrder clients low [] = Unit {0}
 AreInOrder clients low (sent ∷ list) =
     (low ≤ sent.client) × (sent.client < clients) × AreInOrder clients sent.client list
 
--- what one round fetches: clients in order of their numbers, and at most 128 jobs of each
-pub record IsFetched (clients : ℕ) (list : List Sent) : Type 0 where
+-- what one round fetches: clients in order of their numbers, and at most so many jobs of each
+pub record IsFetchedUpTo (number clients : ℕ) (list : List Sent) : Type 0 where
   pub order : AreInOrder clients 0 list
-  pub few : (client : ℕ) → length (filter (λ sent. nat_eq sent.client client) list) ≤ 128
+  pub few : (client : ℕ) → length (filter (λ sent. nat_eq sent.client client) list) ≤ number
+
+-- at most 128 jobs of each
+abbrev pub IsFetched : ℕ → List Sent → Type 0
+IsFetched clients list = IsFetchedUpTo 128 clients list
 
 -- the steps of one round lead from a new world over the image before to the image after, with these entries
 -- fetched and answered

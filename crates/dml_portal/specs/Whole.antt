@@ -64,18 +64,6 @@ HasSentMore lane now = length (sent lane.records) ≤ length (sent now.records)
 abbrev pub HaveSentMore : List Lane → List Lane → Type 0
 HaveSentMore lanes now = EachLane (λ client lane. HasSentMore (slice_index_or lanes client lane) lane) now
 
--- each client's block of a round's records, which stands where its lane says, is pushed or waits
-abbrev pub HaveBlocks : List Record → List Lane → List Lane → Type 0
-HaveBlocks records lanes now =
-    EachLane
-    (λ client lane.
-    let old = slice_index_or lanes client lane in
-    kept_by lane ≡ kept_by old ++ take old.fetched (drop old.before records))
-    now
-
-abbrev pub FitBlocks : List Record → List Lane → Type 0
-FitBlocks records lanes = EachLane (λ _ lane. lane.before + lane.fetched ≤ length records) lanes
-
 -- there is room for the records of the jobs that were fetched, beside those that wait
 abbrev pub HasRoom : Lane → Type 0
 HasRoom lane = deque_len lane.late + lane.fetched ≤ deque_capacity lane.late

@@ -18,12 +18,22 @@ pub(crate) fn answer_round(log: &mut Vec<LogEntry>, start: usize, records: &[Rec
     set_answers(log.as_mut_slice(), start, records);
 }
 
+/// Gives as many entries of a log from `start` on their records.
+pub(crate) fn answer_part(log: &mut Vec<LogEntry>, start: usize, records: &[Record])
+    requires { start + length records.now ≤ length log.old.items }
+    ensures sent { map sent_for log.new.items ≡ map sent_for log.old.items }
+    ensures earlier { take start log.new.items ≡ take start log.old.items }
+    ensures answers { answers_in (take (length records.now) (drop start log.new.items)) ≡ records.now }
+{
+    set_answers(log.as_mut_slice(), start, records);
+}
+
 /// The same of a slice.
 fn set_answers(log: &mut [LogEntry], start: usize, records: &[Record])
-    requires { length log.old ≡ start + length records.now }
+    requires { start + length records.now ≤ length log.old }
     ensures sent { map sent_for log.new ≡ map sent_for log.old }
     ensures earlier { take start log.new ≡ take start log.old }
-    ensures answers { answers_in (drop start log.new) ≡ records.now }
+    ensures answers { answers_in (take (length records.now) (drop start log.new)) ≡ records.now }
 {
     for i in 0..records.len() {
         log[start + i].answer = records[i];

@@ -3,10 +3,10 @@ ghost use Rattle.std.specs.Prelude.{◌≡◌, ◌+◌, ◌*◌, ◌<◌, ◌≤
 ghost use Rattle.rtrb.specs.Ring.{received};
 ghost use Rattle.dml_portal.specs.Types.{Job as Jobs, LogEntry as Entries};
 ghost use Rattle.dml_portal.specs.Log.{jobs_in, sent_for};
-ghost use Rattle.dml_portal.specs.Lanes.{ArePopped, ArePushed, AreSameLanes, EachLane, IsSameLane, IsTaken, waiting};
-ghost use Rattle.dml_portal.specs.Held.{AreTakenOrHeld, HasRoomOrIsHeld, HaveRoomOrAreHeld, IsOver, IsTakenOrHeld};
+ghost use Rattle.dml_portal.specs.Lanes.{ArePopped, ArePushed, AreSameLanes, EachLane, IsSameLane, IsTakenUpTo, waiting};
+ghost use Rattle.dml_portal.specs.Held.{AreTakenOrHeldUpTo, HasRoomOrIsHeld, HaveRoomOrAreHeld, IsOver, IsTakenOrHeld};
 ghost use Rattle.dml_portal.specs.Whole.{HasRoom, HaveReceived, HaveRoom, HaveSentMore, kept_by, late_of, room_by};
-ghost use Rattle.dml_portal.specs.Served.{IsFetched};
+ghost use Rattle.dml_portal.specs.Served.{IsFetchedUpTo};
 ghost use Rattle.dml_portal.specs.Blank as word;
 ghost use Rattle.dml_portal.specs.Blocks.{AreBlocks};
 
@@ -56,11 +56,19 @@ fn add_batch(client: u32, batch: &[Job], log: &mut Vec<LogEntry>, jobs: &mut Vec
     }
 }
 
-/// Fetches jobs of one client, into the log with a record that stands for their own, and into the list of jobs.
-fn fetch_batches(client: u32, lane: &mut Lane, log: &mut Vec<LogEntry>, jobs: &mut Vec<Job>)
+/// Fetches at most so many jobs of one client, into the log with a record that stands for their own, and into the list
+/// of jobs.
+fn fetch_batches(
+    client: u32,
+    lane: &mut Lane,
+    number: usize,
+    log: &mut Vec<LogEntry>,
+    jobs: &mut Vec<Job>,
+)
+    requires number { number ≤ 128 }
     requires log_room { length log.old.items + 128 ≤ vec_capacity log.old }
     requires jobs_room { length jobs.old.items + 128 ≤ vec_capacity jobs.old }
-    ensures fetched { (fetched : List Jobs) × (received lane.new.jobs ≡ received lane.old.jobs ++ fetched) × (log.new.items ≡ log.old.items ++ map (word.blank client) fetched) × (jobs.new.items ≡ jobs.old.items ++ fetched) × (length fetched ≤ 128) × IsTaken (waiting lane.old) fetched (waiting lane.new) }
+    ensures fetched { (fetched : List Jobs) × (received lane.new.jobs ≡ received lane.old.jobs ++ fetched) × (log.new.items ≡ log.old.items ++ map (word.blank client) fetched) × (jobs.new.items ≡ jobs.old.items ++ fetched) × (length fetched ≤ number) × IsTakenUpTo number (waiting lane.old) fetched (waiting lane.new) }
     ensures answered { lane.new.answered ≡ lane.old.answered }
     ensures late { lane.new.late ≡ lane.old.late }
     ensures records { lane.new.records ≡ lane.old.records }
@@ -73,13 +81,16 @@ fn fetch_batches(client: u32, lane: &mut Lane, log: &mut Vec<LogEntry>, jobs: &m
     lane.before = jobs.len();
     lane.fetched = 0;
     let mut batch = [Job::no_op(); BATCH];
-    for _ in 0..MOST_OF_A_CLIENT / BATCH {
-        let count = lane.jobs.pop_partial_slice(&mut batch);
+    let mut left = number;
+    while left > 0 {
+        let most = left.min(BATCH);
+        let count = lane.jobs.pop_partial_slice(&mut batch[..most]);
         add_batch(client, &batch[..count], log, jobs);
         lane.fetched += count;
-        if count < BATCH {
+        if count < most {
             return;
         }
+        left -= count;
     }
 }
 
@@ -93,17 +104,19 @@ pub(crate) fn is_held_back(lane: &Lane, most: Option<usize>) -> bool
     }
 }
 
-/// Fetches jobs of one client, if it is not held back.
+/// Fetches at most so many jobs of one client, if it is not held back.
 fn fetch_client(
     client: u32,
     lane: &mut Lane,
+    number: usize,
     most: Option<usize>,
     log: &mut Vec<LogEntry>,
     jobs: &mut Vec<Job>,
 )
+    requires number { number ≤ 128 }
     requires log_room { length log.old.items + 128 ≤ vec_capacity log.old }
     requires jobs_room { length jobs.old.items + 128 ≤ vec_capacity jobs.old }
-    ensures fetched { (fetched : List Jobs) × (received lane.new.jobs ≡ received lane.old.jobs ++ fetched) × (log.new.items ≡ log.old.items ++ map (word.blank client) fetched) × (jobs.new.items ≡ jobs.old.items ++ fetched) × (length fetched ≤ 128) × IsTakenOrHeld most lane.old lane.new fetched }
+    ensures fetched { (fetched : List Jobs) × (received lane.new.jobs ≡ received lane.old.jobs ++ fetched) × (log.new.items ≡ log.old.items ++ map (word.blank client) fetched) × (jobs.new.items ≡ jobs.old.items ++ fetched) × (length fetched ≤ number) × IsTakenOrHeld number most lane.old lane.new fetched }
     ensures answered { lane.new.answered ≡ lane.old.answered }
     ensures late { lane.new.late ≡ lane.old.late }
     ensures records { lane.new.records ≡ lane.old.records }
@@ -119,21 +132,23 @@ fn fetch_client(
         lane.fetched = 0;
         return;
     }
-    fetch_batches(client, lane, log, jobs);
+    fetch_batches(client, lane, number, log, jobs);
 }
 
-/// Fetches jobs of each client that is not held back.
+/// Fetches at most so many jobs of each client that is not held back.
 pub(crate) fn fetch_round(
     lanes: &mut Vec<Lane>,
+    number: usize,
     most: Option<usize>,
     log: &mut Vec<LogEntry>,
     jobs: &mut Vec<Job>,
 )
     requires clients { length lanes.old.items ≤ 8 }
+    requires number { number ≤ 128 }
     requires empty { jobs.old.items ≡ [] }
     requires log_room { length log.old.items + 128 * length lanes.old.items ≤ vec_capacity log.old }
     requires jobs_room { 128 * length lanes.old.items ≤ vec_capacity jobs.old }
-    ensures fetched { (entries : List Entries) × (log.new.items ≡ log.old.items ++ entries) × (jobs.new.items ≡ jobs_in entries) × (length entries ≤ 128 * length lanes.old.items) × IsFetched (length lanes.old.items) (map sent_for entries) × AreTakenOrHeld most lanes.old.items entries lanes.new.items × AreBlocks lanes.new.items entries × HaveReceived lanes.old.items entries lanes.new.items }
+    ensures fetched { (entries : List Entries) × (log.new.items ≡ log.old.items ++ entries) × (jobs.new.items ≡ jobs_in entries) × (length entries ≤ 128 * length lanes.old.items) × IsFetchedUpTo number (length lanes.old.items) (map sent_for entries) × AreTakenOrHeldUpTo number most lanes.old.items entries lanes.new.items × AreBlocks lanes.new.items entries × HaveReceived lanes.old.items entries lanes.new.items }
     ensures popped { ArePopped lanes.old.items log.old.items → ArePopped lanes.new.items log.new.items }
     ensures pushed { ArePushed lanes.old.items log.old.items → ArePushed lanes.new.items log.old.items }
     ensures kept { map kept_by lanes.new.items ≡ map kept_by lanes.old.items }
@@ -143,6 +158,6 @@ pub(crate) fn fetch_round(
     ensures same { AreSameLanes lanes.old.items lanes.new.items }
 {
     for client in 0..lanes.len() {
-        fetch_client(client as u32, &mut lanes[client], most, log, jobs);
+        fetch_client(client as u32, &mut lanes[client], number, most, log, jobs);
     }
 }

@@ -3,8 +3,9 @@ ghost use Rattle.std.specs.Prelude.{◌≡◌, ℕ, ◌+◌, ◌≤◌, [], ◌+
 ghost use Rattle.dml_portal.specs.Lanes.{ArePushed, AreSameLanes, IsPushed, IsSameLane, waiting};
 ghost use Rattle.dml_portal.specs.Settled.{AreUnusedLanes, IsUnusedLane};
 ghost use Rattle.std.specs.VecDeque.{deque_capacity, deque_len};
+ghost use Rattle.dml_portal.specs.Parts.{ArePartly, IsPartly};
 ghost use Rattle.dml_portal.specs.Held.{HasRoomOrIsHeld, HasRoomWithin, HaveRoomOrAreHeld, HaveRoomWithin};
-ghost use Rattle.dml_portal.specs.Whole.{AreKept, FitBlocks, HasPushed, HasRoom, HasSentMore, HaveBlocks, HavePushed, HaveRoom, HaveSentMore, IsKept, kept_by, late_of, received_by, room_by};
+ghost use Rattle.dml_portal.specs.Whole.{AreKept, HasPushed, HasRoom, HasSentMore, HavePushed, HaveRoom, HaveSentMore, IsKept, kept_by, late_of, received_by, room_by};
 
 use crate::fetching::{MOST_OF_A_CLIENT, is_held_back};
 use crate::lanes::Lane;
@@ -146,6 +147,9 @@ pub(crate) fn push_all_late(lanes: &mut Vec<Lane>)
 fn add_late(lane: &mut Lane, block: &[Record])
     requires { deque_len lane.old.late + length block.now ≤ deque_capacity lane.old.late }
     ensures late { late_of lane.new ≡ late_of lane.old ++ block.now }
+    ensures number { deque_len lane.new.late ≡ deque_len lane.old.late + length block.now }
+    ensures before { lane.new.before ≡ lane.old.before }
+    ensures fetched { lane.new.fetched ≡ lane.old.fetched }
     ensures jobs { lane.new.jobs ≡ lane.old.jobs }
     ensures records { lane.new.records ≡ lane.old.records }
     ensures late_room { room_by lane.new ≡ room_by lane.old }
@@ -156,17 +160,21 @@ fn add_late(lane: &mut Lane, block: &[Record])
     }
 }
 
-/// Pushes to a client all its records of a round, if no earlier one waits and there is room; else they wait.
+/// Pushes to a client all its records of a part of a round, if no earlier one waits and there is room; else they wait.
 fn push_or_keep(lane: &mut Lane, records: &[Record])
-    requires fits { lane.old.before + lane.old.fetched ≤ length records.now }
-    requires room { HasRoom lane.old }
-    ensures kept { kept_by lane.new ≡ kept_by lane.old ++ take lane.old.fetched (drop lane.old.before records.now) }
+    requires { HasRoom lane.old }
+    ensures partly { IsPartly records.now lane.old lane.new }
+    ensures room { HasRoom lane.new }
     ensures sent { HasSentMore lane.old lane.new }
     ensures jobs { lane.new.jobs ≡ lane.old.jobs }
     ensures late_room { room_by lane.new ≡ room_by lane.old }
     ensures same { IsSameLane lane.old lane.new }
 {
-    let block = &records[lane.before..lane.before + lane.fetched];
+    let start = lane.before.min(records.len());
+    let end = start + lane.fetched.min(records.len() - start);
+    let block = &records[start..end];
+    lane.before -= start;
+    lane.fetched -= block.len();
     if lane.late.is_empty() && lane.records.push_entire_slice(block).is_ok() {
         return;
     }
@@ -176,9 +184,9 @@ fn push_or_keep(lane: &mut Lane, records: &[Record])
 /// The same to each client.
 pub(crate) fn push_or_keep_all(lanes: &mut Vec<Lane>, records: &[Record])
     requires clients { length lanes.old.items ≤ 8 }
-    requires fit { FitBlocks records.now lanes.old.items }
     requires room { HaveRoom lanes.old.items }
-    ensures blocks { HaveBlocks records.now lanes.old.items lanes.new.items }
+    ensures blocks { ArePartly records.now lanes.old.items lanes.new.items }
+    ensures room { HaveRoom lanes.new.items }
     ensures sent { HaveSentMore lanes.old.items lanes.new.items }
     ensures received { map received_by lanes.new.items ≡ map received_by lanes.old.items }
     ensures waiting { map waiting lanes.new.items ≡ map waiting lanes.old.items }

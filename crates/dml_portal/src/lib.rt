@@ -3,6 +3,7 @@
 #![tactic(auto)]
 
 mod answering;
+mod carrying;
 mod ending;
 mod errors;
 mod fetching;
@@ -16,6 +17,7 @@ mod long_images;
 mod long_settling;
 mod looking;
 mod opening;
+mod parts;
 mod rooms;
 mod seats;
 mod servers;

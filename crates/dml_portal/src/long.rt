@@ -5,17 +5,15 @@ ghost use Rattle.dml_portal.specs.Lanes.{AreSameLanes, waiting};
 ghost use Rattle.dml_portal.specs.Held.{HaveRoomOrAreHeld, HaveRoomWithin};
 ghost use Rattle.dml_portal.specs.Whole.{HavePushed, HaveSentMore, kept_by, received_by, room_by};
 
-use crate::answering::answer_round;
 use crate::errors::PortalError;
 use crate::fetching::{MOST_OF_A_CLIENT, fetch_round, is_held_back};
 use crate::lanes::Lane;
-use crate::lates::{make_late, push_all_late, push_or_keep_all};
+use crate::lates::{make_late, push_all_late};
 use crate::logs::LogEntry;
 use crate::rooms::Room;
 use dml_core::law_of_rounds;
 use dml_engine::EngineOver;
 use dml_pool::{Free, Gate};
-use dml_types::law_of_folds;
 use std::alloc::{AllocError, Global};
 use std::sync::Wait;
 use std::thread::Threads;
@@ -93,18 +91,18 @@ impl<G> LongServerOver<'_, G> {
 }
 
 impl<G: Gate + Sync> LongServerOver<'_, G> {
-    ghost use Rattle.std.specs.Prelude.{IfErr, OnErr, take};
+    ghost use Rattle.std.specs.Prelude.{IfErr, OnErr, min, take};
     ghost use Rattle.dml_types.specs.Step.{memory_after, records_of};
     ghost use Rattle.dml_portal.specs.Log.{added, answers_in, jobs_in, sent_for};
-    ghost use Rattle.dml_portal.specs.Served.{IsFetched, RoundHasServed};
+    ghost use Rattle.dml_portal.specs.Served.{IsFetched, IsFetchedUpTo, RoundHasServed};
     ghost use Rattle.dml_portal.specs.Whole.{HaveAnswered, HaveReceived, StayWhole};
-    ghost use Rattle.dml_portal.specs.Held.{AreBounded, AreTakenOrHeld};
+    ghost use Rattle.dml_portal.specs.Held.{AreBounded, AreTakenOrHeld, AreTakenOrHeldUpTo};
     ghost use Rattle.dml_portal.specs.LongServers.{clients_of, image_of, lanes_of, log_of, most_of, settings_of};
 
     /// Serves a round: fetches at most 128 jobs of each client that is not held back, clients in order of their
-    /// numbers, carries them out as one list, and answers how many they are. Before and after, records are pushed to
-    /// the clients as far as their rings have room; the others wait with the client, and more than the server's bound
-    /// hold it back.
+    /// numbers, carries them out as one list, and answers how many they are. The list is carried out in parts of at most
+    /// 8 MiB of transfers, or of one job. Before the first and behind each, records are pushed to the clients as far as
+    /// their rings have room; the others wait with the client, and more than the server's bound hold it back.
     ///
     /// # Errors
     /// `NoMemory` where there is no room for a whole round; then nothing was fetched. Records that waited may have been
@@ -136,21 +134,61 @@ impl<G: Gate + Sync> LongServerOver<'_, G> {
         ensures bound { most_of self.new ≡ most_of self.old }
         ensures same { AreSameLanes (lanes_of self.old) (lanes_of self.new) }
     {
-        self.serve_up_to(rt, alloc, Some(self.most))
+        self.serve_up_to(rt, alloc, MOST_OF_A_CLIENT, Some(self.most))
     }
 
-    /// Serves a round that holds those clients back for whom more records wait than so many, if a number is given.
+    /// Serves a round that is held short: as `serve_round`, but it fetches at most so many jobs of each client, and 128
+    /// where more are asked for.
+    ///
+    /// # Errors
+    /// `NoMemory` where there is no room for a whole round, of 128 jobs a client; then nothing was fetched. Records that
+    /// waited may have been pushed to the clients.
+    pub fn serve_some<R: Threads + Wait + Sync>(
+        &mut self,
+        rt: &R,
+        alloc: Global,
+        jobs: usize,
+    ) -> Result<usize, PortalError>
+        ensures earlier { take (length (log_of self.old)) (log_of self.new) ≡ log_of self.old }
+        ensures number { IfOk result (λ number. number ≡ length (added (log_of self.old) (log_of self.new))) }
+        ensures most { length (added (log_of self.old) (log_of self.new)) ≤ 128 * clients_of self.old }
+        ensures fetched { IsFetchedUpTo (min jobs 128) (clients_of self.old) (map sent_for (added (log_of self.old) (log_of self.new))) }
+        ensures taken { OnOk result (AreTakenOrHeldUpTo (min jobs 128) (Some (most_of self.old)) (lanes_of self.old) (added (log_of self.old) (log_of self.new)) (lanes_of self.new)) }
+        ensures image { image_of self.new
+            ≡ memory_after (image_of self.old) (jobs_in (added (log_of self.old) (log_of self.new))) (settings_of self.old).staging }
+        ensures answers { answers_in (added (log_of self.old) (log_of self.new))
+            ≡ records_of (image_of self.old) (jobs_in (added (log_of self.old) (log_of self.new))) (settings_of self.old).staging }
+        ensures steps { RoundHasServed (settings_of self.old) (clients_of self.old) (image_of self.old) (image_of self.new) (added (log_of self.old) (log_of self.new)) }
+        ensures received { HaveReceived (lanes_of self.old) (added (log_of self.old) (log_of self.new)) (lanes_of self.new) }
+        ensures answered { HaveAnswered (lanes_of self.old) (added (log_of self.old) (log_of self.new)) (lanes_of self.new) }
+        ensures pushed { HavePushed (lanes_of self.new) }
+        ensures bounded { AreBounded (most_of self.old) (lanes_of self.old) (lanes_of self.new) }
+        ensures late_room { HaveRoomWithin (most_of self.old) (lanes_of self.old) (lanes_of self.new) }
+        ensures whole { StayWhole (lanes_of self.old) (log_of self.old) (lanes_of self.new) (log_of self.new) }
+        ensures no_memory { IfErr result (λ error. error ≡ PortalError.NoMemory) }
+        ensures nothing_fetched { OnErr result (log_of self.new ≡ log_of self.old) }
+        ensures settings { settings_of self.new ≡ settings_of self.old }
+        ensures bound { most_of self.new ≡ most_of self.old }
+        ensures same { AreSameLanes (lanes_of self.old) (lanes_of self.new) }
+    {
+        self.serve_up_to(rt, alloc, jobs.min(MOST_OF_A_CLIENT), Some(self.most))
+    }
+
+    /// Serves a round that fetches at most so many jobs of each client, and holds those clients back for whom more
+    /// records wait than `most`, if it is given.
     pub(crate) fn serve_up_to<R: Threads + Wait + Sync>(
         &mut self,
         rt: &R,
         alloc: Global,
+        number: usize,
         most: Option<usize>,
     ) -> Result<usize, PortalError>
+        requires number { number ≤ 128 }
         ensures earlier { take (length self.old.log.items) self.new.log.items ≡ self.old.log.items }
         ensures number { IfOk result (λ number. number ≡ length (added self.old.log.items self.new.log.items)) }
         ensures most { length (added self.old.log.items self.new.log.items) ≤ 128 * length self.old.lanes.items }
-        ensures fetched { IsFetched (length self.old.lanes.items) (map sent_for (added self.old.log.items self.new.log.items)) }
-        ensures taken { OnOk result (AreTakenOrHeld most self.old.lanes.items (added self.old.log.items self.new.log.items) self.new.lanes.items) }
+        ensures fetched { IsFetchedUpTo number (length self.old.lanes.items) (map sent_for (added self.old.log.items self.new.log.items)) }
+        ensures taken { OnOk result (AreTakenOrHeldUpTo number most self.old.lanes.items (added self.old.log.items self.new.log.items) self.new.lanes.items) }
         ensures image { self.new.engine.image
             ≡ memory_after self.old.engine.image (jobs_in (added self.old.log.items self.new.log.items)) self.old.engine.settings.staging }
         ensures answers { answers_in (added self.old.log.items self.new.log.items)
@@ -175,8 +213,8 @@ impl<G: Gate + Sync> LongServerOver<'_, G> {
         let Ok(()) = make_room(&mut self.room, log, lanes, jobs, most) else {
             return Err(PortalError::NoMemory);
         };
-        let number = self.serve_in_room(rt, alloc, most);
-        Ok(number)
+        let fetched = self.serve_in_room(rt, alloc, number, most);
+        Ok(fetched)
     }
 
     /// Serves such a round for which there is room, and answers how many jobs it fetched.
@@ -184,8 +222,10 @@ impl<G: Gate + Sync> LongServerOver<'_, G> {
         &mut self,
         rt: &R,
         alloc: Global,
+        number: usize,
         most: Option<usize>,
     ) -> usize
+        requires number { number ≤ 128 }
         requires log_room { length self.old.log.items + 128 * length self.old.lanes.items ≤ vec_capacity self.old.log }
         requires empty { (self.old.room.jobs.items ≡ []) × (self.old.room.records.items ≡ []) }
         requires jobs_room { 128 * length self.old.lanes.items ≤ vec_capacity self.old.room.jobs }
@@ -194,8 +234,8 @@ impl<G: Gate + Sync> LongServerOver<'_, G> {
         ensures earlier { take (length self.old.log.items) self.new.log.items ≡ self.old.log.items }
         ensures number { result ≡ length (added self.old.log.items self.new.log.items) }
         ensures most { length (added self.old.log.items self.new.log.items) ≤ 128 * length self.old.lanes.items }
-        ensures fetched { IsFetched (length self.old.lanes.items) (map sent_for (added self.old.log.items self.new.log.items)) }
-        ensures taken { AreTakenOrHeld most self.old.lanes.items (added self.old.log.items self.new.log.items) self.new.lanes.items }
+        ensures fetched { IsFetchedUpTo number (length self.old.lanes.items) (map sent_for (added self.old.log.items self.new.log.items)) }
+        ensures taken { AreTakenOrHeldUpTo number most self.old.lanes.items (added self.old.log.items self.new.log.items) self.new.lanes.items }
         ensures image { self.new.engine.image
             ≡ memory_after self.old.engine.image (jobs_in (added self.old.log.items self.new.log.items)) self.old.engine.settings.staging }
         ensures answers { answers_in (added self.old.log.items self.new.log.items)
@@ -211,14 +251,11 @@ impl<G: Gate + Sync> LongServerOver<'_, G> {
         ensures same { AreSameLanes self.old.lanes.items self.new.lanes.items }
     {
         law_of_rounds();
-        law_of_folds();
         self.law_of_image();
         let start = self.log.len();
-        fetch_round(&mut self.lanes, most, &mut self.log, &mut self.room.jobs);
-        self.engine.submit_into(rt, alloc, self.room.jobs.as_slice(), &mut self.room.records);
-        let records = self.room.records.as_slice();
-        answer_round(&mut self.log, start, records);
-        push_or_keep_all(&mut self.lanes, records);
+        let (log, jobs) = (&mut self.log, &mut self.room.jobs);
+        fetch_round(&mut self.lanes, number, most, log, jobs);
+        self.carry_out(rt, alloc, start);
         push_all_late(&mut self.lanes);
         self.room.jobs.len()
     }

@@ -2,6 +2,7 @@
 ghost use Rattle.std.specs.Prelude.{◌≡◌};
 
 use crate::errors::{PortalError, SettleFault};
+use crate::fetching::MOST_OF_A_CLIENT;
 use crate::logs::Log;
 use crate::long::LongServerOver;
 use crate::looking::{are_drained, have_finished};
@@ -96,7 +97,7 @@ impl<G: Gate + Sync> LongServerOver<'_, G> {
         law_of_folds();
         self.law_of_image();
         while !self.is_drained(dones) {
-            self.serve_up_to(rt, alloc, None)?;
+            self.serve_up_to(rt, alloc, MOST_OF_A_CLIENT, None)?;
         }
         Ok(())
     }

@@ -140,7 +140,8 @@ impl<G: Gate + Sync> ServerOver<'_, G> {
         law_of_folds();
         self.law_of_image();
         let start = self.log.len();
-        fetch_round(&mut self.lanes, None, &mut self.log, &mut self.room.jobs);
+        let (log, jobs) = (&mut self.log, &mut self.room.jobs);
+        fetch_round(&mut self.lanes, MOST_OF_A_CLIENT, None, log, jobs);
         self.engine.submit_into(rt, alloc, self.room.jobs.as_slice(), &mut self.room.records);
         let records = self.room.records.as_slice();
         answer_round(&mut self.log, start, records);

@@ -6,7 +6,7 @@ use Rattle.rtrb.specs.Ring.{sent}
 use Rattle.dml_portal.specs.Types.{LogEntry}
 use Rattle.dml_portal.specs.Log.{jobs_in, sent_for}
 use Rattle.dml_portal.specs.Lanes.{ArePopped}
-use Rattle.dml_portal.specs.Served.{IsFetched}
+use Rattle.dml_portal.specs.Served.{IsFetchedUpTo}
 use Rattle.dml_portal.specs.Blank.{blank}
 use Rattle.dml_portal.specs.Blocks.{IsBlock}
 use Rattle.dml_portal.specs.Held.{HasRoomOrIsHeld}
@@ -32,7 +32,7 @@ loop-client-init c =
         c.requires.empty,
         omega arith,
         record { order = tt; few = λ client. omega arith },
-        taken_none c.args.most lanes [],
+        taken_none c.args.number c.args.most lanes [],
         (λ client lane below. absurd (omega (arith, below))),
         grown_none received_by (λ client. []) lanes lanes (λ client. refl) refl refl,
       );
@@ -68,9 +68,9 @@ loop-client-preserved c =
         done.fetched.3
             ∙ (ap (λ list. list ++ jobs) before.fetched.2
             ∙ sym (jobs_append entries more ∙ ap (λ list. jobs_in entries ++ list) (jobs_blank i jobs))),
-        omega (arith, length-append entries more, length-map jobs (blank i), done.fetched.4, before.fetched.3),
-        fetched_more i entries jobs done.fetched.4 before.fetched.4,
-        taken_more c.args.most i start lanes entries jobs lane now within before.same.0 is before.fetched.4 done.fetched.5 before.fetched.5,
+        omega (arith, length-append entries more, length-map jobs (blank i), done.fetched.4, before.fetched.3, c.requires.number),
+        fetched_more c.args.number i entries jobs done.fetched.4 before.fetched.4,
+        taken_more c.args.number c.args.most i start lanes entries jobs lane now within before.same.0 is before.fetched.4 done.fetched.5 before.fetched.5,
         below_set (IsBlock (entries ++ more)) lanes i now within
             (block_mine i entries jobs now before.fetched.4.order
             (omega (arith, done.before, ap length before.fetched.2, length-map entries (λ (entry : LogEntry). entry.job)))
@@ -103,8 +103,8 @@ returns-clause-fetched c =
       left.1,
       left.2,
       subst (λ n. length left.0 ≤ 128 * n) (sym all) left.3,
-      subst (λ n. IsFetched n (map sent_for left.0)) (sym all) left.4,
-      taken_all c.args.most c.args.lanes.now.items left.0 c.loop-client.lanes.items c.loop-client.client (omega (arith, all, long)) left.5,
+      subst (λ n. IsFetchedUpTo c.args.number n (map sent_for left.0)) (sym all) left.4,
+      taken_all c.args.number c.args.most c.args.lanes.now.items left.0 c.loop-client.lanes.items c.loop-client.client (omega (arith, all, long)) left.5,
       λ client lane below. left.6 client lane (omega (arith, below, all, long)),
       left.7,
     )

@@ -3,7 +3,7 @@ use Rattle.std.specs.Prelude.{vec_capacity}
 use Rattle.dml_portal.specs.Types.{LogEntry}
 use Rattle.dml_portal.specs.Log.{jobs_in, sent_for}
 use Rattle.dml_portal.specs.Lanes.{ArePopped, ArePushed, AreSameLanes}
-use Rattle.dml_portal.specs.Served.{IsFetched}
+use Rattle.dml_portal.specs.Served.{IsFetchedUpTo}
 use Rattle.dml_portal.specs.Blocks.{IsBlock}
 use Rattle.dml_portal.specs.Held.{HaveRoomOrAreHeld}
 use Rattle.dml_portal.specs.Whole.{HasRoom, HaveReceived, HaveSentMore, kept_by, room_by}
@@ -21,8 +21,8 @@ invariant-loop-client l =
           × (l.log.items ≡ l.initial.log.items ++ entries)
           × (l.jobs.items ≡ jobs_in entries)
           × (length entries ≤ 128 * l.client)
-          × IsFetched l.client (map sent_for entries)
-          × TakenBelow l.most l.client start entries now
+          × IsFetchedUpTo l.number l.client (map sent_for entries)
+          × TakenBelow l.number l.most l.client start entries now
           × ((client : ℕ) (lane : Lane) → client < l.client → IsBlock entries client (get_or now client lane))
           × HaveReceived start entries now;
       popped : ArePopped start l.initial.log.items → ArePopped now l.log.items;

@@ -1,6 +1,7 @@
-use Rattle.std.proofs.Common.{◌≡◌, ℕ, ◌<◌, ◌≤◌, ◌++◌, drop, get_or, map, take}
+use Rattle.std.proofs.Common.{◌≡◌, ℕ, ◌<◌, ◌≤◌, get_or, map}
 use Rattle.dml_portal.specs.Lanes.{AreSameLanes, waiting}
-use Rattle.dml_portal.specs.Whole.{HaveSentMore, kept_by, received_by, room_by}
+use Rattle.dml_portal.specs.Parts.{IsPartly}
+use Rattle.dml_portal.specs.Whole.{HaveRoom, HaveSentMore, received_by, room_by}
 use Rattle.dml_portal.specs.declared.lanes.Lane.{Lane}
 use Rattle.dml_portal.proofs.lates.push_or_keep_all.Given as goal
 
@@ -11,7 +12,8 @@ invariant-loop-client l =
     record {
       blocks :
           (client : ℕ) (lane : Lane) → client < l.client
-          → let old = get_or start client (get_or now client lane) in kept_by (get_or now client lane) ≡ kept_by old ++ take old.fetched (drop old.before l.records);
+          → IsPartly l.records (get_or start client (get_or now client lane)) (get_or now client lane);
+      room : HaveRoom now;
       rest : (client : ℕ) (lane : Lane) → l.client ≤ client → get_or now client lane ≡ get_or start client lane;
       received : map received_by now ≡ map received_by start;
       waiting : map waiting now ≡ map waiting start;

@@ -16,7 +16,7 @@ returns-clause-bounded g c =
     let round = c.serve_up_to.ensures in
     let entries = added start.log.items now.log.items in
     either_way c.serve_up_to.result _ _ _ round.taken round.nothing_fetched
-    (bounded start.most (length start.lanes.items) start.lanes.items now.lanes.items entries round.fetched round.sent round.answered)
+    (bounded 128 start.most (length start.lanes.items) start.lanes.items now.lanes.items entries round.fetched round.sent round.answered)
     (λ same. bounded_still start.most start.lanes.items now.lanes.items entries (none_added start.log.items now.log.items same) round.sent round.answered)
 
 pub returns-clause-whole : goal.returns-clause-whole

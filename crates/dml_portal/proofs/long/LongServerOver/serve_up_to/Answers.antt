@@ -1,7 +1,7 @@
 use Rattle.std.proofs.Common.{◌∙◌, length, ap, refl, subst}
 use Rattle.dml_portal.specs.Log.{added, answers_in, jobs_in, part_of}
 use Rattle.dml_portal.specs.Served.{RoundHasServed}
-use Rattle.dml_portal.specs.Held.{AreTakenOrHeld}
+use Rattle.dml_portal.specs.Held.{AreTakenOrHeldUpTo}
 use Rattle.dml_portal.specs.Whole.{kept_by, received_by}
 use Rattle.dml_portal.proofs.HeldLemmas.{held_along, rooms_between}
 use Rattle.dml_portal.proofs.LaneLemmas.{same_lanes}
@@ -45,59 +45,59 @@ pub returns-clause-taken : goal.returns-clause-taken
 returns-clause-taken g c =
     let start = c.args.self.now in
     let made = c.make_room.new.lanes.items in
-    let now = c.serve_in_room-number.new.self in
+    let now = c.serve_in_room-fetched.new.self in
     let entries = added c.make_room.new.log.items now.log.items in
-    subst (λ log. AreTakenOrHeld c.args.most start.lanes.items (added log now.log.items) now.lanes.items) c.make_room.ensures.log
-    (held_along c.args.most start.lanes.items made now.lanes.items now.lanes.items entries entries (c.make_room.ensures.same.0 ∙ c.push_all_late.ensures.same.0) c.serve_in_room-number.ensures.same.0 refl
+    subst (λ log. AreTakenOrHeldUpTo c.args.number c.args.most start.lanes.items (added log now.log.items) now.lanes.items) c.make_room.ensures.log
+    (held_along c.args.number c.args.most start.lanes.items made now.lanes.items now.lanes.items entries entries (c.make_room.ensures.same.0 ∙ c.push_all_late.ensures.same.0) c.serve_in_room-fetched.ensures.same.0 refl
     (c.make_room.ensures.waiting ∙ c.push_all_late.ensures.waiting) refl (c.make_room.ensures.kept ∙ c.push_all_late.ensures.kept)
     (sent_along start.lanes.items c.push_all_late.new.lanes.items made c.make_room.ensures.same.0 c.push_all_late.ensures.same.0 c.push_all_late.ensures.sent c.make_room.ensures.sent)
-    (sent_again now.lanes.items) refl c.serve_in_room-number.ensures.taken)
+    (sent_again now.lanes.items) refl c.serve_in_room-fetched.ensures.taken)
 
 pub returns-clause-steps : goal.returns-clause-steps
 returns-clause-steps g c =
     let start = c.args.self.now in
-    let now = c.serve_in_room-number.new.self in
+    let now = c.serve_in_room-fetched.new.self in
     subst (λ log. RoundHasServed start.engine.settings (length start.lanes.items) start.engine.image now.engine.image (added log now.log.items)) c.make_room.ensures.log
     (subst (λ clients. RoundHasServed start.engine.settings clients start.engine.image now.engine.image (added c.make_room.new.log.items now.log.items))
-    (c.make_room.ensures.same.0 ∙ c.push_all_late.ensures.same.0) c.serve_in_room-number.ensures.steps)
+    (c.make_room.ensures.same.0 ∙ c.push_all_late.ensures.same.0) c.serve_in_room-fetched.ensures.steps)
 
 pub returns-clause-received : goal.returns-clause-received
 returns-clause-received g c =
     let start = c.args.self.now in
     let made = c.make_room.new.log.items in
-    let now = c.serve_in_room-number.new.self in
+    let now = c.serve_in_room-fetched.new.self in
     grown_between received_by (λ client. jobs_in (part_of client (added made now.log.items))) (λ client. jobs_in (part_of client (added start.log.items now.log.items)))
     start.lanes.items c.make_room.new.lanes.items now.lanes.items now.lanes.items
     (λ client. ap (λ log. jobs_in (part_of client (added log now.log.items))) c.make_room.ensures.log)
-    (c.make_room.ensures.same.0 ∙ c.push_all_late.ensures.same.0) c.serve_in_room-number.ensures.same.0 refl
-    (c.make_room.ensures.received ∙ c.push_all_late.ensures.received) refl c.serve_in_room-number.ensures.received
+    (c.make_room.ensures.same.0 ∙ c.push_all_late.ensures.same.0) c.serve_in_room-fetched.ensures.same.0 refl
+    (c.make_room.ensures.received ∙ c.push_all_late.ensures.received) refl c.serve_in_room-fetched.ensures.received
 
 pub returns-clause-answered : goal.returns-clause-answered
 returns-clause-answered g c =
     let start = c.args.self.now in
     let made = c.make_room.new.log.items in
-    let now = c.serve_in_room-number.new.self in
+    let now = c.serve_in_room-fetched.new.self in
     grown_between kept_by (λ client. answers_in (part_of client (added made now.log.items))) (λ client. answers_in (part_of client (added start.log.items now.log.items)))
     start.lanes.items c.make_room.new.lanes.items now.lanes.items now.lanes.items
     (λ client. ap (λ log. answers_in (part_of client (added log now.log.items))) c.make_room.ensures.log)
-    (c.make_room.ensures.same.0 ∙ c.push_all_late.ensures.same.0) c.serve_in_room-number.ensures.same.0 refl
-    (c.make_room.ensures.kept ∙ c.push_all_late.ensures.kept) refl c.serve_in_room-number.ensures.answered
+    (c.make_room.ensures.same.0 ∙ c.push_all_late.ensures.same.0) c.serve_in_room-fetched.ensures.same.0 refl
+    (c.make_room.ensures.kept ∙ c.push_all_late.ensures.kept) refl c.serve_in_room-fetched.ensures.answered
 
 pub returns-clause-sent : goal.returns-clause-sent
 returns-clause-sent g c =
     let start = c.args.self.now.lanes.items in
     let pushed = c.push_all_late.new.lanes.items in
     let made = c.make_room.new.lanes.items in
-    let now = c.serve_in_room-number.new.self.lanes.items in
-    sent_along start made now c.serve_in_room-number.ensures.same.0 (c.make_room.ensures.same.0 ∙ c.push_all_late.ensures.same.0)
+    let now = c.serve_in_room-fetched.new.self.lanes.items in
+    sent_along start made now c.serve_in_room-fetched.ensures.same.0 (c.make_room.ensures.same.0 ∙ c.push_all_late.ensures.same.0)
     (sent_along start pushed made c.make_room.ensures.same.0 c.push_all_late.ensures.same.0 c.push_all_late.ensures.sent c.make_room.ensures.sent)
-    c.serve_in_room-number.ensures.sent
+    c.serve_in_room-fetched.ensures.sent
 
 pub returns-clause-same : goal.returns-clause-same
 returns-clause-same g c =
-    let now = c.serve_in_room-number.new.self in
+    let now = c.serve_in_room-fetched.new.self in
     same_lanes c.args.self.now.lanes.items c.push_all_late.new.lanes.items now.lanes.items c.push_all_late.ensures.same
-    (same_lanes c.push_all_late.new.lanes.items c.make_room.new.lanes.items now.lanes.items c.make_room.ensures.same c.serve_in_room-number.ensures.same)
+    (same_lanes c.push_all_late.new.lanes.items c.make_room.new.lanes.items now.lanes.items c.make_room.ensures.same c.serve_in_room-fetched.ensures.same)
 
 pub returns-in_default-clause-late_room : goal.returns-in_default-clause-late_room
 returns-in_default-clause-late_room g c = λ bound here.
@@ -110,6 +110,6 @@ pub returns-clause-late_room : goal.returns-clause-late_room
 returns-clause-late_room g c = λ bound here.
     let start = c.args.self.now.lanes.items in
     let made = c.make_room.new.lanes.items in
-    let now = c.serve_in_room-number.new.self.lanes.items in
-    rooms_between bound start c.push_all_late.new.lanes.items made now c.push_all_late.ensures.same.0 c.make_room.ensures.same.0 c.serve_in_room-number.ensures.same.0
-    c.push_all_late.ensures.late_room (c.make_room.ensures.within bound here) c.serve_in_room-number.ensures.late_room
+    let now = c.serve_in_room-fetched.new.self.lanes.items in
+    rooms_between bound start c.push_all_late.new.lanes.items made now c.push_all_late.ensures.same.0 c.make_room.ensures.same.0 c.serve_in_room-fetched.ensures.same.0
+    c.push_all_late.ensures.late_room (c.make_room.ensures.within bound here) c.serve_in_room-fetched.ensures.late_room

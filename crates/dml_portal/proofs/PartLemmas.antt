@@ -1,0 +1,144 @@
+-- Rounds that are carried out part by part.
+use Rattle.std.proofs.Common.{zero, suc, ◌≡◌, ℕ, ◌+◌, ◌-◌, ◌<◌, ◌≤◌, ◌⊎◌, List, [], ◌∷◌, ◌++◌, length, get_or, take, drop, min, slice_range, refl, sym, ◌∙◌, ap, subst, arith, inl, inr, append_assoc}
+use Rattle.std.proofs.lemmas.Bool.{cases_lt}
+use Rattle.std.proofs.lemmas.List.{append-nil, drop-take, get_or_default, length-append, length-drop, map-append, nil_from_length, take_min}
+use Rattle.std.proofs.Math.Seq.{drop-nil, take-add}
+use Rattle.dml_portal.specs.Types.{LogEntry, Record}
+use Rattle.dml_portal.specs.Log.{answers_in}
+use Rattle.dml_portal.specs.Parts.{ArePartly, IsPartly}
+use Rattle.dml_portal.specs.Whole.{kept_by}
+use Rattle.dml_portal.specs.declared.lanes.Lane.{Lane}
+
+take_none : {X : Type 0} (n : ℕ) → ◌≡◌ {A = List X} (take n []) []
+take_none zero = refl
+take_none (suc n) = refl
+
+-- none of no list
+none_of : {X : Type 0} (count before : ℕ) → ◌≡◌ {A = List X} (take count (drop before [])) []
+none_of {X} count before = ap (take count) (drop-nil {A = X} before) ∙ take_none {X} count
+
+drop_both : {X : Type 0} (n m : ℕ) (xs : List X) → drop m (drop n xs) ≡ drop (n + m) xs
+drop_both {X} zero m xs = refl
+drop_both {X} (suc n) m [] = drop-nil {A = X} m ∙ sym (drop-nil {A = X} (suc n + m))
+drop_both {X} (suc n) m (x ∷ xs) =
+    let same : suc (n + m) ≡ suc n + m = omega arith in
+    drop_both n m xs ∙ ap (λ k. drop k (x ∷ xs)) same
+
+-- a list up to the end of its next part
+pub part_more : {X : Type 0} (xs : List X) (from to : ℕ) → from ≤ to → take from xs ++ slice_range xs from to ≡ take to xs
+part_more {X} xs from to le =
+    let whole : from + (to - from) ≡ to = omega (arith, le) in
+    sym (take-add from (to - from) xs) ∙ ap (λ n. take n xs) whole
+
+-- the records of the next part are in the log
+pub answers_more : (log now : List LogEntry) (start from number : ℕ) (before records : List Record) → length records ≡ number → take (start + from) now ≡ take (start + from) log → answers_in (take from (drop start log)) ≡ before → answers_in (take (length records) (drop (start + from) now)) ≡ records → answers_in (take (from + number) (drop start now)) ≡ before ++ records
+answers_more log now start from number before records long same old new =
+    ap answers_in (take-add from number (drop start now))
+    ∙ (map-append (λ (e : LogEntry). e.answer) (take from (drop start now)) (take number (drop from (drop start now)))
+    ∙ (ap (λ xs. answers_in xs ++ answers_in (take number (drop from (drop start now)))) front
+    ∙ (ap (λ xs. xs ++ answers_in (take number (drop from (drop start now)))) old
+    ∙ (ap (λ xs. before ++ answers_in (take number xs)) (drop_both start from now)
+    ∙ (ap (λ n. before ++ answers_in (take n (drop (start + from) now))) (sym long)
+    ∙ ap (λ xs. before ++ xs) new)))))
+  where
+    front : take from (drop start now) ≡ take from (drop start log)
+    front = sym (drop-take start from now) ∙ (ap (drop start) same ∙ drop-take start from log)
+
+take_both : {X : Type 0} (n m : ℕ) (xs : List X) → take n (take (n + m) xs) ≡ take n xs
+take_both {X} zero m xs = refl
+take_both {X} (suc n) m [] = ap (take (suc n)) (take_none {X} (suc n + m))
+take_both {X} (suc n) m (x ∷ xs) =
+    let one_more : suc n + m ≡ suc (n + m) = omega arith in
+    ap (λ k. take (suc n) (take k (x ∷ xs))) one_more ∙ ap (λ ys. x ∷ ys) (take_both n m xs)
+
+-- what stood before is as it was
+pub front_of : (start from : ℕ) (log now : List LogEntry) → take (start + from) now ≡ take (start + from) log → take start now ≡ take start log
+front_of start from log now same = sym (take_both start from now) ∙ (ap (take start) same ∙ take_both start from log)
+
+-- a block of a list that is cut in two
+block_parts : {X : Type 0} (count before : ℕ) (first more : List X) → take count (drop before (first ++ more)) ≡ take count (drop before first) ++ take (count - length (take count (drop before first))) (drop (before - length first) more)
+block_parts {X} count before [] more =
+    let none : ◌≡◌ {A = List X} (take count (drop before [])) [] = none_of {X} count before in
+    let all_before : before ≡ before - 0 = omega arith in
+    let all_count : count ≡ count - length (take count (drop before [])) = omega (arith, ap length none) in
+    ap (λ n. take count (drop n more)) all_before
+    ∙ (ap (λ n. take n (drop (before - 0) more)) all_count
+    ∙ ap (λ xs. xs ++ take (count - length (take count (drop before []))) (drop (before - 0) more)) (sym none))
+block_parts {X} count (suc before) (x ∷ first) more =
+    let same : before - length first ≡ suc before - length (x ∷ first) = omega arith in
+    block_parts count before first more
+    ∙ ap (λ n. take count (drop before first) ++ take (count - length (take count (drop before first))) (drop n more)) same
+block_parts {X} zero zero (x ∷ first) more = refl
+block_parts {X} (suc count) zero (x ∷ first) more =
+    let fewer : count - length (take count first) ≡ suc count - length (x ∷ take count first) = omega arith in
+    let none : zero - length first ≡ zero - length (x ∷ first) = omega arith in
+    ap (λ xs. x ∷ xs) (block_parts count zero first more)
+    ∙ (ap (λ n. x ∷ (take count first ++ take n (drop (zero - length first) more))) fewer
+    ∙ ap (λ n. x ∷ (take count first ++ take (suc count - length (x ∷ take count first)) (drop n more))) none)
+
+-- one part more
+partly_more : (records more : List Record) (lane mid now : Lane) → IsPartly records lane mid → IsPartly more mid now → IsPartly (records ++ more) lane now
+partly_more records more lane mid now first next =
+    record {
+      kept =
+          next.kept
+          ∙ (ap (λ xs. xs ++ rest) first.kept
+          ∙ (append_assoc (kept_by lane) begun rest ∙ ap (λ xs. kept_by lane ++ xs) (sym whole)));
+      left = omega (arith, next.left, first.left, ap length whole, length-append begun rest);
+      before = omega (arith, next.before, first.before, length-append records more);
+    }
+  where
+    begun : List Record
+    begun = take lane.fetched (drop lane.before records)
+
+    rest : List Record
+    rest = take mid.fetched (drop mid.before more)
+
+    whole : take lane.fetched (drop lane.before (records ++ more)) ≡ begun ++ rest
+    whole =
+        block_parts lane.fetched lane.before records more
+        ∙ (ap (λ n. begun ++ take n (drop (lane.before - length records) more)) (sym first.left)
+        ∙ ap (λ n. begun ++ take mid.fetched (drop n more)) (sym first.before))
+
+pub parts_more : (records more : List Record) (lanes mids nows : List Lane) → length mids ≡ length lanes → length nows ≡ length mids → ArePartly records lanes mids → ArePartly more mids nows → ArePartly (records ++ more) lanes nows
+parts_more records more lanes mids nows long_mids long_nows first next client lane below =
+    let l : Lane = get_or nows client lane in
+    let m : Lane = get_or mids client l in
+    let inside : client < length mids = omega (arith, below, long_nows) in
+    let there : client < length lanes = omega (arith, inside, long_mids) in
+    partly_more records more (get_or lanes client l) m l
+    (subst (λ o. IsPartly records o m) (get_or_default lanes client m l there) (first client l inside))
+    (next client lane below)
+
+partly_none : (lane : Lane) → IsPartly [] lane lane
+partly_none lane =
+    let none : ◌≡◌ {A = List Record} (take lane.fetched (drop lane.before [])) [] = none_of {Record} lane.fetched lane.before in
+    record {
+      kept = sym (append-nil (kept_by lane)) ∙ ap (λ xs. kept_by lane ++ xs) (sym none);
+      left = omega (arith, ap length none);
+      before = omega arith;
+    }
+
+pub parts_none : (lanes : List Lane) → ArePartly [] lanes lanes
+parts_none lanes client lane below =
+    let l : Lane = get_or lanes client lane in
+    subst (λ o. IsPartly [] o l) (sym (get_or_default lanes client l lane below)) (partly_none l)
+
+clipped : (n m : ℕ) (xs : List Record) → length xs ≡ m → take (min n m) xs ≡ take n xs
+clipped n m xs long = ap (λ k. take (min n k) xs) (sym long) ∙ take_min n xs
+
+-- the part of a block that is among these records
+pub block_here : (records : List Record) (before fetched start : ℕ) → start ≡ min before (length records) → slice_range records start (start + min fetched (length records - start)) ≡ take fetched (drop before records)
+block_here records before fetched start is =
+    let long : (start + min fetched (length records - start)) - start ≡ min fetched (length records - start) = omega arith in
+    ap (λ n. take n (drop start records)) long
+    ∙ (clipped fetched (length records - start) (drop start records) (length-drop start records)
+    ∙ ap (take fetched) (same_rest (cases_lt (length records) before)))
+  where
+    same_rest : (length records < before) ⊎ (before ≤ length records) → drop start records ≡ drop before records
+    same_rest (inl far) =
+        nil_from_length (drop start records) (omega (arith, is, far, length-drop start records))
+        ∙ sym (nil_from_length (drop before records) (omega (arith, far, length-drop before records)))
+    same_rest (inr near) =
+        let here : start ≡ before = omega (arith, is, near) in
+        ap (λ n. drop n records) here

@@ -15,10 +15,12 @@ take_none (suc n) = refl
 
 -- none of no list
 none_of : {X : Type 0} (count before : ℕ) → ◌≡◌ {A = List X} (take count (drop before [])) []
-none_of {X} count before = ap (take count) (drop-nil {A = X} before) ∙ take_none {X} count
+none_of {X} count before = ap (take count) (drop-nil {A = X} before) ∙ take_none {X = X} count
 
 drop_both : {X : Type 0} (n m : ℕ) (xs : List X) → drop m (drop n xs) ≡ drop (n + m) xs
-drop_both {X} zero m xs = refl
+drop_both {X} zero m xs =
+    let same : m ≡ 0 + m = omega arith in
+    ap (λ k. drop k xs) same
 drop_both {X} (suc n) m [] = drop-nil {A = X} m ∙ sym (drop-nil {A = X} (suc n + m))
 drop_both {X} (suc n) m (x ∷ xs) =
     let same : suc (n + m) ≡ suc n + m = omega arith in
@@ -46,7 +48,7 @@ answers_more log now start from number before records long same old new =
 
 take_both : {X : Type 0} (n m : ℕ) (xs : List X) → take n (take (n + m) xs) ≡ take n xs
 take_both {X} zero m xs = refl
-take_both {X} (suc n) m [] = ap (take (suc n)) (take_none {X} (suc n + m))
+take_both {X} (suc n) m [] = ap (take (suc n)) (take_none {X = X} (suc n + m))
 take_both {X} (suc n) m (x ∷ xs) =
     let one_more : suc n + m ≡ suc (n + m) = omega arith in
     ap (λ k. take (suc n) (take k (x ∷ xs))) one_more ∙ ap (λ ys. x ∷ ys) (take_both n m xs)
@@ -58,12 +60,13 @@ front_of start from log now same = sym (take_both start from now) ∙ (ap (take 
 -- a block of a list that is cut in two
 block_parts : {X : Type 0} (count before : ℕ) (first more : List X) → take count (drop before (first ++ more)) ≡ take count (drop before first) ++ take (count - length (take count (drop before first))) (drop (before - length first) more)
 block_parts {X} count before [] more =
-    let none : ◌≡◌ {A = List X} (take count (drop before [])) [] = none_of {X} count before in
+    let begun : List X = take count (drop before []) in
+    let none : ◌≡◌ {A = List X} begun [] = none_of {X = X} count before in
     let all_before : before ≡ before - 0 = omega arith in
-    let all_count : count ≡ count - length (take count (drop before [])) = omega (arith, ap length none) in
+    let all_count : count ≡ count - length begun = omega (arith, ap length none) in
     ap (λ n. take count (drop n more)) all_before
     ∙ (ap (λ n. take n (drop (before - 0) more)) all_count
-    ∙ ap (λ xs. xs ++ take (count - length (take count (drop before []))) (drop (before - 0) more)) (sym none))
+    ∙ ap (λ xs. xs ++ take (count - length begun) (drop (before - 0) more)) (sym none))
 block_parts {X} count (suc before) (x ∷ first) more =
     let same : before - length first ≡ suc before - length (x ∷ first) = omega arith in
     block_parts count before first more
@@ -112,7 +115,7 @@ parts_more records more lanes mids nows long_mids long_nows first next client la
 
 partly_none : (lane : Lane) → IsPartly [] lane lane
 partly_none lane =
-    let none : ◌≡◌ {A = List Record} (take lane.fetched (drop lane.before [])) [] = none_of {Record} lane.fetched lane.before in
+    let none : ◌≡◌ {A = List Record} (take lane.fetched (drop lane.before [])) [] = none_of {X = Record} lane.fetched lane.before in
     record {
       kept = sym (append-nil (kept_by lane)) ∙ ap (λ xs. kept_by lane ++ xs) (sym none);
       left = omega (arith, ap length none);

@@ -5,23 +5,23 @@ use Rattle.dml_portal.specs.Log.{answers_in, sent_for}
 use Rattle.dml_portal.specs.Lanes.{AreSameLanes, waiting}
 use Rattle.dml_portal.specs.Parts.{ArePartly}
 use Rattle.dml_portal.specs.Whole.{HaveRoom, HaveSentMore, received_by, room_by}
-use Rattle.dml_portal.proofs.carrying.LongServerOver.carry_out.Given as goal
+use Rattle.dml_portal.proofs.long.LongServerOver.carry_out.Given as goal
 
 abbrev pub invariant-loop-from : goal.invariant-loop-from
 invariant-loop-from g l =
     let start = l.initial.self in
     let now = l.self in
-    let jobs = start.room.jobs.items in
+    let list = start.room.jobs.items in
     let staging = start.engine.settings.staging in
     record {
-      within : l.from ≤ length jobs;
-      jobs : now.room.jobs.items ≡ jobs;
-      some : l.from < length jobs → 1 ≤ vec_capacity now.room.records;
-      image : now.engine.image ≡ memory_after start.engine.image (take l.from jobs) staging;
-      answers : answers_in (take l.from (drop l.start now.log.items)) ≡ records_of start.engine.image (take l.from jobs) staging;
+      within : l.from ≤ length list;
+      jobs : now.room.jobs.items ≡ list;
+      some : l.from < length list → 1 ≤ vec_capacity now.room.records;
+      image : now.engine.image ≡ memory_after start.engine.image (take l.from list) staging;
+      answers : answers_in (take l.from (drop l.start now.log.items)) ≡ records_of start.engine.image (take l.from list) staging;
       log : map sent_for now.log.items ≡ map sent_for start.log.items;
       earlier : take l.start now.log.items ≡ take l.start start.log.items;
-      blocks : ArePartly (records_of start.engine.image (take l.from jobs) staging) start.lanes.items now.lanes.items;
+      blocks : ArePartly (records_of start.engine.image (take l.from list) staging) start.lanes.items now.lanes.items;
       room : HaveRoom now.lanes.items;
       sent : HaveSentMore start.lanes.items now.lanes.items;
       received : map received_by now.lanes.items ≡ map received_by start.lanes.items;

@@ -7,7 +7,7 @@ use Rattle.dml_portal.proofs.LaneLemmas.{same_lanes}
 use Rattle.dml_portal.proofs.LookLemmas.{same_lanes_again}
 use Rattle.dml_portal.proofs.PartLemmas.{answers_more, front_of, part_more, parts_more, parts_none}
 use Rattle.dml_portal.proofs.WholeLemmas.{sent_again, sent_along}
-use Rattle.dml_portal.proofs.carrying.LongServerOver.carry_out.Goals as goal
+use Rattle.dml_portal.proofs.long.LongServerOver.carry_out.Goals as goal
 
 pub loop-from-init : goal.loop-from-init
 loop-from-init g c =
@@ -41,6 +41,8 @@ loop-from-preserved g c =
     let jobs = start.room.jobs.items in
     let staging = start.engine.settings.staging in
     let part = slice_range jobs from to in
+    let given = c.as_slice-in-loop-from.result.now in
+    let given_are : given ≡ jobs = c.as_slice-in-loop-from.ensures.value ∙ before.jobs in
     let image = memory_after start.engine.image (take from jobs) staging in
     let done = records_of start.engine.image (take from jobs) staging in
     let more = records_of image part staging in
@@ -51,8 +53,8 @@ loop-from-preserved g c =
     let records_are : c.as_slice-records.result.now ≡ more =
     c.as_slice-records.ensures.value
     ∙ (c.submit_into.ensures.records
-    ∙ (ap (λ m. records_of m (slice_range was.room.jobs.items from to) was.engine.settings.staging) before.image
-    ∙ (ap (λ js. records_of image (slice_range js from to) was.engine.settings.staging) before.jobs
+    ∙ (ap (λ m. records_of m (slice_range given from to) was.engine.settings.staging) before.image
+    ∙ (ap (λ js. records_of image (slice_range js from to) was.engine.settings.staging) given_are
     ∙ ap (λ (s : _). records_of image part s.staging) before.settings))) in
     let as_many : length c.as_slice-records.result.now ≡ to - from = ap length records_are ∙ (folds.as_many image part staging ∙ number) in
     let both : done ++ more ≡ records_of start.engine.image (take to jobs) staging =
@@ -64,8 +66,8 @@ loop-from-preserved g c =
       some = λ below. omega (arith, as_many, c.part_end-to.ensures.more, c.submit_into.new.records.ok.0);
       image =
           c.submit_into.ensures.image
-          ∙ (ap (λ m. memory_after m (slice_range was.room.jobs.items from to) was.engine.settings.staging) before.image
-          ∙ (ap (λ js. memory_after image (slice_range js from to) was.engine.settings.staging) before.jobs
+          ∙ (ap (λ m. memory_after m (slice_range given from to) was.engine.settings.staging) before.image
+          ∙ (ap (λ js. memory_after image (slice_range js from to) was.engine.settings.staging) given_are
           ∙ (ap (λ (s : _). memory_after image part s.staging) before.settings
           ∙ (sym (folds.image_in_parts start.engine.image (take from jobs) part staging)
           ∙ ap (λ js. memory_after start.engine.image js staging) all))));

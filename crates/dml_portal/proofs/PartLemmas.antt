@@ -1,11 +1,13 @@
 -- Rounds that are carried out part by part.
 use Rattle.std.proofs.Common.{zero, suc, ◌≡◌, ℕ, ◌+◌, ◌-◌, ◌<◌, ◌≤◌, ◌⊎◌, List, [], ◌∷◌, ◌++◌, length, get_or, take, drop, min, slice_range, refl, sym, ◌∙◌, ap, subst, arith, inl, inr, append_assoc}
 use Rattle.std.proofs.lemmas.Bool.{cases_lt}
-use Rattle.std.proofs.lemmas.List.{append-nil, drop-take, get_or_default, length-append, length-drop, map-append, nil_from_length, take_min}
+use Rattle.std.proofs.lemmas.List.{append-nil, drop-take, get_or-drop, get_or_default, length-append, length-drop, map-append, nil_from_length, take_min, take_more}
+use Rattle.std.proofs.lemmas.List.Sums.{sum_by_push}
 use Rattle.std.proofs.Math.Seq.{drop-nil, take-add}
-use Rattle.dml_portal.specs.Types.{LogEntry, Record}
+use Rattle.std.specs.List.{sum_by}
+use Rattle.dml_portal.specs.Types.{Job, LogEntry, Record}
 use Rattle.dml_portal.specs.Log.{answers_in}
-use Rattle.dml_portal.specs.Parts.{ArePartly, IsPartly}
+use Rattle.dml_portal.specs.Parts.{ArePartly, IsPartly, bytes_of}
 use Rattle.dml_portal.specs.Whole.{kept_by}
 use Rattle.dml_portal.specs.declared.lanes.Lane.{Lane}
 
@@ -145,3 +147,21 @@ block_here records before fetched start is =
     same_rest (inr near) =
         let here : start ≡ before = omega (arith, is, near) in
         ap (λ n. drop n records) here
+
+-- one job more in a part
+pub bytes_more : (jobs : List Job) (from to : ℕ) (job : Job) → from ≤ to → to < length jobs → bytes_of jobs from (to + 1) ≡ bytes_of jobs from to + (get_or jobs to job).size
+bytes_more jobs from to job le below =
+    let count : (to + 1) - from ≡ (to - from) + 1 = omega (arith, le) in
+    let inside : to - from < length (drop from jobs) = omega (arith, le, below, length-drop from jobs) in
+    let place : from + (to - from) ≡ to = omega (arith, le) in
+    let size : Job → ℕ = λ j. j.size in
+    ap (λ n. sum_by size (take n (drop from jobs))) count
+    ∙ (ap (sum_by size) (take_more (drop from jobs) (to - from) job inside)
+    ∙ (sum_by_push size (take (to - from) (drop from jobs)) (get_or (drop from jobs) (to - from) job)
+    ∙ ap (λ (j : Job). bytes_of jobs from to + j.size) (get_or-drop from jobs (to - from) job ∙ ap (λ n. get_or jobs n job) place)))
+
+-- and as many as were summed
+pub bytes_then : (jobs : List Job) (from to : ℕ) (job : Job) (size bytes : ℕ) → from < to → to < length jobs → size ≡ (get_or jobs to job).size → bytes ≡ bytes_of jobs from to → bytes_of jobs from (to + 1) ≡ bytes + size
+bytes_then jobs from to job size bytes le below is so_far =
+    bytes_more jobs from to job (omega (arith, le)) below
+    ∙ (ap (λ n. bytes_of jobs from to + n) (sym is) ∙ ap (λ n. n + size) (sym so_far))

@@ -1,5 +1,6 @@
 //! A round's list, cut in parts.
-ghost use Rattle.std.specs.Prelude.{◌+◌, ◌<◌, ◌≤◌, length};
+ghost use Rattle.std.specs.Prelude.{◌≡◌, ◌+◌, ◌<◌, ◌≤◌, ◌⊎◌, length};
+ghost use Rattle.dml_portal.specs.Parts.{bytes_of};
 
 use dml_types::Job;
 
@@ -14,6 +15,8 @@ pub(crate) fn part_end(jobs: &[Job], from: usize, most: usize) -> usize
     ensures more { from < result }
     ensures within { result ≤ length jobs.now }
     ensures few { result ≤ from + most }
+    ensures bytes { (result ≡ from + 1) ⊎ (bytes_of jobs.now from result ≤ 8388608) }
+    ensures enough { (result ≡ length jobs.now) ⊎ (result ≡ from + most) ⊎ (8388608 < bytes_of jobs.now from (result + 1)) }
 {
     let end = from + most.min(jobs.len() - from);
     let mut bytes = u64::from(jobs[from].size);

@@ -1,15 +1,14 @@
 -- Logs from whose front entries were taken off, when lanes change.
-use Rattle.std.proofs.Common.{◌≡◌, ℕ, ◌+◌, ◌<◌, ◌≤◌, ◌⊎◌, List, [], ◌∷◌, ◌++◌, filter, length, get_or, set, map, take, drop, sym, ◌∙◌, ap, subst, arith, append_assoc}
+use Rattle.std.proofs.Common.{◌≡◌, ℕ, ◌<◌, ◌⊎◌, List, [], ◌∷◌, ◌++◌, filter, length, get_or, set, map, take, drop, sym, ◌∙◌, ap, subst, arith, append_assoc}
 use Rattle.std.proofs.lemmas.List.{append-nil, get_or_default, map-append, take_all}
 use Rattle.std.proofs.Math.ListN as lists
 use Rattle.std.specs.Prelude.{nat_eq}
-use Rattle.std.specs.VecDeque.{deque_capacity, deque_len}
 use Rattle.rtrb.specs.Ring.{known_free, received, sent}
 use Rattle.dml_portal.specs.Types.{Job, LogEntry, Record}
 use Rattle.dml_portal.specs.Log.{added, answers_in, jobs_in, part_of, sent_for}
-use Rattle.dml_portal.specs.Lanes.{EachLane, IsSeatOf}
+use Rattle.dml_portal.specs.Lanes.{IsSeatOf}
 use Rattle.dml_portal.specs.Blocks.{AreBlocks}
-use Rattle.dml_portal.specs.Whole.{AreWhole, HasPushed, HasRoom, HasSentMore, HaveAnswered, HaveGrown, HavePushed, HaveReceived, HaveSentMore, StayWhole, kept_by, late_of}
+use Rattle.dml_portal.specs.Whole.{AreWhole, HasPushed, HasSentMore, HaveAnswered, HaveGrown, HavePushed, HaveReceived, HaveSentMore, StayWhole, kept_by, late_of}
 use Rattle.dml_portal.specs.Parts.{ArePartly}
 use Rattle.dml_portal.specs.Seats.{polled}
 use Rattle.dml_portal.specs.Settled.{AreUnusedLanes, IsDrained, IsSettled}

@@ -1,5 +1,5 @@
 -- A log from whose front entries were taken off, and the records that wait beside it.
-use Rattle.std.specs.Prelude.{◌≡◌, ℕ, ◌+◌, ◌≤◌, ◌⊎◌, List, [], ◌++◌, drop, length, slice_index_or, take}
+use Rattle.std.specs.Prelude.{◌≡◌, ℕ, ◌+◌, ◌≤◌, ◌⊎◌, List, [], ◌++◌, length, slice_index_or}
 use Rattle.std.specs.VecDeque.{deque_capacity, deque_len}
 use Rattle.rtrb.specs.Ring.{known_free, received, sent}
 use Rattle.dml_portal.specs.Types.{Job, LogEntry, Record}

@@ -19,9 +19,9 @@ impl<B: Berths, G: Gate + Sync> OwnServerOver<'_, B, G> {
     ghost use Rattle.dml_seats.specs.Own.{clients_of, dones_of, image_of, lanes_of, log_of, most_of, settings_of};
 
     /// Serves a round: fetches at most 128 jobs of each client that is not held back, clients in order of their
-    /// numbers, carries them out as one list, and answers how many they are. Before and after, records are pushed to
-    /// the clients as far as their rings have room; the others wait with the client, and more than the server's bound
-    /// hold it back.
+    /// numbers, carries them out as one list, and answers how many they are. The list is carried out in parts of at most
+    /// 8 MiB of transfers, or of one job. Before the first and behind each, records are pushed to the clients as far as
+    /// their rings have room; the others wait with the client, and more than the server's bound hold it back.
     ///
     /// # Errors
     /// `NoMemory` where there is no room for a whole round; then nothing was fetched. Records that waited may have been

@@ -1,4 +1,4 @@
-use Rattle.std.proofs.Common.{refl, ◌≡◌, ◌+◌, ◌<◌, ◌≤◌, ◌∙◌, ◌++◌, drop, length, map, take, sym, ap, subst, arith, inr}
+use Rattle.std.proofs.Common.{refl, ◌≡◌, ◌+◌, ◌∙◌, ◌++◌, drop, length, map, take, ap, subst, arith, inr}
 use Rattle.std.proofs.lemmas.List.{length-take-le, nil_from_length, take-append-le}
 use Rattle.rtrb.specs.Ring.{known_items, received}
 use Rattle.dml_portal.specs.Lanes.{waiting}

@@ -1,4 +1,4 @@
-use Rattle.std.proofs.Common.{◌+◌, ◌<◌, length, arith, inr}
+use Rattle.std.proofs.Common.{◌<◌, length, arith, inr}
 use Rattle.dml_portal.proofs.PartLemmas.{bytes_then}
 use Rattle.dml_portal.proofs.parts.part_end.Goals as goal
 

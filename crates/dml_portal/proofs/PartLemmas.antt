@@ -1,7 +1,6 @@
 -- Rounds that are carried out part by part.
-use Rattle.std.proofs.Common.{zero, suc, ◌≡◌, ℕ, ◌+◌, ◌-◌, ◌<◌, ◌≤◌, ◌⊎◌, List, [], ◌∷◌, ◌++◌, length, get_or, take, drop, min, slice_range, refl, sym, ◌∙◌, ap, subst, arith, inl, inr, append_assoc}
-use Rattle.std.proofs.lemmas.Bool.{cases_lt}
-use Rattle.std.proofs.lemmas.List.{append-nil, drop-take, get_or-drop, get_or_default, length-append, length-drop, map-append, nil_from_length, take_min, take_more}
+use Rattle.std.proofs.Common.{zero, suc, ◌≡◌, ℕ, ◌+◌, ◌-◌, ◌<◌, ◌≤◌, List, [], ◌∷◌, ◌++◌, length, get_or, take, drop, slice_range, refl, sym, ◌∙◌, ap, subst, arith, append_assoc}
+use Rattle.std.proofs.lemmas.List.{append-nil, drop-take, get_or-drop, get_or_default, length-append, length-drop, map-append, take_more}
 use Rattle.std.proofs.lemmas.List.Sums.{sum_by_push}
 use Rattle.std.proofs.Math.Seq.{drop-nil, take-add}
 use Rattle.std.specs.List.{sum_by}
@@ -128,25 +127,6 @@ pub parts_none : (lanes : List Lane) → ArePartly [] lanes lanes
 parts_none lanes client lane below =
     let l : Lane = get_or lanes client lane in
     subst (λ o. IsPartly [] o l) (sym (get_or_default lanes client l lane below)) (partly_none l)
-
-clipped : (n m : ℕ) (xs : List Record) → length xs ≡ m → take (min n m) xs ≡ take n xs
-clipped n m xs long = ap (λ k. take (min n k) xs) (sym long) ∙ take_min n xs
-
--- the part of a block that is among these records
-pub block_here : (records : List Record) (before fetched start : ℕ) → start ≡ min before (length records) → slice_range records start (start + min fetched (length records - start)) ≡ take fetched (drop before records)
-block_here records before fetched start is =
-    let long : (start + min fetched (length records - start)) - start ≡ min fetched (length records - start) = omega arith in
-    ap (λ n. take n (drop start records)) long
-    ∙ (clipped fetched (length records - start) (drop start records) (length-drop start records)
-    ∙ ap (take fetched) (same_rest (cases_lt (length records) before)))
-  where
-    same_rest : (length records < before) ⊎ (before ≤ length records) → drop start records ≡ drop before records
-    same_rest (inl far) =
-        nil_from_length (drop start records) (omega (arith, is, far, length-drop start records))
-        ∙ sym (nil_from_length (drop before records) (omega (arith, far, length-drop before records)))
-    same_rest (inr near) =
-        let here : start ≡ before = omega (arith, is, near) in
-        ap (λ n. drop n records) here
 
 -- one job more in a part
 pub bytes_more : (jobs : List Job) (from to : ℕ) (job : Job) → from ≤ to → to < length jobs → bytes_of jobs from (to + 1) ≡ bytes_of jobs from to + (get_or jobs to job).size

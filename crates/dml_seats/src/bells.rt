@@ -37,7 +37,7 @@ impl Bell {
         self.parker.unpark();
     }
 
-    /// Sleeps until it is rung, and takes the ring. One thread alone waits for a bell.
+    /// Sleeps until it is rung, and takes the ring. One thread alone waits for a bell: of two, one may sleep for ever.
     pub fn wait<R: Wait>(&self, rt: &R) {
         self.parker.park(rt);
     }

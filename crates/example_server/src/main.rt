@@ -46,7 +46,7 @@ fn serve<B: Berths, R: Threads + Wait + Eprint + Sync>(
 ) {
     for _ in rt.forever() {
         let is_last = flag.load(Ordering::SeqCst) == 0;
-        let jobs = server.serve_round(rt, alloc).unwrap_or(0);
+        let jobs = server.serve_round(rt, alloc);
         let mut log = Vec::new(alloc);
         if server.take_log(&mut log).is_err() {
             server.drop_log();
@@ -62,8 +62,8 @@ fn serve<B: Berths, R: Threads + Wait + Eprint + Sync>(
             client.ring();
         }
         match jobs {
-            0 if is_last => return,
-            0 => bell.wait(rt),
+            Ok(0) | Err(_) if is_last => return,
+            Ok(0) => bell.wait(rt),
             _ => {}
         }
     }

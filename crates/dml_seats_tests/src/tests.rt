@@ -6,7 +6,9 @@ ghost use Rattle.dml_portal.specs.Servers.{lanes_of};
 mod bells;
 mod endings;
 mod growths;
+mod parts;
 mod sleeps;
+mod some;
 
 use dml_engine::Engine;
 use dml_image::Image;

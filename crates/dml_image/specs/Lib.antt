@@ -2,4 +2,5 @@ pub mod Blocks
 pub mod Brought
 pub mod Copied
 pub mod Kept
+pub mod Pieces
 pub mod Table

@@ -9,7 +9,7 @@ use crate::tables::Table;
 use dml_types::block_number;
 
 /// The bytes of an entry.
-const ENTRY: usize = dml_types::ENTRY as usize;
+pub const ENTRY: usize = dml_types::ENTRY as usize;
 
 /// The bytes of a block.
 const BLOCK: usize = 8;

@@ -38,6 +38,17 @@ pub fn copy_at(content: &mut [u8], from: usize, to: usize, len: usize)
     }
 }
 
+/// How many bytes are copied at once from one address on to another, `most` at most.
+#[inline(always)]
+pub fn at_once(from: u64, to: u64, most: usize) -> usize
+    requires { 0 < most }
+    ensures some { 0 < result }
+    ensures most { result ≤ most }
+    ensures apart { IsOneCopy from to result }
+{
+    most.min(from.abs_diff(to).max(SHORT as u64) as usize)
+}
+
 /// Repeats the 8 bytes of a pattern, low byte first, over `len` bytes of a slice.
 #[tactic(auto, using(crate::proofs::SliceLemmas::put_mid_overwrite))]
 pub fn fill_at(target: &mut [u8], place: usize, len: usize, pattern: u64)

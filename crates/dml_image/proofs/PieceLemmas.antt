@@ -1,16 +1,12 @@
 -- Memory in pieces: where the bytes of a piece stand, which pages are present, and what a write to a piece changes.
 use Rattle.std.proofs.Common.{◌≡◌, ℕ, zero, suc, ◌+◌, ◌-◌, ◌*◌, ◌/◌, ◌%◌, ◌<◌, ◌≤◌, Bool, true, false, List, [], ◌∷◌, ◌++◌, None, length, map, get_or, replicate, set, take, drop, rules, refl, sym, ◌∙◌, ap, ap₂, subst, arith, ⊎_elim}
-use Rattle.std.proofs.lemmas.List.{places, length-replicate, length-set, get_or-set_same}
+use Rattle.std.proofs.lemmas.List.{places, same_lists, length-replicate, length-set, get_or-set_same}
 use Rattle.std.proofs.lemmas.Bool.{cases_lt, false≢true}
 use Rattle.dml_types.specs.Memory.{Memory, IsMemory, InSegments, Place, Put, has, bytes_at, overwrite, put, puts_made}
 use Rattle.dml_types.proofs.MemoryLemmas.{length_overwrite}
 use Rattle.dml_image.specs.Blocks.{after_puts, AreInside}
-use Rattle.dml_image.specs.Pieces.{Piece, AreInOrder, AreSegments, bytes_from, end_of, marks_from, no_piece, over, pages_of, piece_at, pieces_memory, place_of, written}
+use Rattle.dml_image.specs.Pieces.{Piece, AreInOrder, AreSegments, IsIn, bytes_from, end_of, marks_from, no_piece, over, pages_of, piece_at, pieces_memory, place_of, written}
 use Rattle.dml_image.proofs.TableLemmas.{overwrite_back, overwrite_front, same_back, same_front}
-
--- an address is one of a piece's
-abbrev pub IsIn : Piece → ℕ → Type 0
-IsIn piece address = (4096 * piece.first ≤ address) × (address < 4096 * piece.first + length piece.bytes)
 
 -- each page has its bytes
 pub length_pieces : (from : ℕ) (pieces : List Piece) → AreInOrder from pieces → length (bytes_from from pieces) ≡ 4096 * length (marks_from from pieces)
@@ -275,3 +271,11 @@ blocks_made pieces k piece (p ∷ puts) order below is inside =
           ∙ (rest.0 ∙ ap (λ (m : Memory). puts_made m puts) (ap pieces_memory next ∙ piece_written pieces order k s p.address p.bytes below within at)),
       subst (AreInOrder 0) twice rest.1,
     )
+
+-- all bytes of a piece stand at its place
+pub piece_bytes : (pieces : List Piece) (k : ℕ) → AreInOrder 0 pieces → k < length pieces → bytes_at (pieces_memory pieces) (4096 * (piece_at pieces k).first) (length (piece_at pieces k).bytes) ≡ (piece_at pieces k).bytes
+piece_bytes pieces k order below =
+    sym (piece_read pieces order k 0 (length (piece_at pieces k).bytes) _ below (omega arith) (omega arith)) ∙ all (piece_at pieces k).bytes
+  where
+    all : (bytes : List ℕ) → take (length bytes) (drop 0 bytes) ≡ bytes
+    all bytes = same_lists _ _ (search (rules, places)) (λ i d h. grind (arith, places))

@@ -67,6 +67,11 @@ no_piece = record { first = 0; bytes = []; name = 0 }
 abbrev pub piece_at : List Piece → ℕ → Piece
 piece_at pieces k = slice_index_or pieces k no_piece
 
+-- an address is one of a piece's
+abbrev pub IsIn : Piece → ℕ → Type 0
+IsIn piece address =
+    (page_size * piece.first ≤ address) × (address < page_size * piece.first + length piece.bytes)
+
 -- an address is that of a byte of a piece, with so much room up to the piece's end
 pub record IsAt (pieces : List Piece) (spot : Spot) (address : ℕ) : Type 0 where
   pub below : spot.segment < length pieces

@@ -149,7 +149,8 @@ impl<'a> Image<'a> {
     /// The segments of an image over segments, which hold what the image held.
     pub fn into_segments(self) -> Vec<Segment<'a>>
         requires { IsTrue (is_in_segments self) }
-        ensures { pieces_memory (pieces_of result.items) ≡ self.entry }
+        ensures segments { AreSegments (pieces_of result.items) }
+        ensures memory { pieces_memory (pieces_of result.items) ≡ self.entry }
     {
         match self.into_pages() {
             Pages::Segments(segments) => segments.into_list(),
@@ -160,7 +161,8 @@ impl<'a> Image<'a> {
 
     /// The pages, for good.
     pub(crate) fn into_pages(self) -> Pages<'a>
-        ensures { kept_by result ≡ self.entry }
+        ensures pages { kept_by result ≡ self.entry }
+        ensures memory { IsMemory self.entry }
     {
         let Image { pages } = self;
         pages

@@ -43,7 +43,8 @@ impl<'a> Segments<'a> {
 
     /// The segments, for good.
     pub fn into_list(self) -> Vec<Segment<'a>>
-        ensures { pieces_memory (pieces_of result.items) ≡ self.entry }
+        ensures order { AreInOrder 0 (pieces_of result.items) }
+        ensures memory { pieces_memory (pieces_of result.items) ≡ self.entry }
     {
         let Segments { list } = self;
         list

@@ -23,7 +23,7 @@ into_segments-requires c =
 
 pub put_back-requires : goal.put_back-requires
 put_back-requires c =
-    let loan = ap (λ (m : Memory). m.loan) c.into_segments.ensures
+    let loan = ap (λ (m : Memory). m.loan) c.into_segments.ensures.memory
     ∙ (ap (λ (m : Memory). m.loan) c.submit_to-answer.ensures.image
     ∙ (loan_after_step c.over_segments-image.result c.args.job.now c.args.staging
     ∙ (ap (λ (m : Memory). m.loan) c.over_segments-image.ensures

@@ -10,6 +10,8 @@ mod create_tests;
 #[cfg(test)]
 mod resume_tests;
 #[cfg(test)]
+mod segments_tests;
+#[cfg(test)]
 mod tests;
 #[cfg(test)]
 mod uses;

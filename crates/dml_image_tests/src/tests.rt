@@ -1,3 +1,5 @@
+mod segments;
+
 ghost use Rattle.std.specs.Prelude.{◌≡◌};
 
 use dml_image::{Image, ImageError, Lent, Whole};

@@ -1,13 +1,13 @@
 -- Segments of a list as pieces, and what a spot says of the segment that it is in.
-use Rattle.std.proofs.Common.{◌≡◌, ℕ, zero, suc, ◌+◌, ◌-◌, ◌*◌, ◌/◌, ◌%◌, ◌<◌, ◌≤◌, false, List, [], ◌∷◌, ◌++◌, Option, None, Some, IfSome, is_some, length, get_or, set, slice_range, take, drop, rules, refl, sym, ◌∙◌, ap, ap₂, subst, arith, ⊎_elim}
+use Rattle.std.proofs.Common.{◌≡◌, ℕ, zero, suc, ◌+◌, ◌-◌, ◌*◌, ◌/◌, ◌%◌, ◌<◌, ◌≤◌, false, List, [], ◌∷◌, ◌++◌, Option, None, Some, IfSome, is_some, length, get_or, set, slice_range, take, drop, rules, refl, sym, ◌∙◌, ap, ap₂, subst, arith, ⊎_elim, map}
 use Rattle.std.proofs.lemmas.List.{places, get_or-set_other}
 use Rattle.std.proofs.lemmas.Bool.{cases_lt}
-use Rattle.dml_types.specs.Memory.{Memory, Put, bytes_at, has, overwrite, put, puts_made}
+use Rattle.dml_types.specs.Memory.{Memory, Place, Put, bytes_at, has, overwrite, put, puts_made}
 use Rattle.dml_image.specs.Blocks.{after_puts, AreInside}
 use Rattle.dml_image.specs.declared.segments.Segment.{Segment}
 use Rattle.dml_image.specs.declared.segments.Spot.{Spot}
-use Rattle.dml_image.specs.Pieces.{Piece, AreInOrder, IsAt, end_of, marks_from, no_piece, over, pages_of, piece_at, piece_of, pieces_memory, pieces_of, written}
-use Rattle.dml_image.proofs.PieceLemmas.{blocks_made, end_low, first_rises, has_in, has_out, last_end, order_written, piece_read, piece_written, put_over, whole_piece, within_pieces}
+use Rattle.dml_image.specs.Pieces.{Piece, AreInOrder, IsAt, end_of, marks_from, no_piece, over, pages_of, piece_at, piece_of, pieces_memory, pieces_of, written, place_at, place_of, segment_bytes}
+use Rattle.dml_image.proofs.PieceLemmas.{blocks_made, end_low, first_rises, has_in, has_out, last_end, order_written, piece_read, piece_written, put_over, whole_piece, within_pieces, piece_bytes}
 
 rest_long : (s : ℕ) (bytes : List ℕ) → length (take (length bytes - s) (drop s bytes)) ≡ length bytes - s
 rest_long s bytes = search (rules, places)
@@ -222,6 +222,37 @@ end_here items now k segment order shown last at =
 pub no_end : (items : List Segment) (now : Memory) → pieces_memory (pieces_of items) ≡ now → length items ≡ 0 → 0 ≡ length now.present
 no_end [] now shown none = ap (λ (m : Memory). length m.present) shown
 no_end (segment ∷ items) now shown none = absurd (omega arith)
+
+-- a segment that is given back: its bytes and its reference are those that the memory says
+place_is : (pieces : List Piece) (k : ℕ) → place_at (pieces_memory pieces) k ≡ place_of (piece_at pieces k)
+place_is pieces k = along pieces k
+  where
+    along : (pieces : List Piece) (k : ℕ) → get_or (map place_of pieces) k (place_of no_piece) ≡ place_of (piece_at pieces k)
+    along [] k = refl
+    along (piece ∷ pieces) zero = refl
+    along (piece ∷ pieces) (suc k) = along pieces k
+
+module _ (items : List Segment) (memory : Memory) (k : ℕ) (d : Segment) (is : pieces_memory (pieces_of items) ≡ memory) (below : k < length items) where
+  back_is : place_at memory k ≡ place_of (piece_of (get_or items k d))
+  back_is =
+      ap (λ (m : Memory). place_at m k) (sym is)
+      ∙ (place_is (pieces_of items) k ∙ ap place_of (piece_at_is items k d below))
+
+  pub name_again : (get_or items k d).content.ghost_name ≡ (place_at memory k).name
+  name_again = sym (ap (λ (p : Place). p.name) back_is)
+
+  pub bytes_again : AreInOrder 0 (pieces_of items) → (get_or items k d).content.now ≡ segment_bytes memory k
+  bytes_again order =
+      let piece = piece_of (get_or items k d) in
+      let low : k < length (pieces_of items) = omega (arith, below, pieces_length items) in
+      let here = piece_at_is items k d below in
+      let whole : length piece.bytes % 4096 ≡ 0 = ap (λ (p : Piece). length p.bytes % 4096) (sym here) ∙ whole_piece 0 (pieces_of items) k no_piece order low in
+      let size : length piece.bytes ≡ 4096 * pages_of piece = omega (arith, whole) in
+      ap (λ (p : Piece). p.bytes) (sym here)
+      ∙ (sym (piece_bytes (pieces_of items) k order low)
+      ∙ (ap (λ (p : Piece). bytes_at (pieces_memory (pieces_of items)) (4096 * p.first) (length p.bytes)) here
+      ∙ (ap (bytes_at (pieces_memory (pieces_of items)) (4096 * piece.first)) size
+      ∙ ap₂ (λ (m : Memory) (p : Place). bytes_at m (4096 * p.first) (4096 * p.pages)) is (sym back_is))))
 
 -- the test of segments, one after another: a front of those that are in order, and one more
 front_size : (from : ℕ) (segment : Segment) (rest : List Segment) → length (marks_from from (pieces_of (segment ∷ rest))) ≡ (segment.first - from) + (pages_of (piece_of segment) + length (marks_from (end_of (piece_of segment)) (pieces_of rest)))

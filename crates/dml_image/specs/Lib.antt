@@ -4,3 +4,4 @@ pub mod Copied
 pub mod Kept
 pub mod Pieces
 pub mod Table
+pub mod Two

@@ -1,7 +1,7 @@
 -- Memory that is lent in segments: the first page of each and the bytes of its whole pages, in rising order, and no page
 -- in two of them. A page in none of them is absent and stands as zeros.
 use Rattle.std.specs.Prelude.{⊤, ◌≡◌, ℕ, ◌+◌, ◌-◌, ◌*◌, ◌/◌, ◌%◌, ◌<◌, ◌≤◌, Bool, true, false, List, [], ◌∷◌, ◌++◌, None, length, map, replicate, slice_index_or, slice_set}
-use Rattle.dml_types.specs.Memory.{Memory, InSegments, Place, overwrite, page_size}
+use Rattle.dml_types.specs.Memory.{Memory, Loan, ByHome, InOnePiece, InSegments, Place, bytes_at, overwrite, page_size}
 use Rattle.dml_image.specs.declared.segments.Segment.{Segment}
 use Rattle.dml_image.specs.declared.segments.Spot.{Spot}
 
@@ -85,3 +85,16 @@ over piece place bytes = record piece { bytes = overwrite piece.bytes place byte
 
 abbrev pub written : List Piece → ℕ → ℕ → List ℕ → List Piece
 written pieces k place bytes = slice_set pieces k (over (piece_at pieces k) place bytes)
+
+-- where the segments of a memory lie, the k-th of them, and its bytes
+abbrev pub places_of : Loan → List Place
+places_of ByHome = []
+places_of (InOnePiece name) = []
+places_of (InSegments places) = places
+
+abbrev pub place_at : Memory → ℕ → Place
+place_at memory k = slice_index_or (places_of memory.loan) k (place_of no_piece)
+
+abbrev pub segment_bytes : Memory → ℕ → List ℕ
+segment_bytes memory k =
+    let place = place_at memory k in bytes_at memory (page_size * place.first) (page_size * place.pages)

@@ -18,6 +18,7 @@ mod segmented;
 mod segments;
 mod slices;
 mod tables;
+mod two;
 mod whole;
 
 pub use arrays::{put_back, take_out};
@@ -28,6 +29,7 @@ pub use laws::law_of_segments;
 pub use lent::Lent;
 pub use segments::{Segment, are_segments};
 pub use slices::{SHORT, copy_at, fill_at, write_at};
+pub use two::Two;
 pub use whole::{Whole, are_whole};
 
 /// The bytes of a page.

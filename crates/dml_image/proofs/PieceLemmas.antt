@@ -5,7 +5,7 @@ use Rattle.std.proofs.lemmas.Bool.{cases_lt, false≢true}
 use Rattle.dml_types.specs.Memory.{Memory, IsMemory, InSegments, Place, Put, has, bytes_at, overwrite, put, puts_made}
 use Rattle.dml_types.proofs.MemoryLemmas.{length_overwrite}
 use Rattle.dml_image.specs.Blocks.{after_puts, AreInside}
-use Rattle.dml_image.specs.Pieces.{Piece, AreInOrder, AreSegments, IsIn, bytes_from, end_of, marks_from, no_piece, over, pages_of, piece_at, pieces_memory, place_of, written}
+use Rattle.dml_image.specs.Pieces.{Piece, AreInOrder, AreSegments, IsIn, bytes_from, end_of, marks_from, no_piece, over, pages_of, piece_at, pieces_memory, place_at, place_of, segment_bytes, written}
 use Rattle.dml_image.proofs.TableLemmas.{overwrite_back, overwrite_front, same_back, same_front}
 
 -- each page has its bytes
@@ -279,3 +279,15 @@ piece_bytes pieces k order below =
   where
     all : (bytes : List ℕ) → take (length bytes) (drop 0 bytes) ≡ bytes
     all bytes = same_lists _ _ (search (rules, places)) (λ i d h. grind (arith, places))
+
+-- where a piece lies as a segment of their memory, and its bytes
+place_is : (pieces : List Piece) (k : ℕ) → place_at (pieces_memory pieces) k ≡ place_of (piece_at pieces k)
+place_is [] k = refl
+place_is (piece ∷ pieces) zero = refl
+place_is (piece ∷ pieces) (suc k) = place_is pieces k
+
+pub segment_is : (pieces : List Piece) (k : ℕ) → AreInOrder 0 pieces → k < length pieces → segment_bytes (pieces_memory pieces) k ≡ (piece_at pieces k).bytes
+segment_is pieces k order below =
+    ap (λ (place : Place). bytes_at (pieces_memory pieces) (4096 * place.first) (4096 * place.pages)) (place_is pieces k)
+    ∙ (ap (bytes_at (pieces_memory pieces) (4096 * (piece_at pieces k).first)) (omega (arith, whole_piece 0 pieces k no_piece order below))
+    ∙ piece_bytes pieces k order below)

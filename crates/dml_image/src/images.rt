@@ -372,6 +372,16 @@ impl Image<'_> {
         ensures memory { IsMemory self.now }
     {
         let _ = &self.pages; // what is looked at is an image
+        self.count_present(addr, len, direction)
+    }
+
+    /// The same, put into its caller.
+    #[inline(always)]
+    fn count_present(&self, addr: u64, len: u32, direction: Direction) -> u32
+        requires { addr + len ≤ 2 ^ 64 }
+        ensures count { result ≡ present_toward direction self.now addr len }
+        ensures within { result ≤ len }
+    {
         if len as usize <= rest_of_page(addr) {
             return present_in_page(self, addr, len);
         }
@@ -400,7 +410,8 @@ impl Image<'_> {
             (λ k. (k < len) × (present_toward direction self.now addr len ≡ k)) }
         ensures memory { IsMemory self.now }
     {
-        let done = self.present_toward(addr, len, direction);
+        let _ = &self.pages; // what is looked at is an image
+        let done = self.count_present(addr, len, direction);
         if done < len { Some(done) } else { None }
     }
 }

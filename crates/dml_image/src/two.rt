@@ -48,6 +48,8 @@ impl<'a> Two<'a> {
     /// Takes an image over two segments back.
     pub fn put(&mut self, image: Image<'a>)
         requires { IsTrue (has_two_segments image) }
+        ensures segments { AreSegments (pieces_of_two self.new) }
+        ensures memory { pieces_memory (pieces_of_two self.new) ≡ image.entry }
         ensures low { self.new.low.content.now ≡ segment_bytes image.entry 0 }
         ensures high { self.new.high.content.now ≡ segment_bytes image.entry 1 }
         ensures same_low { self.new.low.content.ghost_name ≡ (place_at image.entry 0).name }

@@ -400,7 +400,7 @@ pub fn fills() -> [LentRow; 2] {
 }
 
 /// Moves, among them the row backward_move_into_absent_page at the end of the caller's bytes.
-fn moves() -> [LentRow; 4] {
+pub fn moves() -> [LentRow; 4] {
     [
         changed(
             2,

@@ -1,3 +1,4 @@
+mod holes;
 mod segments;
 
 ghost use Rattle.std.specs.Prelude.{◌≡◌};

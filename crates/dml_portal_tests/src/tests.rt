@@ -10,6 +10,7 @@ mod lent;
 mod parts;
 mod portals;
 mod rounds;
+mod segments;
 mod staying;
 mod staying_clients;
 mod staying_growths;

@@ -5,6 +5,7 @@ mod clients;
 mod endings;
 mod entering;
 mod gates;
+mod given_back;
 mod growths;
 mod lent;
 mod parts;

@@ -43,13 +43,10 @@ impl<'a> Guest<'a> {
     pub(crate) fn with(self, alloc: Global, segment: Segment<'a>) -> anyhow::Result<Guest<'a>> {
         let Guest { engine } = self;
         let mut segments = engine.into_image().into_segments();
-        let behind = segments
-            .iter()
-            .position(|other| segment.first() < other.first());
-        let place = behind.unwrap_or(segments.len());
-        if segments.insert(place, segment).is_err() {
+        if segments.push(segment).is_err() {
             bail!("no memory");
         }
+        segments.sort_unstable_by_key(|segment| segment.first());
         Guest::over(alloc, segments)
     }
 

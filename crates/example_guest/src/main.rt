@@ -1,5 +1,6 @@
-//! A monitor's loop: a guest's memory lies in two segments of 64 MiB, 64 GiB apart, and its jobs in a ring there. A page
-//! fault is answered by a segment that is added, and the rest of the job is submitted; then comes a batch with a fence.
+//! A monitor's loop: a guest's memory lies in two segments of 64 MiB, 64 GiB apart, and its jobs in a ring there. A
+//! page fault is answered by a segment that is added, and the rest of the job is submitted; then comes a batch with a
+//! fence.
 #![tactic(auto)]
 
 mod guest;
@@ -31,8 +32,8 @@ fn jobs() -> [Job; 7] {
     let last_page = SEGMENT as u64 - 4096;
     [
         Job::fill(sixes, HIGH, SIZE),
-        Job::move_bytes(HIGH, last_page, 8192),
-        Job::compare(HIGH, last_page, 8192),
+        Job::move_bytes(HIGH, last_page, 12_288),
+        Job::compare(HIGH, last_page, 12_288),
         Job::move_bytes(HIGH, MIB, SIZE),
         Job::compare_pattern(HIGH, sixes, SIZE),
         Job::compare(HIGH, MIB, SIZE).with_flags(0x01),
@@ -57,7 +58,7 @@ fn print(rt: &impl Print, record: &Record) -> io::Result<()> {
     println!(rt; "status {code:02x} result {result} completed {done}")
 }
 
-/// Carries out the job of a descriptor. The first page fault is answered by a segment of these bytes.
+/// Carries out a job. Each page fault is answered by a spare page, which becomes a segment, and the rest is submitted.
 fn serve<'a, R: Threads + Wait + Sync + Print>(
     rt: &R,
     alloc: Global,
@@ -65,28 +66,34 @@ fn serve<'a, R: Threads + Wait + Sync + Print>(
     job: Job,
     spare: &mut Vec<&'a mut [u8]>,
 ) -> anyhow::Result<Guest<'a>> {
-    let mut guest = guest;
-    let (record, left) = guest.submit(rt, alloc, job);
-    print(rt, &record)?;
-    let Some(job) = left else {
-        return Ok(guest);
-    };
-    let Some(bytes) = spare.pop() else {
-        bail!("no segment is left");
-    };
-    let page = u32::try_from(record.fault / 4096)?;
-    println!(rt; "page fault at {}: page {page} begins a segment", record.fault)?;
-    let mut guest = guest.with(alloc, Segment::new(page, bytes))?;
-    let (record, _) = guest.submit(rt, alloc, job);
-    print(rt, &record)?;
+    let (mut guest, mut next) = (guest, Some(job));
+    // Each turn but the last takes a spare page.
+    for _ in 0..=spare.len() {
+        let Some(job) = next else { break };
+        let (record, left) = guest.submit(rt, alloc, job);
+        print(rt, &record)?;
+        if left.is_some() {
+            let Some(bytes) = spare.pop() else {
+                bail!("no page is left");
+            };
+            let page = u32::try_from(record.fault / 4096)?;
+            println!(rt; "page fault at {}: page {page} is a segment", record.fault)?;
+            guest = guest.with(alloc, Segment::new(page, bytes))?;
+        }
+        next = left;
+    }
     Ok(guest)
 }
 
 fn main(rt: HostRuntime) -> anyhow::Result<()> {
     let alloc = rt.alloc();
-    let (mut low, mut high) = (vec![in alloc; 0_u8; SEGMENT]?, vec![in alloc; 0_u8; SEGMENT]?);
-    let mut more = vec![in alloc; 0_u8; SIZE as usize]?;
-    let mut spare = vec![in alloc; more.as_mut_slice()]?;
+    let (mut low, mut high) = (
+        vec![in alloc; 0_u8; SEGMENT]?,
+        vec![in alloc; 0_u8; SEGMENT]?,
+    );
+    let mut more = [0; 8192];
+    let (one, other) = more.split_at_mut(4096);
+    let mut spare = vec![in alloc; other, one]?;
     enqueue(&mut low, &jobs())?;
     let segments = vec![in alloc;
         Segment::new(0, low.as_mut_slice()),

@@ -1,5 +1,5 @@
-//! Jobs over memory in segments: the rows of lent pages cut in two at each page, and jobs that meet a hole.
-use crate::tests::{LentRow, expect_record, fills, other_jobs, record, unaligned_moves};
+//! Jobs over memory in two segments far apart: from one to the other, and into the holes.
+use crate::tests::{expect_record, record, write_over};
 use dml_arena::Arena;
 use dml_effect::submit_over_segments;
 use dml_image::{Segment, are_segments};
@@ -21,97 +21,92 @@ fn carried_over(
     Ok(submit_over_segments(alloc, segments, arena, job, staging)?)
 }
 
-/// Carries out a row's job over its bytes, cut in two segments that touch at a page.
-fn expect_cut(
-    rt: &impl Abort,
-    alloc: Global,
-    arena: &mut Arena,
-    row: LentRow,
-    page: u16,
-) -> Result<(), Fail> {
-    let mut bytes = row.before(rt, alloc)?;
-    let edge = usize::from(page) * 4096;
-    assert!(rt; edge <= bytes.len());
-    let (low, high) = bytes.split_at_mut(edge);
-    let mut list = Vec::with_capacity(alloc, 2)?;
-    list.push(Segment::new(0, low))?;
-    list.push(Segment::new(u32::from(page), high))?;
-    let answer = carried_over(rt, alloc, &mut list, arena, &row.job)?;
-    drop(list);
-    row.expect_left(rt, alloc, &bytes, answer)
-}
-
-/// The same at each page.
-fn expect_all_cuts(
-    rt: &impl Abort,
-    alloc: Global,
-    arena: &mut Arena,
-    row: LentRow,
-) -> Result<(), Fail> {
-    for page in 0..row.pages {
-        expect_cut(rt, alloc, arena, row, page)?;
-    }
-    Ok(())
-}
-
-#[test]
-fn rows_over_two_segments(rt: HostRuntime) -> Result<(), Fail> {
-    let mut arena = Arena::new(rt.alloc(), 4099)?;
-    for row in fills() {
-        expect_all_cuts(&rt, rt.alloc(), &mut arena, row)?;
-    }
-    for row in other_jobs() {
-        expect_all_cuts(&rt, rt.alloc(), &mut arena, row)?;
-    }
-    for row in unaligned_moves() {
-        expect_all_cuts(&rt, rt.alloc(), &mut arena, row)?;
-    }
-    Ok(())
-}
-
 /// Where the second of two segments begins: page 2^24, at 64 GiB.
 const FAR: u32 = 16_777_216;
 
 const FAR_BYTES: u64 = 4096 * FAR as u64;
 
-/// Carries out a job over a page full of 1 at page 1 and one full of 2 at page 2^24, and checks its answer.
-fn expect_far(
-    rt: &impl Abort,
-    alloc: Global,
-    arena: &mut Arena,
+/// A job over a page full of 1 at page 1 and one full of 2 at page 2^24; its answer, bytes that it leaves in the first
+/// page from a place on, and the places of the second page that it fills with 1.
+#[derive(Clone, Copy)]
+struct FarRow<'a> {
     job: Job,
-    want: Record,
-) -> Result<(), Fail> {
-    let (mut low, mut high) = ([1; 4096], [2; 4096]);
-    let mut list = Vec::with_capacity(alloc, 2)?;
-    list.push(Segment::new(1, &mut low))?;
-    list.push(Segment::new(FAR, &mut high))?;
-    let answer = carried_over(rt, alloc, &mut list, arena, &job)?;
-    expect_record(rt, &job, answer, want);
-    Ok(())
+    answer: Record,
+    low: (usize, &'a [u8]),
+    ones: (usize, usize),
+}
+
+/// A job that changes nothing.
+fn unchanged(job: Job, answer: Record) -> FarRow<'static> {
+    FarRow {
+        job,
+        answer,
+        low: (0, &[]),
+        ones: (0, 0),
+    }
+}
+
+impl FarRow<'_> {
+    /// Carries out the job, and compares its answer and all bytes.
+    fn expect(&self, rt: &impl Abort, alloc: Global, arena: &mut Arena) -> Result<(), Fail> {
+        let (mut low, mut high) = ([1; 4096], [2; 4096]);
+        let mut list = Vec::with_capacity(alloc, 2)?;
+        list.push(Segment::new(1, &mut low))?;
+        list.push(Segment::new(FAR, &mut high))?;
+        let answer = carried_over(rt, alloc, &mut list, arena, &self.job)?;
+        drop(list);
+        expect_record(rt, &self.job, answer, self.answer);
+        let (mut left, mut right) = ([1; 4096], [2; 4096]);
+        write_over(rt, &mut left, self.low.0, self.low.1);
+        assert!(rt; self.ones.0 <= self.ones.1 && self.ones.1 <= 4096);
+        right[self.ones.0..self.ones.1].fill(1);
+        assert!(rt; low == left && high == right, "{:?}", self.job);
+        Ok(())
+    }
+}
+
+/// Moves from one segment to the other, into the hole behind it too, and fills.
+fn far_writes() -> [FarRow<'static>; 5] {
+    [
+        FarRow {
+            ones: (0, 4096),
+            ..unchanged(
+                Job::move_bytes(4096, FAR_BYTES, 4096),
+                record(Status::Success, 0, 4096, 0),
+            )
+        },
+        FarRow {
+            ones: (0, 4096),
+            ..unchanged(
+                Job::move_bytes(4096, FAR_BYTES, 4097),
+                record(Status::ReadFault, 0, 4096, 8192),
+            )
+        },
+        FarRow {
+            ones: (2, 4096),
+            ..unchanged(
+                Job::move_bytes(4097, FAR_BYTES + 2, 4095),
+                record(Status::WriteFault, 0, 4094, FAR_BYTES + 4096),
+            )
+        },
+        FarRow {
+            low: (4088, &[7, 0, 0, 0, 0, 0, 0, 0]),
+            ..unchanged(
+                Job::fill(7, 8184, 16),
+                record(Status::WriteFault, 0, 8, 8192),
+            )
+        },
+        unchanged(Job::fill(7, 0, 16), record(Status::WriteFault, 0, 0, 0)),
+    ]
 }
 
 #[test]
 fn faults_at_holes(rt: HostRuntime) -> Result<(), Fail> {
     let mut arena = Arena::new(rt.alloc(), 4099)?;
-    for (job, want) in [
-        (
-            Job::move_bytes(4096, FAR_BYTES, 4096),
-            record(Status::Success, 0, 4096, 0),
-        ),
-        (
-            Job::move_bytes(4096, FAR_BYTES, 4097),
-            record(Status::ReadFault, 0, 4096, 8192),
-        ),
-        (
-            Job::move_bytes(4097, FAR_BYTES + 2, 4095),
-            record(Status::WriteFault, 0, 4094, FAR_BYTES + 4096),
-        ),
-        (
-            Job::fill(7, 8184, 16),
-            record(Status::WriteFault, 0, 8, 8192),
-        ),
-        (Job::fill(7, 0, 16), record(Status::WriteFault, 0, 0, 0)),
+    for row in far_writes() {
+        row.expect(&rt, rt.alloc(), &mut arena)?;
+    }
+    for (job, answer) in [
         (
             Job::compare(4096, FAR_BYTES, 64),
             record(Status::Success, 1, 0, 0),
@@ -121,7 +116,7 @@ fn faults_at_holes(rt: HostRuntime) -> Result<(), Fail> {
             record(Status::ReadFault, 0, 0, FAR_BYTES - 8),
         ),
     ] {
-        expect_far(&rt, rt.alloc(), &mut arena, job, want)?;
+        unchanged(job, answer).expect(&rt, rt.alloc(), &mut arena)?;
     }
     Ok(())
 }

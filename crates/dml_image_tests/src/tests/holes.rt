@@ -1,12 +1,14 @@
 //! Segments that touch, holes between them, and empty ones: moves, fills, reads and looks at presence over their edges;
 //! what does not go of lent memory; and segments that stand in a caller's slice.
 ghost use Rattle.std.specs.Prelude.{◌≡◌};
+ghost use Rattle.dml_image.specs.Pieces.{AreSegments};
+ghost use Rattle.dml_image.specs.Two.{pieces_of_two};
 
 use super::{
     MOVES, bring_full, expect_bring, expect_byte, expect_bytes, expect_filled, expect_first_absent,
     expect_pages, move_inside, moved, some_bytes,
 };
-use dml_image::{Image, ImageError, Lent, Segment, Whole, are_segments, put_back, take_out};
+use dml_image::{Image, ImageError, Lent, Segment, Two, Whole, are_segments, put_back, take_out};
 use dml_types::Direction;
 use std::alloc::Global;
 use std::mem;
@@ -112,16 +114,12 @@ fn with_holes<'a>(alloc: Global, content: &'a mut [u8; 20_480]) -> Result<Vec<Se
     let (middle, rest) = rest.split_at_mut(4096);
     let (high, last) = rest.split_at_mut(4096);
     let mut segments = Vec::with_capacity(alloc, 6)?;
-    for (first, bytes) in [
-        (1, low),
-        (3, middle),
-        (4, &mut []),
-        (5, &mut []),
-        (5, high),
-        (7, last),
-    ] {
-        segments.push(Segment::new(first, bytes))?;
-    }
+    segments.push(Segment::new(1, low))?;
+    segments.push(Segment::new(3, middle))?;
+    segments.push(Segment::new(4, &mut []))?;
+    segments.push(Segment::new(5, &mut []))?;
+    segments.push(Segment::new(5, high))?;
+    segments.push(Segment::new(7, last))?;
     Ok(segments)
 }
 
@@ -174,7 +172,14 @@ fn pages_brought_over_holes(rt: HostRuntime) -> Result<(), Fail> {
     }
     let first: Option<u32> = image.into_segments().first().map(|segment| segment.first());
     assert_eq!(rt; first, Some(1));
-    for (place, byte) in [(8191, 1), (8192, 7), (12_287, 7), (12_288, 1), (16_383, 1), (16_384, 8)] {
+    for (place, byte) in [
+        (8191, 1),
+        (8192, 7),
+        (12_287, 7),
+        (12_288, 1),
+        (16_383, 1),
+        (16_384, 8),
+    ] {
         assert_eq!(rt; content[place], byte, "byte {place}");
     }
     Ok(())
@@ -277,4 +282,29 @@ fn refused_evict(rt: HostRuntime) -> Result<(), Fail> {
     assert_eq!(rt; image.evict(0), Ok(true));
     expect_byte(&rt, &image, 0, None);
     Ok(())
+}
+
+/// Two segments that are a memory, at page 0 and at page 3.
+fn two<'a>(low: &'a mut [u8; 8192], high: &'a mut [u8; 4096]) -> Two<'a>
+    ensures { AreSegments (pieces_of_two result) }
+{
+    Two::new(Segment::new(0, low), Segment::new(3, high))
+}
+
+/// Two segments are an image until they are put back, or there is no memory for a list of them.
+#[test]
+fn refused_take(rt: HostRuntime) {
+    let (mut low, mut high) = ([1; 8192], [2; 4096]);
+    let mut two = two(&mut low, &mut high);
+    let brought = match two.take(rt.alloc()) {
+        Ok(image) => {
+            let mut image = image;
+            expect_bring(&rt, &mut image, 3, 7, Ok(()));
+            two.put(image);
+            7
+        }
+        Err(_) => 2,
+    };
+    drop(two);
+    assert!(rt; low == [1; 8192] && high == [brought; 4096]);
 }

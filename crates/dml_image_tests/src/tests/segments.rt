@@ -35,12 +35,7 @@ fn expect_segments(
 }
 
 /// The same of one segment of these bytes, at page 0.
-fn expect_one(
-    rt: &impl Abort,
-    alloc: Global,
-    content: &mut [u8],
-    taken: bool,
-) -> Result<(), Fail> {
+fn expect_one(rt: &impl Abort, alloc: Global, content: &mut [u8], taken: bool) -> Result<(), Fail> {
     let mut list = Vec::with_capacity(alloc, 1)?;
     list.push(Segment::new(0, content))?;
     assert_eq!(rt; are_segments(&list), taken, "one segment");

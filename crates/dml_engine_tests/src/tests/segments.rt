@@ -36,7 +36,8 @@ fn ends_at(row: &Row, page: u32, cuts: u32) -> bool {
         || (page < 32 && cuts & (1 << page) != 0)
 }
 
-/// The segments of a row's pages that are present, cut so.
+/// The segments of a row's pages that are present, cut so, and an empty one behind the last page, so that there are as
+/// many pages where that is absent.
 fn segments_of<'a>(
     alloc: Global,
     row: &Row,
@@ -56,6 +57,7 @@ fn segments_of<'a>(
             first = page;
         }
     }
+    segments.push(Segment::new(row.pages, rest)).ok()?;
     Some(segments)
 }
 
@@ -79,8 +81,18 @@ fn expect_cut<R: Abort + Threads + Wait + Sync>(
     Some(content)
 }
 
-/// A row's answers over its pages in segments that are cut in front of each choice of its first pages, and what it leaves
-/// as over an image's own pages.
+/// How many choices there are of pages in front of which a row is cut: of those behind the first, of three at most.
+fn choices(row: &Row) -> u32 {
+    match row.pages {
+        0 | 1 => 1,
+        2 => 2,
+        3 => 4,
+        _ => 8,
+    }
+}
+
+/// A row's answers over its pages in segments that are cut in front of each choice of its pages, and what it leaves as
+/// over an image's own pages. With a gate that is given it is cut in front of all.
 pub(super) fn over_segments<R: Abort + Threads + Wait + Sync>(
     rt: &R,
     alloc: Global,
@@ -90,11 +102,9 @@ pub(super) fn over_segments<R: Abort + Threads + Wait + Sync>(
     given: bool,
     own: &Image,
 ) -> Option<()> {
-    if row.present.is_empty() {
-        return Some(());
-    }
-    for choice in 0..8_u32 {
-        if choice == 0 || row.pages > 3 || choice < 1 << row.pages.saturating_sub(1) {
+    let choices = choices(row);
+    for choice in 0..choices {
+        if !given || choice + 1 == choices {
             let content = expect_cut(rt, alloc, row, way, settings, given, 2 * choice)?;
             expect_same(rt, row, own, content.as_slice());
         }

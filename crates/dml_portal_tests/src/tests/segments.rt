@@ -27,8 +27,8 @@ fn expect_page(rt: &impl Abort, page: &[u8; 4096], front: &[u8], back: &[u8]) {
     assert!(rt; page[8..].starts_with(front) && page.ends_with(back));
 }
 
-/// What a client's jobs write stands in the caller's memory, up to the end of the second of two segments that touch, and
-/// up to a hole behind the first.
+/// What a client's jobs write stands in the caller's memory, up to the end of the second of two segments that touch,
+/// and up to a hole behind the first.
 #[test]
 fn portal_over_segments(rt: HostRuntime) -> Result<(), Fail> {
     let (moved, filled) = ([3, 4, 5, 6, 0], [0, 1, 2, 3, 4, 5, 6]);

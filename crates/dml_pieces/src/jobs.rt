@@ -1,5 +1,6 @@
-//! Random jobs over some pages: of each operation, with ranges that begin and end near the edges of pages, and some that
-//! break a rule.
+//! Random jobs over some pages: of each operation, with ranges that begin and end near the edges of pages, and some
+//! that break a rule.
+ghost use Rattle.std.specs.Prelude.{◌<◌, ◌^◌};
 
 use crate::random::Random;
 use dml_types::{Job, Op, Record};
@@ -31,23 +32,23 @@ impl Jobs {
     }
 
     /// The next job.
-    pub(crate) fn next(&mut self) -> Job {
+    pub(crate) fn next_job(&mut self) -> Job {
         let job = self.plain();
         match self.random.below(60) {
             0 => job.with_flags(self.random.below(512)),
-            1 => job.with_check(self.random.below(3) as u8),
-            2 => Job {
+            1 => Job {
                 opcode: self.random.below(256) as u8,
                 ..job
             },
-            3 => Job {
+            2 => Job {
                 size: self.random.below(1 << 21),
                 ..job
             },
-            4 => Job {
+            3 => Job {
                 target: u64::MAX - u64::from(self.random.below(4096)),
                 ..job
             },
+            4..=8 => job.with_check(self.random.below(3) as u8),
             _ => job,
         }
     }
@@ -80,7 +81,9 @@ impl Jobs {
     }
 
     /// An address in some page, or in one of the two behind the last.
-    fn address(&mut self) -> u64 {
+    fn address(&mut self) -> u64
+        ensures { result < 2 ^ 45 }
+    {
         let page = u64::from(self.random.below(self.pages.saturating_add(2).max(1)));
         let offset = match self.random.below(4) {
             0 => 0,
@@ -102,7 +105,9 @@ impl Jobs {
     }
 
     /// An address that is a multiple of 8, but for one in 30.
-    fn aligned(&mut self) -> u64 {
+    fn aligned(&mut self) -> u64
+        ensures { result < 2 ^ 45 }
+    {
         let addr = self.address();
         if self.random.one_in(30) {
             addr

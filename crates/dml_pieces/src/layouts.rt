@@ -13,7 +13,8 @@ pub(crate) struct Place {
     end: u32,
 }
 
-/// One to eight segments of up to three pages, each behind a hole of up to three or right behind the one before.
+/// One to eight segments of up to three pages, and one of a single page: each behind a hole of up to three pages, or
+/// right behind the one before.
 pub(crate) fn places(alloc: Global, random: &mut Random) -> Result<Vec<Place>, AllocError> {
     let mut places = Vec::new(alloc);
     let mut end = 0_u32;
@@ -26,7 +27,7 @@ pub(crate) fn places(alloc: Global, random: &mut Random) -> Result<Vec<Place>, A
     let first = end;
     places.push(Place {
         first,
-        end: first.wrapping_add(1), // so that there is a page
+        end: first.wrapping_add(1),
     })?;
     Ok(places)
 }

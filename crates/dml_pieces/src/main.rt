@@ -48,7 +48,7 @@ fn compare(
     let staging = arena.size();
     let mut source = Jobs::new(random, pages_of(&places));
     for _ in 0..jobs {
-        let job = source.next();
+        let job = source.next_job();
         let answer = submit_to(&mut own, &mut arena, &job, staging);
         let other = submit_to(&mut lent, &mut arena, &job, staging);
         ensure!(

@@ -1,4 +1,4 @@
-//! Looks at presence and moves over memory in segments, and the same over one piece.
+//! Looks at presence, moves and fills over memory in segments, and the same over one piece.
 ghost use Rattle.std.specs.Prelude.{◌<◌};
 
 use dml_arena::Arena;
@@ -20,10 +20,7 @@ fn start(segment: u32) -> u64 {
 /// Memory in eight segments: the first half of each 2 MiB.
 fn eight_segments<'a>(alloc: Global, content: &'a mut [u8]) -> io::Result<Image<'a>> {
     let mut segments = Vec::with_capacity(alloc, 8)?;
-    for (number, part) in content
-        .chunks_exact_mut(2 * MEBIBYTE as usize)
-        .enumerate()
-    {
+    for (number, part) in content.chunks_exact_mut(2 * MEBIBYTE as usize).enumerate() {
         let (bytes, _) = part.split_at_mut(MEBIBYTE as usize);
         let Ok(number) = u32::try_from(number) else {
             return Err(io::ErrorKind::InvalidData.into());
@@ -54,9 +51,10 @@ fn over<'a>(segments: Vec<Segment<'a>>) -> io::Result<Image<'a>> {
     Ok(Image::over_segments(segments))
 }
 
-/// An address of a look: of one segment after another, 64 bytes further in each turn.
+/// An address of a look: of a segment, and a place in it, that nothing before tells.
 fn place(look: u32) -> u64 {
-    start(look % 8) + u64::from(look / 8 % 16_384) * 64
+    let mixed = look.wrapping_mul(0x9e37_79b1);
+    start(mixed >> 29) + u64::from(mixed >> 13 & 0x3fff) * 64
 }
 
 /// How many bytes are present, of those at so many places.
@@ -106,12 +104,13 @@ fn submitted(image: &mut Image, arena: &mut Arena, job: &Job) -> Option<Status> 
     Some(submit_to(image, arena, job, MEBIBYTE).status)
 }
 
-/// Times moves from one segment to another.
-fn time_moves(
+/// Times a job.
+fn time_job(
     rt: &HostRuntime,
     name: &str,
+    row: &str,
     image: &mut Image,
-    size: u32,
+    job: &Job,
     calls: u32,
 ) -> io::Result<()>
     requires { 0 < calls }
@@ -119,27 +118,41 @@ fn time_moves(
     let Ok(mut arena) = Arena::new(rt.alloc(), MEBIBYTE) else {
         return Err(io::ErrorKind::OutOfMemory.into());
     };
-    let job = Job::move_bytes(start(2), start(5), size);
-    submitted(image, &mut arena, &job);
+    submitted(image, &mut arena, job);
     let begin = Instant::now(rt)?;
     for _ in 0..calls {
-        if submitted(image, &mut arena, &job) != Some(Status::Success) {
+        if submitted(image, &mut arena, job) != Some(Status::Success) {
             return Err(io::ErrorKind::InvalidData.into());
         }
     }
     let nanoseconds = begin.elapsed(rt)?.as_nanos() / u128::from(calls);
-    eprintln!(rt; "{name}_move {size} {nanoseconds}")
+    eprintln!(rt; "{name}_{row} {} {nanoseconds}", job.size)
 }
 
-/// Times looks and moves over one memory.
+/// Times moves from one segment to another, of a page over a page's edge too, and a fill.
+fn time_jobs(rt: &HostRuntime, name: &str, image: &mut Image, measures: bool) -> io::Result<()> {
+    let (source, target) = (start(2), start(5));
+    let few = if measures { 400 } else { 1 };
+    let many = if measures { 200_000 } else { 1 };
+    for (row, job, calls) in [
+        ("move", Job::move_bytes(source, target, 64), many),
+        ("move", Job::move_bytes(source, target, 4096), many),
+        ("move", Job::move_bytes(source, target, MEBIBYTE), few),
+        ("edge", Job::move_bytes(source + 8, target + 8, 4096), many),
+        ("fill", Job::fill(7, target, 4096), many),
+    ] {
+        time_job(rt, name, row, image, &job, calls)?;
+    }
+    Ok(())
+}
+
+/// Times looks and jobs over one memory.
 fn time_over(rt: &HostRuntime, name: &str, image: &mut Image, measures: bool) -> io::Result<()> {
     time_looks(rt, name, image, if measures { 1 << 24 } else { 1 })?;
-    time_moves(rt, name, image, 64, if measures { 400_000 } else { 1 })?;
-    time_moves(rt, name, image, 4096, if measures { 200_000 } else { 1 })?;
-    time_moves(rt, name, image, MEBIBYTE, if measures { 400 } else { 1 })
+    time_jobs(rt, name, image, measures)
 }
 
-/// Times looks and moves over one piece, one segment and eight.
+/// Times looks and jobs over one piece, one segment and eight.
 pub(crate) fn time_segments(rt: &HostRuntime, measures: bool) -> io::Result<()> {
     let mut content = Vec::from_elem(rt.alloc(), 0x5a, 16 * MEBIBYTE as usize)?;
     let mut whole = Whole::new(content.as_mut_slice());

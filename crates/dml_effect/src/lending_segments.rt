@@ -14,8 +14,8 @@ use std::alloc::{AllocError, Global};
 /// Checks a job and carries it out over segments of the caller's memory, which hold what the job wrote afterwards; or
 /// answers its refusal, and changes nothing then.
 ///
-/// [`are_segments`](dml_image::are_segments) is the test of the segments, and [`takes_staging`](crate::takes_staging) of
-/// whether room is asked for.
+/// [`are_segments`](dml_image::are_segments) is the test of the segments, and [`takes_staging`](crate::takes_staging)
+/// of whether room is asked for.
 ///
 /// # Errors
 /// There is no memory for a list of the segments; then all stays as it was.

@@ -5,7 +5,7 @@ use Rattle.std.proofs.lemmas.Bool.{cases_lt, false≢true}
 use Rattle.dml_types.specs.Memory.{Memory, IsMemory, InSegments, Place, Put, has, bytes_at, overwrite, put, puts_made}
 use Rattle.dml_types.proofs.MemoryLemmas.{length_overwrite}
 use Rattle.dml_image.specs.Blocks.{after_puts, AreInside}
-use Rattle.dml_image.specs.Pieces.{Piece, AreInOrder, AreSegments, IsIn, bytes_from, end_of, marks_from, no_piece, over, pages_of, piece_at, pieces_memory, place_at, place_of, segment_bytes, written}
+use Rattle.dml_image.specs.Pieces.{Piece, AreInOrder, AreSegments, IsIn, bytes_from, end_of, marks_from, no_piece, over, pages_of, piece_at, pieces_memory, place_of, written}
 use Rattle.dml_image.proofs.TableLemmas.{overwrite_back, overwrite_front, same_back, same_front}
 
 -- each page has its bytes
@@ -280,14 +280,23 @@ piece_bytes pieces k order below =
     all : (bytes : List ℕ) → take (length bytes) (drop 0 bytes) ≡ bytes
     all bytes = same_lists _ _ (search (rules, places)) (λ i d h. grind (arith, places))
 
--- where a piece lies as a segment of their memory, and its bytes
-place_is : (pieces : List Piece) (k : ℕ) → place_at (pieces_memory pieces) k ≡ place_of (piece_at pieces k)
-place_is [] k = refl
-place_is (piece ∷ pieces) zero = refl
-place_is (piece ∷ pieces) (suc k) = place_is pieces k
+-- two pieces that are a memory, and what those have
+two_pages : (low high : Piece) → end_of low ≤ high.first → length (marks_from 0 (low ∷ high ∷ [])) ≡ end_of high
+two_pages low high behind =
+    let size : length (marks_from 0 (low ∷ high ∷ [])) ≡ (low.first - 0) + (pages_of low + ((high.first - end_of low) + pages_of high)) = search (rules, places) in
+    omega (arith, size, behind)
 
-pub segment_is : (pieces : List Piece) (k : ℕ) → AreInOrder 0 pieces → k < length pieces → segment_bytes (pieces_memory pieces) k ≡ (piece_at pieces k).bytes
-segment_is pieces k order below =
-    ap (λ (place : Place). bytes_at (pieces_memory pieces) (4096 * place.first) (4096 * place.pages)) (place_is pieces k)
-    ∙ (ap (bytes_at (pieces_memory pieces) (4096 * (piece_at pieces k).first)) (omega (arith, whole_piece 0 pieces k no_piece order below))
-    ∙ piece_bytes pieces k order below)
+pub two_are : (low high : Piece) → length low.bytes % 4096 ≡ 0 → length high.bytes % 4096 ≡ 0 → end_of low ≤ high.first → 1 ≤ end_of high → end_of high ≤ 4294967295 → AreSegments (low ∷ high ∷ [])
+two_are low high low_whole high_whole behind some most =
+    let pages = two_pages low high behind in
+    record {
+      order = (omega arith, low_whole, (behind, high_whole, tt));
+      least_pages = omega (arith, pages, some);
+      most_pages = omega (arith, pages, most);
+    }
+
+pub two_is : (low high : Piece) → AreSegments (low ∷ high ∷ []) → (length low.bytes % 4096 ≡ 0) × (length high.bytes % 4096 ≡ 0) × (end_of low ≤ high.first) × (1 ≤ end_of high) × (end_of high ≤ 4294967295)
+two_is low high are =
+    let order = are.order in
+    let pages = two_pages low high order.2.0 in
+    (order.1, order.2.1, order.2.0, omega (arith, pages, are.least_pages), omega (arith, pages, are.most_pages))

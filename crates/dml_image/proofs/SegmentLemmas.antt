@@ -21,7 +21,7 @@ piece_is [] k segment below at = absurd (omega arith)
 piece_is (first ∷ segments) zero segment below at = ap piece_of (sym at)
 piece_is (first ∷ segments) (suc k) segment below at = piece_is segments k segment (omega arith) at
 
-pieces_set : (segments : List Segment) (k : ℕ) (other : Segment) → pieces_of (set segments k other) ≡ set (pieces_of segments) k (piece_of other)
+pub pieces_set : (segments : List Segment) (k : ℕ) (other : Segment) → pieces_of (set segments k other) ≡ set (pieces_of segments) k (piece_of other)
 pieces_set [] k other = refl
 pieces_set (segment ∷ segments) zero other = refl
 pieces_set (segment ∷ segments) (suc k) other = ap (λ pieces. piece_of segment ∷ pieces) (pieces_set segments k other)
@@ -176,7 +176,7 @@ module _ (items : List Segment) (address n : ℕ) (order : AreInOrder 0 (pieces_
         }
 
 -- bytes of a segment that are copied: of the one that they are copied to, or of another beside it
-piece_at_is : (list : List Segment) (k : ℕ) (d : Segment) → k < length list → piece_at (pieces_of list) k ≡ piece_of (get_or list k d)
+pub piece_at_is : (list : List Segment) (k : ℕ) (d : Segment) → k < length list → piece_at (pieces_of list) k ≡ piece_of (get_or list k d)
 piece_at_is [] k d below = absurd (omega arith)
 piece_at_is (segment ∷ list) zero d below = refl
 piece_at_is (segment ∷ list) (suc k) d below = piece_at_is list k d (omega arith)

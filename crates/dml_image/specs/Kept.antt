@@ -1,4 +1,5 @@
--- What an image's pages are to contracts: its own, or lent memory, which names the reference that was lent, or segments.
+-- What an image's pages are to contracts: its own, or lent memory, which names the reference that was lent, or
+-- segments.
 use Rattle.std.specs.Prelude.{ℕ, ◌/◌, Bool, true, List, [], ◌∷◌, Option, Some, None, length, replicate}
 use Rattle.dml_types.specs.Memory.{Memory, Loan, ByHome, InOnePiece, memory_of, page_size}
 use Rattle.dml_image.specs.declared.images.Pages.TheVariants as pages

@@ -1,5 +1,5 @@
--- Memory that is lent in segments: the first page of each and the bytes of its whole pages, in rising order, and no page
--- in two of them. A page in none of them is absent and stands as zeros.
+-- Memory that is lent in segments: the first page of each and the bytes of its whole pages, in rising order, and no
+-- page in two of them. A page in none of them is absent and stands as zeros.
 use Rattle.std.specs.Prelude.{⊤, ◌≡◌, ℕ, ◌+◌, ◌-◌, ◌*◌, ◌/◌, ◌%◌, ◌<◌, ◌≤◌, Bool, true, false, List, [], ◌∷◌, ◌++◌, None, length, map, replicate, slice_index_or, slice_set}
 use Rattle.dml_types.specs.Memory.{Memory, Loan, ByHome, InOnePiece, InSegments, Place, bytes_at, overwrite, page_size}
 use Rattle.dml_image.specs.declared.segments.Segment.{Segment}
@@ -66,6 +66,10 @@ no_piece = record { first = 0; bytes = []; name = 0 }
 
 abbrev pub piece_at : List Piece → ℕ → Piece
 piece_at pieces k = slice_index_or pieces k no_piece
+
+-- nothing is left of it but its first page
+abbrev pub IsTakenOut : Piece → Piece → Type 0
+IsTakenOut left before = (left.first ≡ before.first) × (left.bytes ≡ [])
 
 -- an address is one of a piece's
 abbrev pub IsIn : Piece → ℕ → Type 0

@@ -1,6 +1,6 @@
 //! Segments that stand in a caller's slice: taken out for an image, and put back.
-ghost use Rattle.std.specs.Prelude.{◌≡◌, ◌≤◌, [], length, vec_capacity};
-ghost use Rattle.dml_image.specs.Pieces.{pieces_of};
+ghost use Rattle.std.specs.Prelude.{◌≡◌, ◌≤◌, [], length, vec_capacity, EachIndex};
+ghost use Rattle.dml_image.specs.Pieces.{IsTakenOut, piece_at, pieces_of};
 
 use crate::segments::Segment;
 
@@ -11,6 +11,8 @@ pub fn take_out<'a>(segments: &mut [Segment<'a>], list: &mut Vec<Segment<'a>>)
     requires room { length segments.old ≤ vec_capacity list.old }
     ensures taken { pieces_of list.new.items ≡ pieces_of segments.old }
     ensures as_many { length segments.new ≡ length segments.old }
+    ensures left { EachIndex segments.new (λ k.
+        IsTakenOut (piece_at (pieces_of segments.new) k) (piece_at (pieces_of segments.old) k)) }
 {
     for k in 0..segments.len() {
         let first = segments[k].first();

@@ -45,7 +45,8 @@ pub fn put_inside(bytes: &mut [u8], begin: u64, target: u64, entries: &[u8], fir
     put_singly(bytes, begin, target, entries, done)
 }
 
-/// Puts the blocks of four entries from entry `first` on, where all of them lie among the bytes. Returns whether they do.
+/// Puts the blocks of four entries from entry `first` on, where all of them lie among the bytes. Returns whether they
+/// do.
 #[inline(always)]
 fn put_four(bytes: &mut [u8], begin: u64, target: u64, entries: &[u8], first: usize) -> bool
     requires end { begin + length bytes.old ≤ 2 ^ 64 }

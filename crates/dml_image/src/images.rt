@@ -206,8 +206,8 @@ impl Image<'_> {
     ///
     /// # Errors
     /// `NoSuchPage` where the image has no page of this number, and `NoMemory`, which a page that is present never
-    /// meets, and an absent one of lent memory always, one in no segment too, though no allocation is refused. Both leave
-    /// the image as it was.
+    /// meets, and an absent one of lent memory always, one in no segment too, though no allocation is refused. Both
+    /// leave the image as it was.
     #[tactic(auto, using(crate::proofs::WriteLemmas::brought_keeps))]
     pub fn bring(&mut self, page: u32, bytes: &[u8; 4096]) -> Result<(), ImageError>
         ensures ok { OnOk result (self.new ≡ brought self.old page bytes.now) }
@@ -241,23 +241,31 @@ impl Image<'_> {
         ensures kept { result ≢ Ok true → self.new ≡ self.old }
         ensures memory { IsMemory self.new }
     {
-        if page >= self.pages() {
-            return Err(ImageError::NoSuchPage);
+        if page < self.pages() {
+            Ok(self.pages.evict(page as usize))
+        } else {
+            Err(ImageError::NoSuchPage)
         }
-        Ok(self.pages.evict(page as usize))
     }
 
-    /// Marks which pages from `first` on are present.
+    /// Marks which pages from `first` on are present; past the last page none is.
     pub fn mark_present(&self, first: u32, marks: &mut [bool])
-        requires { first + length marks.old ≤ length self.now.present }
         ensures marks { EachIndex marks.new (λ i. slice_index_or marks.new i false ≡ has_page self.now (first + i)) }
+        ensures as_many { length marks.new ≡ length marks.old }
         ensures memory { IsMemory self.now }
     {
         let _ = &self.pages; // what is looked at is an image
         let begin = u64::from(first);
         for (i, mark) in marks.iter_mut().enumerate() {
-            *mark = self.has(PAGE_SIZE as u64 * (begin + i as u64));
+            *mark = self.has_page(begin + i as u64);
         }
+    }
+
+    /// Whether a page is present.
+    fn has_page(&self, page: u64) -> bool
+        ensures { result ≡ has_page self.now page }
+    {
+        page < u64::from(self.pages()) && self.has(PAGE_SIZE as u64 * page)
     }
 
     /// Whether the byte at this address is present.
@@ -388,8 +396,8 @@ impl Image<'_> {
         self.present_over_pages(addr, len, direction)
     }
 
-    /// The same for bytes that lie in more than one page. It stands apart, so that nothing is saved for it where all lie
-    /// in one page.
+    /// The same for bytes that lie in more than one page. It stands apart, so that nothing is saved for it where all
+    /// lie in one page.
     #[inline(never)]
     fn present_over_pages(&self, addr: u64, len: u32, direction: Direction) -> u32
         requires { addr + len ≤ 2 ^ 64 }

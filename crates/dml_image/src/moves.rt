@@ -97,7 +97,8 @@ impl Pages<'_> {
         }
     }
 
-    /// Copies bytes before one address to those before another, as many as go at once, `most` at most. Returns how many.
+    /// Copies bytes before one address to those before another, as many as go at once, `most` at most. Returns how
+    /// many.
     fn copy_before(&mut self, from: u64, to: u64, most: usize) -> usize
         requires memory { IsMemory (kept_by self.old) }
         requires some { 0 < most }

@@ -51,8 +51,8 @@ impl<'a> Segments<'a> {
     }
 }
 
-// Each call of an image over segments stands apart, and is said to be rare: so one over pages has none of its frame, and
-// asks for its own kind first.
+// What goes over bytes in segments stands apart, and but for moves is said to be rare: so a call over pages has none of
+// its frame, and asks for its own kind first.
 impl Segments<'_> {
     /// The number of pages, up to the end of the last segment.
     pub fn pages(&self) -> usize
@@ -259,8 +259,8 @@ impl Segments<'_> {
         }
     }
 
-    /// Copies bytes from one address on to those from another on, as many as go at once and as the segments of both have
-    /// there, `most` at most. Returns how many.
+    /// Copies bytes from one address on to those from another on, as many as go at once and as the segments of both
+    /// have there, `most` at most. Returns how many.
     #[inline(never)]
     pub fn copy_behind(&mut self, from: u64, to: u64, most: usize) -> usize
         requires some { 0 < most }

@@ -42,6 +42,7 @@ impl<'a> Segment<'a> {
     pub(crate) fn take(&mut self) -> &'a mut [u8]
         ensures bytes { result.now ≡ self.old.content.now }
         ensures same_reference { result.ghost_name ≡ self.old.content.ghost_name }
+        ensures left { self.new.content.now ≡ [] }
         ensures first { self.new.first ≡ self.old.first }
     {
         std::mem::take(&mut self.content)
@@ -55,8 +56,8 @@ impl<'a> Segment<'a> {
     }
 }
 
-/// Whether segments are a memory: whole pages in rising order, none of them in two, and 1 to 2^32 - 1 pages up to the end
-/// of the last one.
+/// Whether segments are a memory: whole pages in rising order, none of them in two, and 1 to 2^32 - 1 pages up to the
+/// end of the last one.
 pub fn are_segments(list: &[Segment<'_>]) -> bool
     ensures { IsTrue result ↔ AreSegments (pieces_of list.now) }
 {
@@ -72,8 +73,8 @@ pub fn are_segments(list: &[Segment<'_>]) -> bool
     end >= 1 && end <= u64::from(MAX_WHOLE_PAGES)
 }
 
-/// Where an address is in a list of segments: in which of them, how many of its bytes come before, and how many there are
-/// from there to its end.
+/// Where an address is in a list of segments: in which of them, how many of its bytes come before, and how many there
+/// are from there to its end.
 #[derive(Clone, Copy)]
 pub struct Spot {
     pub segment: usize,

@@ -40,8 +40,8 @@ pub fn copy_at(content: &mut [u8], from: usize, to: usize, len: usize)
     }
 }
 
-/// Copies [`SHORT`] bytes of a slice from one place to another. Their number is known, so what they are held in needs no
-/// zeros first.
+/// Copies [`SHORT`] bytes of a slice from one place to another. Their number is known, so what they are held in needs
+/// no zeros first.
 #[tactic(auto, using(crate::proofs::SliceLemmas::put_mid_overwrite))]
 fn copy_short(content: &mut [u8], from: usize, to: usize)
     requires { (from + 256 ≤ length content.old) × (to + 256 ≤ length content.old) }

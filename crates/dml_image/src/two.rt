@@ -4,6 +4,7 @@ ghost use Rattle.dml_image.specs.Two.{has_two_segments, pieces_of_two};
 
 use crate::images::Image;
 use crate::segments::Segment;
+use crate::{MAX_WHOLE_PAGES, PAGE_SIZE};
 use std::alloc::{AllocError, Global};
 
 /// Two segments of a caller's memory that are lent to an image together.
@@ -22,6 +23,23 @@ impl<'a> Two<'a> {
         ensures { pieces_of_two result ≡ piece_of low.entry ∷ piece_of high.entry ∷ [] }
     {
         Two { low, high }
+    }
+
+    /// Whether they may be taken: whole pages, the higher segment behind the lower one, and 1 to 2^32 - 1 pages up to
+    /// its end.
+    #[tactic(auto, using(crate::proofs::PieceLemmas::two_are, crate::proofs::PieceLemmas::two_is))]
+    pub fn is_memory(&self) -> bool
+        ensures { IsTrue result ↔ AreSegments (pieces_of_two self.now) }
+    {
+        let (low, high) = (self.low.bytes().len(), self.high.bytes().len());
+        let behind_low = u64::from(self.low.first()) + (low / PAGE_SIZE) as u64;
+        let begin = u64::from(self.high.first());
+        let end = begin + (high / PAGE_SIZE) as u64;
+        low % PAGE_SIZE == 0
+            && high % PAGE_SIZE == 0
+            && behind_low <= begin
+            && end >= 1
+            && end <= u64::from(MAX_WHOLE_PAGES)
     }
 
     /// The two as an image; until it is put back, nothing is left here.

@@ -4,6 +4,6 @@ use Rattle.dml_image.proofs.images.Image.mark_present.Goals as goal
 pub loop-i-preserved : goal.loop-i-preserved
 loop-i-preserved c =
     below_more _ _
-    (λ k low. get_or-set_other c.loop-i.marks c.loop-i.i k c.has.result false (omega arith) ∙ c.loop-i.invariant k low)
-    (get_or-set_same c.loop-i.marks c.loop-i.i c.has.result false (omega arith)
-    ∙ (c.has.ensures.value ∙ ap (λ page. get_or c.args.self.now.present page false) (omega arith)))
+    (λ k low. get_or-set_other c.loop-i.marks c.loop-i.i k c.has_page.result false (omega arith) ∙ c.loop-i.invariant k low)
+    (get_or-set_same c.loop-i.marks c.loop-i.i c.has_page.result false (omega arith)
+    ∙ (c.has_page.ensures ∙ ap (λ page. get_or c.args.self.now.present page false) (omega arith)))

@@ -1,11 +1,11 @@
-use Rattle.std.proofs.Common.{arith, ◌≡◌, ◌∷◌, [], ◌++◌, List, ℕ, suc, true, refl, ◌<◌, length, sym, subst, ◌∙◌, ap}
+use Rattle.std.proofs.Common.{arith, get_or, ◌≡◌, ◌∷◌, [], ◌++◌, List, suc, true, refl, length, sym, ◌∙◌, ap}
 use Rattle.std.proofs.lemmas.Bool.{eqb-true}
 use Rattle.std.proofs.lemmas.List.{length_push}
 use Rattle.dml_types.specs.Memory.{Memory}
 use Rattle.dml_image.specs.declared.segments.Segment.{Segment}
-use Rattle.dml_image.specs.Pieces.{AreInOrder, AreSegments, piece_at, piece_of, pieces_memory, pieces_of, places_of, segment_bytes}
+use Rattle.dml_image.specs.Pieces.{pieces_memory, pieces_of, places_of}
 use Rattle.dml_image.specs.Two.{has_two_segments}
-use Rattle.dml_image.proofs.PieceLemmas.{segment_is}
+use Rattle.dml_image.proofs.SegmentLemmas.{bytes_again}
 use Rattle.dml_image.proofs.two.Two.put.Goals as goal
 
 -- as many segments as their memory is lent in
@@ -22,21 +22,22 @@ two_of : (list front none : List Segment) (low high : Segment) → list ≡ fron
 two_of list front [] low high all some two = all ∙ ap (λ (l : List Segment). l ++ (high ∷ [])) some
 two_of list front (first ∷ rest) low high all some two = absurd (omega (arith, two, ap length all, ap length some, length_push front high, length_push (first ∷ rest) low))
 
--- the bytes of one of two segments that are a memory
-bytes_of : (list : List Segment) (low high : Segment) (memory : Memory) (k : ℕ) → list ≡ low ∷ high ∷ [] → AreSegments (pieces_of list) → pieces_memory (pieces_of list) ≡ memory → k < 2 → (piece_at (piece_of low ∷ piece_of high ∷ []) k).bytes ≡ segment_bytes memory k
-bytes_of list low high memory k two are is below =
-    let order : AreInOrder 0 (piece_of low ∷ piece_of high ∷ []) = subst (λ l. AreInOrder 0 (pieces_of l)) two are.order in
-    sym (segment_is (piece_of low ∷ piece_of high ∷ []) k order below)
-    ∙ ap (λ (m : Memory). segment_bytes m k) (ap (λ l. pieces_memory (pieces_of l)) (sym two) ∙ is)
-
 pub returns-clause-low : goal.returns-clause-low
 returns-clause-low c =
+    let low = c.in-Some-pop.low in
+    let list = c.into_segments-list.result.items in
     let made = c.into_segments-list.ensures in
-    let many : length c.into_segments-list.result.items ≡ 2 = counted _ c.args.image made.memory c.requires in
-    bytes_of _ c.in-Some-pop.low c.in-Some.high c.args.image 0 (two_of _ _ _ _ _ c.in-Some.ensures.items c.in-Some-pop.ensures.items many) made.segments made.memory (omega arith)
+    let many = counted list c.args.image made.memory c.requires in
+    let two = two_of list _ _ low c.in-Some.high c.in-Some.ensures.items c.in-Some-pop.ensures.items many in
+    ap (λ (l : List Segment). (get_or l 0 low).content.now) (sym two)
+    ∙ bytes_again list c.args.image 0 low made.memory (omega (arith, many)) made.segments.order
 
 pub returns-clause-high : goal.returns-clause-high
 returns-clause-high c =
+    let high = c.in-Some.high in
+    let list = c.into_segments-list.result.items in
     let made = c.into_segments-list.ensures in
-    let many : length c.into_segments-list.result.items ≡ 2 = counted _ c.args.image made.memory c.requires in
-    bytes_of _ c.in-Some-pop.low c.in-Some.high c.args.image 1 (two_of _ _ _ _ _ c.in-Some.ensures.items c.in-Some-pop.ensures.items many) made.segments made.memory (omega arith)
+    let many = counted list c.args.image made.memory c.requires in
+    let two = two_of list _ _ c.in-Some-pop.low high c.in-Some.ensures.items c.in-Some-pop.ensures.items many in
+    ap (λ (l : List Segment). (get_or l 1 high).content.now) (sym two)
+    ∙ bytes_again list c.args.image 1 high made.memory (omega (arith, many)) made.segments.order

@@ -8,6 +8,7 @@ use dml_engine::EngineOver;
 use dml_image::{Image, Segment, are_segments};
 use dml_types::{BatchRecord, Direction, Job, Record, Settings, law_of_loans};
 use std::alloc::Global;
+use std::mem;
 use std::sync::Wait;
 use std::thread::Threads;
 
@@ -20,6 +21,30 @@ const SETTINGS: Settings = Settings {
 
 /// Where the ring's descriptors stand in the guest's memory, 64 bytes each.
 pub(crate) const RING: u64 = 4096;
+
+/// Memory that no guest has yet.
+#[derive(Drop)]
+pub(crate) struct Spare<'a> {
+    bytes: &'a mut [u8],
+}
+
+impl<'a> Spare<'a> {
+    pub(crate) fn new(bytes: &'a mut [u8]) -> Spare<'a> {
+        Spare { bytes }
+    }
+
+    /// How many pages are left.
+    pub(crate) fn pages(&self) -> usize {
+        self.bytes.len() / 4096
+    }
+
+    /// One of them.
+    pub(crate) fn page(&mut self) -> Option<&'a mut [u8]> {
+        let (page, rest) = mem::take(&mut self.bytes).split_at_mut_checked(4096)?;
+        self.bytes = rest;
+        Some(page)
+    }
+}
 
 /// An engine whose image lies over segments, so that they can be taken back.
 #[derive(Drop)]

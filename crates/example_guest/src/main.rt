@@ -9,7 +9,7 @@ use anyhow::bail;
 use dml_desc::encode;
 use dml_image::Segment;
 use dml_types::{Job, Record};
-use guest::Guest;
+use guest::{Guest, Spare};
 use std::alloc::Global;
 use std::io;
 use std::sync::Wait;
@@ -64,16 +64,17 @@ fn serve<'a, R: Threads + Wait + Sync + Print>(
     alloc: Global,
     guest: Guest<'a>,
     job: Job,
-    spare: &mut Vec<&'a mut [u8]>,
+    spare: &mut Spare<'a>,
 ) -> anyhow::Result<Guest<'a>> {
-    let (mut guest, mut next) = (guest, Some(job));
+    let mut guest = guest;
+    let mut next = Some(job);
     // Each turn but the last takes a spare page.
-    for _ in 0..=spare.len() {
+    for _ in 0..=spare.pages() {
         let Some(job) = next else { break };
         let (record, left) = guest.submit(rt, alloc, job);
         print(rt, &record)?;
         if left.is_some() {
-            let Some(bytes) = spare.pop() else {
+            let Some(bytes) = spare.page() else {
                 bail!("no page is left");
             };
             let page = u32::try_from(record.fault / 4096)?;
@@ -85,35 +86,51 @@ fn serve<'a, R: Threads + Wait + Sync + Print>(
     Ok(guest)
 }
 
-fn main(rt: HostRuntime) -> anyhow::Result<()> {
-    let alloc = rt.alloc();
-    let (mut low, mut high) = (
-        vec![in alloc; 0_u8; SEGMENT]?,
-        vec![in alloc; 0_u8; SEGMENT]?,
-    );
-    let mut more = [0; 8192];
-    let (one, other) = more.split_at_mut(4096);
-    let mut spare = vec![in alloc; other, one]?;
-    enqueue(&mut low, &jobs())?;
-    let segments = vec![in alloc;
-        Segment::new(0, low.as_mut_slice()),
-        Segment::new((HIGH / 4096) as u32, high.as_mut_slice()),
-    ]?;
-
-    let mut guest = Guest::over(alloc, segments)?;
+/// Carries out what is in the ring: three jobs by themselves, and four as a batch.
+fn run<'a, R: Threads + Wait + Sync + Print>(
+    rt: &R,
+    alloc: Global,
+    guest: Guest<'a>,
+    spare: Spare<'a>,
+) -> anyhow::Result<()> {
+    let mut guest = guest;
+    let mut spare = spare;
     for number in 0..3 {
         let job = guest.fetch(number)?;
-        guest = serve(&rt, alloc, guest, job, &mut spare)?;
+        guest = serve(rt, alloc, guest, job, &mut spare)?;
     }
     let mut batch = Vec::new(alloc);
     for number in 3..7 {
         batch.push(guest.fetch(number)?)?;
     }
-    let (answer, records) = guest.submit_batch(&rt, alloc, &batch)?;
+    let (answer, records) = guest.submit_batch(rt, alloc, &batch)?;
     for record in &records {
-        print(&rt, record)?;
+        print(rt, record)?;
     }
     let (code, done) = (answer.status.code(), answer.completed);
     println!(rt; "batch status {code:02x} completed {done}")?;
     Ok(())
+}
+
+/// The same over the two pieces of the guest's memory, with spare memory.
+fn monitor<'a, R: Threads + Wait + Sync + Print>(
+    rt: &R,
+    alloc: Global,
+    low: &'a mut [u8],
+    high: &'a mut [u8],
+    more: &'a mut [u8],
+) -> anyhow::Result<()> {
+    let mut segments = Vec::with_capacity(alloc, 2)?;
+    let low = Segment::new(0, low);
+    let high = Segment::new((HIGH / 4096) as u32, high);
+    segments.push_reserved(low);
+    segments.push_reserved(high);
+    run(rt, alloc, Guest::over(alloc, segments)?, Spare::new(more))
+}
+
+fn main(rt: HostRuntime) -> anyhow::Result<()> {
+    let mut low = vec![in rt.alloc(); 0_u8; SEGMENT]?;
+    let mut high = vec![in rt.alloc(); 0_u8; SEGMENT]?;
+    enqueue(&mut low, &jobs())?;
+    monitor(&rt, rt.alloc(), &mut low, &mut high, &mut [0; 8192])
 }

@@ -160,11 +160,25 @@ fn ranges_in_two_segments(rt: HostRuntime) -> Result<(), Fail> {
     Ok(())
 }
 
+/// Two segments, with a hole between them.
+fn two<'a>(
+    alloc: Global,
+    low: &'a mut [u8; 4096],
+    high: &'a mut [u8; 4096],
+) -> Result<Vec<Segment<'a>>, Fail> {
+    let mut segments = Vec::with_capacity(alloc, 2)?;
+    segments.push(Segment::new(0, low))?;
+    segments.push(Segment::new(2, high))?;
+    Ok(segments)
+}
+
 /// What `refused_submit_over_segments` does before its call.
 #[test]
 fn set_up_of_submit_over_segments(rt: HostRuntime) -> Result<(), Fail> {
     let arena = Arena::new(rt.alloc(), 4096)?;
-    assert_eq!(rt; arena.size(), 4096);
+    let (mut low, mut high) = ([1; 4096], [2; 4096]);
+    let segments = two(rt.alloc(), &mut low, &mut high)?;
+    assert!(rt; arena.size() == 4096 && are_segments(&segments));
     Ok(())
 }
 
@@ -173,7 +187,7 @@ fn set_up_of_submit_over_segments(rt: HostRuntime) -> Result<(), Fail> {
 fn refused_submit_over_segments(rt: HostRuntime) -> Result<(), Fail> {
     let mut arena = Arena::new(rt.alloc(), 4096)?;
     let (mut low, mut high) = ([1; 4096], [2; 4096]);
-    let mut segments = [Segment::new(0, &mut low), Segment::new(2, &mut high)];
+    let mut segments = two(rt.alloc(), &mut low, &mut high)?;
     assert!(rt; are_segments(&segments));
     let job = Job::move_bytes(0, 8192, 8);
     let moved = match submit_over_segments(rt.alloc(), &mut segments, &mut arena, &job, 4096) {

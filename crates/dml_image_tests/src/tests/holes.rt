@@ -135,9 +135,11 @@ fn ranges_over_holes(rt: HostRuntime) -> Result<(), Fail> {
         expect_first_absent(&rt, &image, range, Direction::Backward, backward);
     }
     let mut marks = [false; 7];
-    assert_eq!(rt; image.pages(), 8);
     image.mark_present(1, &mut marks);
     assert_eq!(rt; marks, [true, true, true, false, true, false, true]);
+    let mut last = [true; 3]; // the last two are past the end
+    image.mark_present(7, &mut last);
+    assert_eq!(rt; last, [true, false, false]);
     Ok(())
 }
 
@@ -296,6 +298,7 @@ fn two<'a>(low: &'a mut [u8; 8192], high: &'a mut [u8; 4096]) -> Two<'a>
 fn refused_take(rt: HostRuntime) {
     let (mut low, mut high) = ([1; 8192], [2; 4096]);
     let mut two = two(&mut low, &mut high);
+    assert!(rt; two.is_memory());
     let brought = match two.take(rt.alloc()) {
         Ok(image) => {
             let mut image = image;

@@ -13,6 +13,7 @@ use anyhow::ensure;
 use dml_arena::Arena;
 use dml_effect::submit_to;
 use dml_image::{Image, are_segments};
+use dml_types::{Job, Record};
 use jobs::Jobs;
 use layouts::{are_alike, content_of, own_image, pages_of, places, segments_of};
 use random::Random;
@@ -26,6 +27,12 @@ const SCRIPT: u32 = 16;
 #[derive(Clone, Copy)]
 struct Counts {
     of: [u64; 256],
+}
+
+/// Carries out a job with all the staging of an arena.
+fn submitted(image: &mut Image, arena: &mut Arena, job: &Job) -> Record {
+    let staging = arena.size();
+    submit_to(image, arena, job, staging)
 }
 
 /// Carries out a script over both memories. Its jobs are the same for the same seed and number.
@@ -45,12 +52,11 @@ fn compare(
     let mut lent = Image::over_segments(segments);
     let room = if random.one_in(4) { 4096 } else { 65_536 };
     let mut arena = Arena::new(alloc, room)?;
-    let staging = arena.size();
     let mut source = Jobs::new(random, pages_of(&places));
     for _ in 0..jobs {
         let job = source.next_job();
-        let answer = submit_to(&mut own, &mut arena, &job, staging);
-        let other = submit_to(&mut lent, &mut arena, &job, staging);
+        let answer = submitted(&mut own, &mut arena, &job);
+        let other = submitted(&mut lent, &mut arena, &job);
         ensure!(
             answer == other && are_alike(&own, &lent),
             "seed {seed}, script {number}: {job:?} answers {answer:?}, and over segments {other:?}"

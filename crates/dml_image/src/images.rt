@@ -390,6 +390,9 @@ impl Image<'_> {
         ensures count { result ≡ present_toward direction self.now addr len }
         ensures within { result ≤ len }
     {
+        if let Pages::Segments(_) = &self.pages {
+            return self.present_over_segments(addr, len, direction);
+        }
         if len as usize <= rest_of_page(addr) {
             return present_in_page(self, addr, len);
         }
@@ -400,6 +403,23 @@ impl Image<'_> {
     /// lie in one page.
     #[inline(never)]
     fn present_over_pages(&self, addr: u64, len: u32, direction: Direction) -> u32
+        requires { addr + len ≤ 2 ^ 64 }
+        ensures count { result ≡ present_toward direction self.now addr len }
+        ensures within { result ≤ len }
+    {
+        if let Pages::Segments(_) = &self.pages {
+            return self.present_over_segments(addr, len, direction);
+        }
+        match direction {
+            Direction::Forward => present_upwards(self, addr, len),
+            Direction::Backward => present_downwards(self, addr, len),
+        }
+    }
+
+    /// The same over segments, whose looks are calls. So those at pages need nothing that a call would have to save.
+    #[cold]
+    #[inline(never)]
+    fn present_over_segments(&self, addr: u64, len: u32, direction: Direction) -> u32
         requires { addr + len ≤ 2 ^ 64 }
         ensures count { result ≡ present_toward direction self.now addr len }
         ensures within { result ≤ len }

@@ -143,6 +143,8 @@ impl Pages<'_> {
     }
 
     /// Copies so many bytes at once.
+    // It stands apart, so that a move is small enough to be put into its caller.
+    #[inline(never)]
     fn copy_part(&mut self, from: u64, to: u64, len: usize)
         requires memory { IsMemory (kept_by self.old) }
         requires some { 0 < len }

@@ -120,7 +120,13 @@ awk '
         rows = split("create_equal:524288 create_sixteenth:524288 submit_create_equal:524288 " \
             "submit_create_sixteenth:524288 words_equal:524288 words_sixteenth:524288 apply_entries:32768 " \
             "submit_apply_entries:32768 tasks_wave:8192 tasks_alone:8192 each_page_moves:1 " \
-            "over_move:64 over_move:4096 own_move:64 own_move:4096 levels_in_order:64 levels_in_order:1024 " \
+            "over_move:64 over_move:4096 own_move:64 own_move:4096 " \
+            "piece_has_ps:16777216 piece_present_ps:16777216 piece_move:64 piece_move:4096 piece_move:1048576 " \
+            "piece_edge:4096 piece_fill:4096 one_segment_has_ps:16777216 one_segment_present_ps:16777216 " \
+            "one_segment_move:64 one_segment_move:4096 one_segment_move:1048576 one_segment_edge:4096 " \
+            "one_segment_fill:4096 eight_segments_has_ps:16777216 eight_segments_present_ps:16777216 " \
+            "eight_segments_move:64 eight_segments_move:4096 eight_segments_move:1048576 " \
+            "eight_segments_edge:4096 eight_segments_fill:4096 levels_in_order:64 levels_in_order:1024 " \
             "levels_shuffled:64 levels_shuffled:128 levels_shuffled:256 levels_shuffled:512 levels_shuffled:1024 " \
             "levels_dualcasts:64 levels_dualcasts:1024 levels_one_source:1024 levels_many_cells:1024 " \
             "levels_chain:1024 waves_in_order:1024 waves_chain:1024 ring_push:1024 seat_submit:1024 ring_pop:1024 " \
@@ -156,6 +162,10 @@ awk '
         bar("a look at presence, in nanoseconds", middle("has_ps", 16777216) / 1000, 3)
         bar("an image of absent pages, in nanoseconds", middle("image_new", 4096), 20000)
         bar("a move of 4 KiB over lent pages, less memmove", over("over_move", "memmove", 4096), 30)
+        bar("a look at presence, one segment, in nanoseconds", middle("one_segment_has_ps", 16777216) / 1000, 3)
+        bar("a look at presence, eight segments", middle("eight_segments_has_ps", 16777216) / 1000, 8)
+        bar("4 KiB moved over eight segments, less one piece", over("eight_segments_move", "piece_move", 4096), 25)
+        bar("1 MiB moved over eight segments, of one piece", ratio("eight_segments_move", "piece_move", 1048576), 1.1)
         bar("compare of 1 MiB, of memcmp", ratio("compare", "memcmp", 1048576), 1.11)
         bar("compare of 64 KiB, of memcmp", ratio("compare", "memcmp", 65536), 1.67)
         bar("compare of 4 KiB, of memcmp", ratio("compare", "memcmp", 4096), 2.5)

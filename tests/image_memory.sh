@@ -1,5 +1,6 @@
 #!/bin/sh
-# How much memory an image takes: one of 4,096 pages with k of them present at most k pages and 128 KiB. Counted by
+# How much memory an image takes: one of 4,096 pages with k of them present at most k pages and 128 KiB, also
+# where others were there and went. Counted by
 # tests/held.c are the bytes that the allocator has given at the peak of the process, in dml_image's tests holds_K_pages,
 # over those in holds_no_image. The resident memory is no measure of it: it differs by 200 KiB from run to run. Works on
 # the binary that the gate leaves in crates/dml_image_tests/out; `check` calls it. Needs a C compiler (CC, or cc) and the
@@ -47,6 +48,12 @@ for pages in 0 3 64 2048 4096; do
     [ "$((held - base))" -ge "$((4096 * pages))" ] || complain "$pages present pages: they are not held"
     printf 'image_memory: %s present pages: %s bytes above them\n' "$pages" "$more"
 done
+
+# 4,096 pages one after another, each of which is evicted before the next one comes
+peak holds_pages_that_went
+more=$((held - base - 4096))
+[ "$more" -le "$most_more" ] || complain "pages that went: $more bytes above one page, at most $most_more are wanted"
+printf 'image_memory: pages that went: %s bytes above one page\n' "$more"
 
 [ "$failed" = 0 ] && echo 'image_memory: each image takes its present pages and a table'
 exit "$failed"

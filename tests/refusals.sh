@@ -49,13 +49,15 @@ is_plain() { # STATUS: the last run is as the plain run was
 }
 
 # The tests whose calls take no memory. All others that are found take some.
-take_none='dml_image:refused_second_bring dml_engine:refused_submit dml_engine:refused_second_bring'
+take_none='dml_image:refused_second_bring dml_image:refused_evict dml_engine:refused_submit
+dml_engine:refused_second_bring'
 
 # The tests that make nothing before their call.
-make_nothing='dml_arena:refused_new dml_image:refused_new dml_grammar:refused_read_script dml_script:refused_job_text
-dml_script:refused_out_text_of_a_job dml_script:refused_out_text_of_a_batch dml_script:refused_push_byte
-dml_script:refused_run_script dml_command:refused_command_of dml_command:refused_parse_words dmljob:refused_description
-dml_engine:refused_run_list_over dml_engine:refused_run_batch_over dml_seats:refused_bell'
+make_nothing='dml_arena:refused_new dml_image:refused_new dml_image:refused_take dml_grammar:refused_read_script
+dml_script:refused_job_text dml_script:refused_out_text_of_a_job dml_script:refused_out_text_of_a_batch
+dml_script:refused_push_byte dml_script:refused_run_script dml_command:refused_command_of
+dml_command:refused_parse_words dmljob:refused_description dml_engine:refused_run_list_over
+dml_engine:refused_run_batch_over dml_seats:refused_bell'
 
 # The tests that make before their call what another one makes: TEST=SET_UP.
 share_set_up='dml_core:refused_made_rows_by_steps=made_rows dml_engine:refused_bring=submit

@@ -11,6 +11,7 @@ mod creating;
 mod effects;
 mod joining;
 mod lending;
+mod lending_segments;
 mod lending_whole;
 mod records;
 
@@ -22,5 +23,6 @@ pub use creating::join_create;
 pub use effects::{Effect, commit};
 pub use joining::join_found;
 pub use lending::{are_pages, submit_over, submit_straight_over};
+pub use lending_segments::submit_over_segments;
 pub use lending_whole::{are_whole_pages, submit_over_whole, submit_straight_over_whole};
 pub use records::{by_fields, compared_record, copied_record, ended, finished_record, full_record};

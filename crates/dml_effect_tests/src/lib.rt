@@ -8,7 +8,11 @@ mod compare_tests;
 #[cfg(test)]
 mod create_tests;
 #[cfg(test)]
+mod holes_tests;
+#[cfg(test)]
 mod resume_tests;
+#[cfg(test)]
+mod segments_tests;
 #[cfg(test)]
 mod tests;
 #[cfg(test)]

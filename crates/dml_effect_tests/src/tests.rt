@@ -300,9 +300,9 @@ fn carried_over_whole(rt: &impl Abort, bytes: &mut [u8], arena: &mut Arena, job:
 /// A job over so many whole pages of a caller's, which hold 01, 02, 03, 04, 05 and then 0; its answer, and what it
 /// leaves in two places. All other bytes stay as they were.
 #[derive(Clone, Copy)]
-struct LentRow {
-    pages: u16,
-    job: Job,
+pub struct LentRow {
+    pub pages: u16,
+    pub job: Job,
     answer: Record,
     first: (u32, [u8; 12]),
     second: (u32, [u8; 12]),
@@ -310,14 +310,14 @@ struct LentRow {
 
 impl LentRow {
     /// The caller's bytes before.
-    fn before(self, rt: &impl Abort, alloc: Global) -> Result<Vec<u8>, Fail> {
+    pub fn before(self, rt: &impl Abort, alloc: Global) -> Result<Vec<u8>, Fail> {
         let mut bytes = vec![in alloc; 0; usize::from(self.pages) * 4096]?;
         write_over(rt, &mut bytes, 0, &[1, 2, 3, 4, 5]);
         Ok(bytes)
     }
 
     /// Compares the job's answer and all bytes with what they are to be.
-    fn expect_left(
+    pub fn expect_left(
         self,
         rt: &impl Abort,
         alloc: Global,
@@ -379,7 +379,7 @@ fn changed(pages: u16, job: Job, answer: Record, place: u32, shown: [u8; 12]) ->
 }
 
 /// Fills, among them the row fill_into_absent_page at the end of the caller's bytes.
-fn fills() -> [LentRow; 2] {
+pub fn fills() -> [LentRow; 2] {
     let pattern = 0x0807_0605_0403_0201;
     [
         changed(
@@ -400,7 +400,7 @@ fn fills() -> [LentRow; 2] {
 }
 
 /// Moves, among them the row backward_move_into_absent_page at the end of the caller's bytes.
-fn moves() -> [LentRow; 4] {
+pub fn moves() -> [LentRow; 4] {
     [
         changed(
             2,
@@ -430,7 +430,7 @@ fn moves() -> [LentRow; 4] {
 }
 
 /// Dualcasts, among them the row dualcast_write_fault at the end of the caller's bytes, a compare and a create.
-fn other_jobs() -> [LentRow; 4] {
+pub fn other_jobs() -> [LentRow; 4] {
     [
         LentRow {
             pages: 2,
@@ -480,7 +480,7 @@ fn fills_and_moves_over_lent_pages(rt: HostRuntime) -> Result<(), Fail> {
 }
 
 /// Moves from and to addresses that no word begins at, over page edges and over one another.
-fn unaligned_moves() -> [LentRow; 3] {
+pub fn unaligned_moves() -> [LentRow; 3] {
     [
         changed(
             3,

@@ -13,6 +13,7 @@ mod pieces;
 mod refusals;
 mod resuming;
 mod rows;
+mod segments;
 
 use dml_engine::{Engine, EngineError, SubmitError};
 use dml_image::Image;

@@ -99,3 +99,8 @@ pub kept_after_move : (inside now after : Memory) (source target n : ℕ) → in
 kept_after_move inside now after source target n is good at_source at_target done =
     let all : (address : ℕ) → has_all now address n ≡ true → has_all inside address n ≡ true = λ address here. ap (λ (m : Memory). has_all m address n) is ∙ here in
     up_kept inside after source target n n good (all source at_source) (all target at_target) done (omega arith)
+
+-- a byte of a range is present
+pub byte_of_range : (memory : Memory) (address n k : ℕ) → has_all memory address n ≡ true → address ≤ k → k < address + n → has memory k ≡ true
+byte_of_range memory address n k all low high =
+    ap (has memory) (omega arith) ∙ has_all_at memory address n (k - address) all (omega arith)

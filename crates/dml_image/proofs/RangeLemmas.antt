@@ -58,3 +58,11 @@ read_more memory address done n buffer after part before here is next =
 -- neighbours that are read one after another are read at once
 pub bytes_at_append : (memory : Memory) (address a b : ℕ) → address + (a + b) ≤ length memory.bytes → bytes_at memory address a ++ bytes_at memory (address + a) b ≡ bytes_at memory address (a + b)
 bytes_at_append memory address a b within = same_lists _ _ (search (rules, places)) (λ k d h. grind (arith, places))
+
+-- the front of bytes that were read
+pub front_read : (memory : Memory) (address n : ℕ) (bytes : List ℕ) → bytes ≡ bytes_at memory address (length bytes) → n ≤ length bytes → take n bytes ≡ bytes_at memory address n
+front_read memory address n bytes is within =
+    ap (take n) is ∙ front memory.bytes address n (length bytes) within
+  where
+    front : (items : List ℕ) (address n m : ℕ) → n ≤ m → take n (slice_range items address (address + m)) ≡ slice_range items address (address + n)
+    front items address n m within = same_lists _ _ (search (rules, places)) (λ k d h. grind (arith, places))

@@ -4,15 +4,15 @@ use Rattle.std.proofs.lemmas.List.{places, same_lists, map-set, get_or_past, len
 use Rattle.std.proofs.Math.Seq.{map-set_same}
 use Rattle.std.proofs.lemmas.Bool.{cases_lt, false≢true}
 use Rattle.dml_types.specs.Memory.{Memory, has, memory_of, bytes_at, overwrite, put}
-use Rattle.dml_image.specs.Brought.{all_absent, brought}
+use Rattle.dml_image.specs.Brought.{all_absent, brought, evicted}
 use Rattle.dml_image.specs.Table.{page_bytes, table_memory, AreWhole}
 
 -- a write in the front or the back of two lists
-overwrite_front : (xs ys new : List ℕ) (s : ℕ) → s + length new ≤ length xs → overwrite xs s new ++ ys ≡ overwrite (xs ++ ys) s new
+pub overwrite_front : (xs ys new : List ℕ) (s : ℕ) → s + length new ≤ length xs → overwrite xs s new ++ ys ≡ overwrite (xs ++ ys) s new
 unfolding overwrite
 overwrite_front xs ys new s within = same_lists _ _ (search (rules, places)) (λ k d h. grind (arith, places))
 
-overwrite_back : (xs ys new : List ℕ) (m s : ℕ) → length xs ≡ m → s + length new ≤ length ys → xs ++ overwrite ys s new ≡ overwrite (xs ++ ys) (m + s) new
+pub overwrite_back : (xs ys new : List ℕ) (m s : ℕ) → length xs ≡ m → s + length new ≤ length ys → xs ++ overwrite ys s new ≡ overwrite (xs ++ ys) (m + s) new
 unfolding overwrite
 overwrite_back xs ys new m s long within = same_lists _ _ (search (rules, places)) (λ k d h. grind (arith, places))
 
@@ -20,10 +20,10 @@ overwrite_all : (old new : List ℕ) → length new ≡ length old → new ≡ o
 unfolding overwrite
 overwrite_all old new same = same_lists _ _ (search (rules, places)) (λ k d h. grind (arith, places))
 
-same_front : (xs ys : List ℕ) (a s n : ℕ) → a ≡ s → s + n ≤ length xs → take n (drop a (xs ++ ys)) ≡ take n (drop s xs)
+pub same_front : (xs ys : List ℕ) (a s n : ℕ) → a ≡ s → s + n ≤ length xs → take n (drop a (xs ++ ys)) ≡ take n (drop s xs)
 same_front xs ys a s n is within = same_lists _ _ (search (rules, places)) (λ k d h. grind (arith, places))
 
-same_back : (xs ys : List ℕ) (m a b n : ℕ) → length xs ≡ m → a ≡ m + b → take n (drop a (xs ++ ys)) ≡ take n (drop b ys)
+pub same_back : (xs ys : List ℕ) (m a b n : ℕ) → length xs ≡ m → a ≡ m + b → take n (drop a (xs ++ ys)) ≡ take n (drop b ys)
 same_back xs ys m a b n long is = same_lists _ _ (search (rules, places, long)) (λ k d h. grind (arith, places, long))
 
 abbrev zeros : ℕ → List ℕ
@@ -173,6 +173,21 @@ pub page_whole : (pages : List (Option (List ℕ))) (now : Memory) (k : ℕ) (pa
 page_whole pages now k page bytes shown whole below at long =
     let inside : k < length pages = omega (arith, ap (λ (m : Memory). length m.present) shown, length-map pages is_some) in
     whole_after (set pages k page) k (Some bytes) (whole_after pages k page whole (whole_at pages k page page whole inside at)) long
+
+-- a page that was evicted
+pub page_evicted : (pages : List (Option (List ℕ))) (now : Memory) (k : ℕ) → table_memory pages ≡ now → AreWhole pages → k < length now.present → table_memory (set pages k None) ≡ evicted now k
+page_evicted pages now k shown whole below =
+    let inside : k < length pages = omega (arith, ap (λ (m : Memory). length m.present) shown, length-map pages is_some) in
+    let old = get_or pages k None in
+    let long : length (zeros 4096) ≡ 4096 = length-replicate {A = ℕ} 4096 0 in
+    let full : zeros 4096 ≡ overwrite (page_bytes old) 0 (zeros 4096) = overwrite_all (page_bytes old) (zeros 4096) (long ∙ sym (whole_at pages k old None whole inside refl)) in
+    ap₂ (λ (present : List Bool) (items : List ℕ). own_memory present items)
+    (map-set is_some pages k None)
+    (write_flat pages k 0 old None None (zeros 4096) whole inside refl (omega (arith, long)) full ∙ ap (λ a. overwrite (flat_map page_bytes pages) a (zeros 4096)) (omega arith))
+    ∙ ap (λ (m : Memory). evicted m k) shown
+
+pub whole_evicted : (pages : List (Option (List ℕ))) (k : ℕ) → AreWhole pages → AreWhole (set pages k None)
+whole_evicted pages k whole = whole_after pages k None whole (length-replicate {A = ℕ} 4096 0)
 
 -- a new table
 abbrev pub all_none : ℕ → List (Option (List ℕ))

@@ -1,4 +1,4 @@
--- A new image, and an image after a page was brought.
+-- A new image, and an image after a page was brought or evicted.
 use Rattle.std.specs.Prelude.{ℕ, ◌-◌, ◌*◌, Bool, true, false, List, ◌++◌, length, None, replicate, slice_index_or, slice_set}
 use Rattle.dml_types.specs.Memory.{Memory, memory_of, page_size, put}
 
@@ -19,3 +19,8 @@ padded bytes = bytes ++ replicate (page_size - length bytes) 0
 abbrev pub brought : Memory → ℕ → List ℕ → Memory
 brought memory page bytes =
     put (record memory { present = slice_set memory.present page true }) (page_size * page) bytes
+
+-- the page is absent, and its bytes are 0
+abbrev pub evicted : Memory → ℕ → Memory
+evicted memory page =
+    put (record memory { present = slice_set memory.present page false }) (page_size * page) (replicate page_size 0)

@@ -7,7 +7,8 @@ use Rattle.dml_image.specs.declared.images.Pages.{Pages}
 abbrev pub IsOneCopy : ℕ → ℕ → ℕ → Type 0
 IsOneCopy from to n = (n ≤ 256) ⊎ ((from + n ≤ to) ⊎ (to + n ≤ from))
 
--- and among an image's own pages each of the two lies in one page
+-- and among an image's own pages each of the two lies in one page; in segments this says of none
 abbrev pub IsCopyIn : Pages → ℕ → ℕ → ℕ → Type 0
 IsCopyIn (pages.Own _) from to n = (from % 4096 + n ≤ 4096) × (to % 4096 + n ≤ 4096) × IsOneCopy from to n
 IsCopyIn (pages.Lent _) from to n = IsOneCopy from to n
+IsCopyIn (pages.Segments _) from to n = ⊥

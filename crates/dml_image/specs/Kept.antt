@@ -1,4 +1,5 @@
--- What an image's pages are to contracts: its own, or lent memory, which names the reference that was lent.
+-- What an image's pages are to contracts: its own, or lent memory, which names the reference that was lent, or
+-- segments.
 use Rattle.std.specs.Prelude.{ℕ, ◌/◌, Bool, true, List, [], ◌∷◌, Option, Some, None, length, replicate}
 use Rattle.dml_types.specs.Memory.{Memory, Loan, ByHome, InOnePiece, memory_of, page_size}
 use Rattle.dml_image.specs.declared.images.Pages.TheVariants as pages
@@ -49,3 +50,4 @@ loan_memory lent = marked_memory lent.present.now lent.content.now lent.content.
 abbrev pub kept_by : Pages → Memory
 kept_by (pages.Own table) = table
 kept_by (pages.Lent lent) = loan_memory lent
+kept_by (pages.Segments segments) = segments

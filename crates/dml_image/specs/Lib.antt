@@ -2,4 +2,6 @@ pub mod Blocks
 pub mod Brought
 pub mod Copied
 pub mod Kept
+pub mod Pieces
 pub mod Table
+pub mod Two

@@ -9,7 +9,7 @@ use crate::tables::Table;
 use dml_types::block_number;
 
 /// The bytes of an entry.
-const ENTRY: usize = dml_types::ENTRY as usize;
+pub const ENTRY: usize = dml_types::ENTRY as usize;
 
 /// The bytes of a block.
 const BLOCK: usize = 8;
@@ -45,7 +45,8 @@ pub fn put_inside(bytes: &mut [u8], begin: u64, target: u64, entries: &[u8], fir
     put_singly(bytes, begin, target, entries, done)
 }
 
-/// Puts the blocks of four entries from entry `first` on, where all of them lie among the bytes. Returns whether they do.
+/// Puts the blocks of four entries from entry `first` on, where all of them lie among the bytes. Returns whether they
+/// do.
 #[inline(always)]
 fn put_four(bytes: &mut [u8], begin: u64, target: u64, entries: &[u8], first: usize) -> bool
     requires end { begin + length bytes.old ≤ 2 ^ 64 }

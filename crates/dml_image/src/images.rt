@@ -1,23 +1,26 @@
-ghost use Rattle.std.specs.Prelude.{◌≡◌, ◌≢◌, ◌+◌, ◌-◌, ◌%◌, ◌^◌, ◌<◌, ◌≤◌, min, ◌↔◌, ◌⊎◌, false, length, IfOk, OnErr, OnOk, IsErr, IsOk, IsSome, IsTrue, MatchOption, if◌then◌else◌};
-ghost use Rattle.dml_types.specs.Memory.{IsMemory, has, has_all, byte_at, bytes_at, present_bytes, present_toward, put, puts_made};
+ghost use Rattle.std.specs.Prelude.{◌≡◌, ◌≢◌, ◌+◌, ◌-◌, ◌%◌, ◌^◌, ◌<◌, ◌≤◌, min, ◌↔◌, ◌⊎◌, false, length, IfOk, OnErr, OnOk, ◌&&◌, true, slice_index_or, EachIndex, IsErr, IsOk, IsSome, IsTrue, MatchOption, if◌then◌else◌};
+ghost use Rattle.dml_types.specs.Memory.{IsMemory, has, has_all, byte_at, bytes_at, is_in_segments, is_own, present_bytes, present_toward, put, puts_made};
 ghost use Rattle.dml_types.specs.Bytewise.{pattern_bytes};
 ghost use Rattle.dml_image.specs.Blocks.{are_present, block_puts};
-ghost use Rattle.dml_image.specs.Brought.{all_absent, brought, has_page};
+ghost use Rattle.dml_image.specs.Brought.{all_absent, brought, evicted, has_page};
 ghost use Rattle.dml_image.specs.Kept.{kept_by, loan_memory};
+ghost use Rattle.dml_image.specs.Pieces.{AreSegments, pieces_memory, pieces_of};
 
-use crate::MAX_PAGES;
 use crate::errors::ImageError;
 use crate::lent::Lent;
 use crate::ranges::rest_of_page;
 use crate::runs::{present_downwards, present_in_page, present_upwards};
+use crate::segmented::Segments;
+use crate::segments::Segment;
 use crate::tables::Table;
+use crate::{MAX_PAGES, PAGE_SIZE};
 use dml_types::Direction;
 use std::alloc::{AllocError, Global};
 use std::fmt;
 use std::marker::Model;
 
 /// A memory of pages of 4,096 bytes, from address 0 on: 1 to 4,096 pages of its own or that a caller lends, or 1 to
-/// 2^32 - 1 that a caller lends in one piece.
+/// 2^32 - 1 that a caller lends in one piece or in segments.
 ///
 /// Each page is present or absent, and no byte past the last page is present.
 pub struct Image<'a> {
@@ -29,6 +32,7 @@ pub struct Image<'a> {
 pub(crate) enum Pages<'a> {
     Own(Table),
     Lent(Lent<'a>),
+    Segments(Segments<'a>),
 }
 
 impl Pages<'_> {
@@ -40,10 +44,27 @@ impl Pages<'_> {
         ensures err { OnErr result (kept_by self.new ≡ kept_by self.old) }
         ensures again { IsTrue (has_page (kept_by self.old) page) → IsOk result }
         ensures no_room { IsSome (kept_by self.old).home → has_page (kept_by self.old) page ≡ false → IsErr result }
+        ensures hole { IsTrue (is_in_segments (kept_by self.old)) → has_page (kept_by self.old) page ≡ false
+            → IsErr result }
     {
         match self {
             Pages::Own(table) => table.bring(page, bytes),
             Pages::Lent(lent) => lent.bring(page, bytes),
+            Pages::Segments(segments) => segments.bring(page, bytes),
+        }
+    }
+
+    /// Makes a page absent, where it is one of an image's own. Returns whether one was present.
+    fn evict(&mut self, page: usize) -> bool
+        requires { page < length (kept_by self.old).present }
+        ensures page { result ≡ (is_own (kept_by self.old) && has_page (kept_by self.old) page) }
+        ensures gone { result ≡ true → kept_by self.new ≡ evicted (kept_by self.old) page }
+        ensures kept { result ≡ false → kept_by self.new ≡ kept_by self.old }
+    {
+        match self {
+            Pages::Own(table) => table.evict(page),
+            Pages::Lent(_) => false,
+            Pages::Segments(segments) => segments.evict(),
         }
     }
 
@@ -55,6 +76,7 @@ impl Pages<'_> {
         match self {
             Pages::Own(table) => table.write(addr, bytes),
             Pages::Lent(lent) => lent.write(addr, bytes),
+            Pages::Segments(segments) => segments.write(addr, bytes),
         }
     }
 
@@ -66,6 +88,7 @@ impl Pages<'_> {
         match self {
             Pages::Own(table) => table.fill(addr, len as usize, pattern),
             Pages::Lent(lent) => lent.fill(addr, len, pattern),
+            Pages::Segments(segments) => segments.fill(addr, len as usize, pattern),
         }
     }
 
@@ -77,6 +100,7 @@ impl Pages<'_> {
         match self {
             Pages::Own(table) => table.put_blocks(target, entries),
             Pages::Lent(lent) => lent.put_blocks(target, entries),
+            Pages::Segments(segments) => segments.put_blocks(target, entries),
         }
     }
 }
@@ -110,9 +134,35 @@ impl<'a> Image<'a> {
         }
     }
 
+    /// An image over segments of the caller's memory: a page in none of them is absent, and cannot be brought.
+    ///
+    /// [`are_segments`](crate::are_segments) is the test of the list.
+    pub fn over_segments(list: Vec<Segment<'a>>) -> Image<'a>
+        requires { AreSegments (pieces_of list.items) }
+        ensures { result ≡ pieces_memory (pieces_of list.entry.items) }
+    {
+        Image {
+            pages: Pages::Segments(Segments::of(list)),
+        }
+    }
+
+    /// The segments of an image over segments, which hold what the image held.
+    pub fn into_segments(self) -> Vec<Segment<'a>>
+        requires { IsTrue (is_in_segments self) }
+        ensures segments { AreSegments (pieces_of result.items) }
+        ensures memory { pieces_memory (pieces_of result.items) ≡ self.entry }
+    {
+        match self.into_pages() {
+            Pages::Segments(segments) => segments.into_list(),
+            Pages::Own(_) => unreachable!(),
+            Pages::Lent(_) => unreachable!(),
+        }
+    }
+
     /// The pages, for good.
     pub(crate) fn into_pages(self) -> Pages<'a>
-        ensures { kept_by result ≡ self.entry }
+        ensures pages { kept_by result ≡ self.entry }
+        ensures memory { IsMemory self.entry }
     {
         let Image { pages } = self;
         pages
@@ -147,6 +197,7 @@ impl Image<'_> {
         let pages = match &self.pages {
             Pages::Own(table) => table.pages(),
             Pages::Lent(lent) => lent.pages(),
+            Pages::Segments(segments) => segments.pages(),
         };
         pages as u32
     }
@@ -155,7 +206,8 @@ impl Image<'_> {
     ///
     /// # Errors
     /// `NoSuchPage` where the image has no page of this number, and `NoMemory`, which a page that is present never
-    /// meets, and an absent one of lent memory always, though no allocation is refused. Both leave the image as it was.
+    /// meets, and an absent one of lent memory always, one in no segment too, though no allocation is refused. Both
+    /// leave the image as it was.
     #[tactic(auto, using(crate::proofs::WriteLemmas::brought_keeps))]
     pub fn bring(&mut self, page: u32, bytes: &[u8; 4096]) -> Result<(), ImageError>
         ensures ok { OnOk result (self.new ≡ brought self.old page bytes.now) }
@@ -165,6 +217,8 @@ impl Image<'_> {
         ensures again { IsTrue (has_page self.old page) → IsOk result }
         ensures no_room { IsSome self.old.home → page < length self.old.present → has_page self.old page ≡ false →
             result ≡ Err ImageError.NoMemory }
+        ensures hole { IsTrue (is_in_segments self.old) → page < length self.old.present
+            → has_page self.old page ≡ false → result ≡ Err ImageError.NoMemory }
         ensures memory { IsMemory self.new }
     {
         if page >= self.pages() {
@@ -175,6 +229,45 @@ impl Image<'_> {
             .map_err(|_| ImageError::NoMemory)
     }
 
+    /// Makes a page of the image's own absent, its bytes 0, and gives its memory back. Answers whether there was one;
+    /// memory that is lent stays as it is.
+    ///
+    /// # Errors
+    /// `NoSuchPage` where the image has no page of this number.
+    pub fn evict(&mut self, page: u32) -> Result<bool, ImageError>
+        ensures page { page < length self.old.present → result ≡ Ok (is_own self.old && has_page self.old page) }
+        ensures no_such_page { length self.old.present ≤ page → result ≡ Err ImageError.NoSuchPage }
+        ensures gone { result ≡ Ok true → self.new ≡ evicted self.old page }
+        ensures kept { result ≢ Ok true → self.new ≡ self.old }
+        ensures memory { IsMemory self.new }
+    {
+        if page < self.pages() {
+            Ok(self.pages.evict(page as usize))
+        } else {
+            Err(ImageError::NoSuchPage)
+        }
+    }
+
+    /// Marks which pages from `first` on are present; past the last page none is.
+    pub fn mark_present(&self, first: u32, marks: &mut [bool])
+        ensures marks { EachIndex marks.new (λ i. slice_index_or marks.new i false ≡ has_page self.now (first + i)) }
+        ensures as_many { length marks.new ≡ length marks.old }
+        ensures memory { IsMemory self.now }
+    {
+        let _ = &self.pages; // what is looked at is an image
+        let begin = u64::from(first);
+        for (i, mark) in marks.iter_mut().enumerate() {
+            *mark = self.has_page(begin + i as u64);
+        }
+    }
+
+    /// Whether a page is present.
+    fn has_page(&self, page: u64) -> bool
+        ensures { result ≡ has_page self.now page }
+    {
+        page < u64::from(self.pages()) && self.has(PAGE_SIZE as u64 * page)
+    }
+
     /// Whether the byte at this address is present.
     pub fn has(&self, addr: u64) -> bool
         ensures value { result ≡ has self.now addr }
@@ -183,6 +276,7 @@ impl Image<'_> {
         match &self.pages {
             Pages::Own(table) => table.has(addr),
             Pages::Lent(lent) => lent.has(addr),
+            Pages::Segments(segments) => segments.has(addr),
         }
     }
 
@@ -208,6 +302,7 @@ impl Image<'_> {
         match &self.pages {
             Pages::Own(table) => table.part(addr, len as usize),
             Pages::Lent(lent) => lent.part(addr, len),
+            Pages::Segments(segments) => segments.part(addr, len as usize),
         }
     }
 
@@ -220,6 +315,7 @@ impl Image<'_> {
         match &self.pages {
             Pages::Own(table) => table.read_into(addr, buffer),
             Pages::Lent(lent) => lent.read_into(addr, buffer),
+            Pages::Segments(segments) => segments.read_into(addr, buffer),
         }
     }
 
@@ -284,16 +380,46 @@ impl Image<'_> {
         ensures memory { IsMemory self.now }
     {
         let _ = &self.pages; // what is looked at is an image
+        self.count_present(addr, len, direction)
+    }
+
+    /// The same, put into its caller.
+    #[inline(always)]
+    fn count_present(&self, addr: u64, len: u32, direction: Direction) -> u32
+        requires { addr + len ≤ 2 ^ 64 }
+        ensures count { result ≡ present_toward direction self.now addr len }
+        ensures within { result ≤ len }
+    {
+        if let Pages::Segments(_) = &self.pages {
+            return self.present_over_segments(addr, len, direction);
+        }
         if len as usize <= rest_of_page(addr) {
             return present_in_page(self, addr, len);
         }
         self.present_over_pages(addr, len, direction)
     }
 
-    /// The same for bytes that lie in more than one page. It stands apart, so that nothing is saved for it where all lie
-    /// in one page.
+    /// The same for bytes that lie in more than one page. It stands apart, so that nothing is saved for it where all
+    /// lie in one page.
     #[inline(never)]
     fn present_over_pages(&self, addr: u64, len: u32, direction: Direction) -> u32
+        requires { addr + len ≤ 2 ^ 64 }
+        ensures count { result ≡ present_toward direction self.now addr len }
+        ensures within { result ≤ len }
+    {
+        if let Pages::Segments(_) = &self.pages {
+            return self.present_over_segments(addr, len, direction);
+        }
+        match direction {
+            Direction::Forward => present_upwards(self, addr, len),
+            Direction::Backward => present_downwards(self, addr, len),
+        }
+    }
+
+    /// The same over segments, whose looks are calls. So those at pages need nothing that a call would have to save.
+    #[cold]
+    #[inline(never)]
+    fn present_over_segments(&self, addr: u64, len: u32, direction: Direction) -> u32
         requires { addr + len ≤ 2 ^ 64 }
         ensures count { result ≡ present_toward direction self.now addr len }
         ensures within { result ≤ len }
@@ -312,7 +438,8 @@ impl Image<'_> {
             (λ k. (k < len) × (present_toward direction self.now addr len ≡ k)) }
         ensures memory { IsMemory self.now }
     {
-        let done = self.present_toward(addr, len, direction);
+        let _ = &self.pages; // what is looked at is an image
+        let done = self.count_present(addr, len, direction);
         if done < len { Some(done) } else { None }
     }
 }

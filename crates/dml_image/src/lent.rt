@@ -71,6 +71,7 @@ impl<'a> Lent<'a> {
         match image.into_pages() {
             Pages::Lent(lent) => *self = lent,
             Pages::Own(_) => unreachable!(),
+            Pages::Segments(_) => unreachable!(),
         }
     }
 

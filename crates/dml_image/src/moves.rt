@@ -6,7 +6,7 @@ ghost use Rattle.dml_image.specs.Kept.{kept_by};
 
 use crate::images::Pages;
 use crate::ranges::{begin_of_page, rest_of_page};
-use crate::slices::SHORT;
+use crate::slices::at_once;
 use dml_types::Direction;
 
 impl Pages<'_> {
@@ -50,8 +50,7 @@ impl Pages<'_> {
         let mut done = 0;
         while done < len {
             let (from, to) = (source + done as u64, target + done as u64);
-            let part = self.part_behind(from, to, len - done);
-            self.copy_part(from, to, part);
+            let part = self.copy_behind(from, to, len - done);
             done += part;
         }
     }
@@ -66,42 +65,86 @@ impl Pages<'_> {
     {
         let mut left = len;
         while left > 0 {
-            let part = self.part_before(source + left as u64, target + left as u64, left);
+            let part = self.copy_before(source + left as u64, target + left as u64, left);
             left -= part;
-            self.copy_part(source + left as u64, target + left as u64, part);
         }
     }
 
-    /// How many bytes from two addresses on are copied at once, `most` at most.
-    fn part_behind(&self, from: u64, to: u64, most: usize) -> usize
-        requires { 0 < most }
+    /// Copies bytes from one address on to those from another on, as many as go at once, `most` at most. Returns how
+    /// many.
+    fn copy_behind(&mut self, from: u64, to: u64, most: usize) -> usize
+        requires memory { IsMemory (kept_by self.old) }
+        requires some { 0 < most }
+        requires from { IsTrue (has_all (kept_by self.old) from most) }
+        requires to { IsTrue (has_all (kept_by self.old) to most) }
         ensures some { 0 < result }
         ensures most { result ≤ most }
-        ensures copy { IsCopyIn self.now from to result }
+        ensures copied { kept_by self.new ≡ put (kept_by self.old) to (bytes_at (kept_by self.old) from result) }
     {
-        let apart = most.min(from.abs_diff(to).max(SHORT as u64) as usize);
         match self {
-            Pages::Own(_) => apart.min(rest_of_page(from)).min(rest_of_page(to)),
-            Pages::Lent(_) => apart,
+            Pages::Own(table) => {
+                let in_page = rest_of_page(from).min(rest_of_page(to));
+                let part = at_once(from, to, most.min(in_page));
+                table.copy_part(from, to, part);
+                part
+            }
+            Pages::Lent(lent) => {
+                let part = at_once(from, to, most);
+                lent.copy_part(from, to, part);
+                part
+            }
+            Pages::Segments(segments) => segments.copy_behind(from, to, most),
         }
     }
 
-    /// How many bytes before two addresses are copied at once, `most` at most.
-    fn part_before(&self, from: u64, to: u64, most: usize) -> usize
+    /// Copies bytes before one address to those before another, as many as go at once, `most` at most. Returns how
+    /// many.
+    fn copy_before(&mut self, from: u64, to: u64, most: usize) -> usize
+        requires memory { IsMemory (kept_by self.old) }
         requires some { 0 < most }
         requires within { (most ≤ from) × (most ≤ to) }
+        requires from { IsTrue (has_all (kept_by self.old) (from - most) most) }
+        requires to { IsTrue (has_all (kept_by self.old) (to - most) most) }
         ensures some { 0 < result }
         ensures most { result ≤ most }
-        ensures copy { IsCopyIn self.now (from - result) (to - result) result }
+        ensures copied { kept_by self.new
+            ≡ put (kept_by self.old) (to - result) (bytes_at (kept_by self.old) (from - result) result) }
     {
-        let apart = most.min(from.abs_diff(to).max(SHORT as u64) as usize);
         match self {
-            Pages::Own(_) => apart.min(begin_of_page(from)).min(begin_of_page(to)),
-            Pages::Lent(_) => apart,
+            Pages::Own(table) => {
+                let in_page = begin_of_page(from).min(begin_of_page(to));
+                let part = at_once(from, to, most.min(in_page));
+                table.copy_part(from - part as u64, to - part as u64, part);
+                part
+            }
+            Pages::Lent(lent) => {
+                let part = at_once(from, to, most);
+                lent.copy_part(from - part as u64, to - part as u64, part);
+                part
+            }
+            Pages::Segments(segments) => segments.copy_before(from, to, most),
+        }
+    }
+
+    /// How many bytes from two addresses on are copied at once, `most` at most; none in segments, which copy by
+    /// themselves.
+    fn part_behind(&self, from: u64, to: u64, most: usize) -> usize
+        requires { 0 < most }
+        ensures most { result ≤ most }
+        ensures copy { 0 < result → IsCopyIn self.now from to result }
+    {
+        match self {
+            Pages::Own(_) => at_once(from, to, most)
+                .min(rest_of_page(from))
+                .min(rest_of_page(to)),
+            Pages::Lent(_) => at_once(from, to, most),
+            Pages::Segments(_) => 0,
         }
     }
 
     /// Copies so many bytes at once.
+    // It stands apart, so that a move is small enough to be put into its caller.
+    #[inline(never)]
     fn copy_part(&mut self, from: u64, to: u64, len: usize)
         requires memory { IsMemory (kept_by self.old) }
         requires some { 0 < len }
@@ -113,6 +156,7 @@ impl Pages<'_> {
         match self {
             Pages::Own(table) => table.copy_part(from, to, len),
             Pages::Lent(lent) => lent.copy_part(from, to, len),
+            Pages::Segments(_) => unreachable!(),
         }
     }
 }

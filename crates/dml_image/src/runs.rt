@@ -17,6 +17,7 @@ pub fn present_in_page(image: &Image, addr: u64, len: u32) -> u32
 }
 
 /// How many of `len` bytes come before the first absent one upwards.
+#[inline(always)]
 #[tactic(auto, using(crate::proofs::RunLemmas::run_upwards))]
 pub fn present_upwards(image: &Image, addr: u64, len: u32) -> u32
     requires { addr + len ≤ 2 ^ 64 }
@@ -36,6 +37,7 @@ pub fn present_upwards(image: &Image, addr: u64, len: u32) -> u32
 }
 
 /// How many of `len` bytes come before the first absent one downwards, from the last byte on.
+#[inline(always)]
 #[tactic(auto, using(crate::proofs::RunLemmas::run_downwards))]
 pub fn present_downwards(image: &Image, addr: u64, len: u32) -> u32
     requires { addr + len ≤ 2 ^ 64 }

@@ -1,8 +1,8 @@
-ghost use Rattle.std.specs.Prelude.{◌≡◌, ◌+◌, ◌-◌, ◌/◌, ◌%◌, ◌<◌, ◌≤◌, None, min, length, IfOk, OnErr, OnOk, IsOk, IsTrue};
-ghost use Rattle.dml_types.specs.Memory.{has, bytes_at, put, puts_made};
+ghost use Rattle.std.specs.Prelude.{◌≡◌, ◌+◌, ◌-◌, ◌/◌, ◌%◌, ◌<◌, ◌≤◌, None, true, false, min, length, IfOk, OnErr, OnOk, IsOk, IsTrue};
+ghost use Rattle.dml_types.specs.Memory.{has, bytes_at, is_in_segments, is_own, put, puts_made};
 ghost use Rattle.dml_types.specs.Bytewise.{pattern_bytes};
 ghost use Rattle.dml_image.specs.Blocks.{block_puts_from};
-ghost use Rattle.dml_image.specs.Brought.{all_absent, brought, has_page};
+ghost use Rattle.dml_image.specs.Brought.{all_absent, brought, evicted, has_page};
 ghost use Rattle.dml_image.specs.Copied.{IsOneCopy};
 
 use crate::PAGE_SIZE;
@@ -58,6 +58,7 @@ impl Table {
         ensures err { OnErr result (self.new ≡ self.old) }
         ensures again { IsTrue (has_page self.old page) → IsOk result }
         ensures own { self.old.home ≡ None }
+        ensures no_segments { is_in_segments self.old ≡ false }
     {
         if let Some(present) = &mut self.pages[page] {
             present.write(0, bytes);
@@ -66,6 +67,21 @@ impl Table {
         let made = Page::new(self.alloc, bytes)?;
         self.pages[page] = Some(made);
         Ok(())
+    }
+
+    /// Makes a page absent, and gives its memory back. Returns whether it was present.
+    pub fn evict(&mut self, page: usize) -> bool
+        requires { page < length self.old.present }
+        ensures page { result ≡ has_page self.old page }
+        ensures gone { result ≡ true → self.new ≡ evicted self.old page }
+        ensures kept { result ≡ false → self.new ≡ self.old }
+        ensures own { IsTrue (is_own self.old) }
+    {
+        if self.pages[page].is_none() {
+            return false;
+        }
+        self.pages[page] = None;
+        true
     }
 
     /// Whether the byte at this address is present.

@@ -58,6 +58,7 @@ impl<'a> Whole<'a> {
         match image.into_pages() {
             Pages::Lent(lent) => self.content = lent.content,
             Pages::Own(_) => unreachable!(),
+            Pages::Segments(_) => unreachable!(),
         }
     }
 }

@@ -1,3 +1,6 @@
+mod holes;
+mod segments;
+
 ghost use Rattle.std.specs.Prelude.{◌≡◌};
 
 use dml_image::{Image, ImageError, Lent, Whole};
@@ -585,4 +588,15 @@ fn holds_2048_pages(rt: HostRuntime) -> Result<(), Fail> {
 #[test]
 fn holds_4096_pages(rt: HostRuntime) -> Result<(), Fail> {
     hold(rt.alloc(), 4096)
+}
+
+/// Each page goes before the next one comes, so one is held at most.
+#[test]
+fn holds_pages_that_went(rt: HostRuntime) -> Result<(), Fail> {
+    let mut image = Image::new(rt.alloc(), 4096)?;
+    for page in 0..4096 {
+        bring_full(&mut image, page, 0x5a)?;
+        assert_eq!(rt; image.evict(page), Ok(true));
+    }
+    Ok(())
 }

@@ -16,6 +16,7 @@ use dml_types::Found;
 
 /// The next present bytes from an address on: what is left there of a part of a page that was begun, or else what the
 /// page has from there on, at most `len` bytes. `None` where the byte there is absent.
+#[inline(always)]
 #[tactic(auto, using(crate::proofs::CompareLemmas::part_of_page))]
 fn next_part<'a>(image: &'a Image, rest: &'a [u8], addr: u64, len: u32) -> Option<&'a [u8]>
     requires some { 0 < len }

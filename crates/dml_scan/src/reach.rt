@@ -1,10 +1,10 @@
 //! How far a scan goes in a range, and what stops it.
 
-ghost use Rattle.std.specs.Prelude.{◌≡◌, ◌+◌, ◌-◌, ◌^◌, ◌<◌, ◌≤◌, Some, true, false};
+ghost use Rattle.std.specs.Prelude.{◌≡◌, ◌+◌, ◌-◌, ◌^◌, ◌<◌, ◌≤◌, Some, true, false, if◌then◌else◌};
 ghost use Rattle.dml_types.specs.declared.operations.Op.TheVariants.{Fill, Move, Dualcast};
 ghost use Rattle.dml_types.specs.Job.{op_of};
 ghost use Rattle.dml_types.specs.Bytewise.{operation_direction};
-ghost use Rattle.dml_types.specs.Memory.{worked_offset, present_toward};
+ghost use Rattle.dml_types.specs.Memory.{has, worked_offset, present_toward};
 ghost use Rattle.dml_types.specs.Chunk.{scan_found};
 ghost use Rattle.dml_scan.specs.Found.{done_count};
 ghost use Rattle.dml_scan.specs.Work.{IsWorkDirection};
@@ -120,10 +120,20 @@ pub fn move_found(image: &Image, job: &Checked, from: u32, to: u32) -> Found
         return Found::All;
     }
     let offset = next_offset(direction, len, done);
-    if !image.has(source + offset) {
-        return read_fault(done, source + offset);
+    fault_at(image, done, source + offset, target + offset)
+}
+
+/// The end at a byte that cannot be moved: at its read, or else at its write. It stands apart, so that a scan without a
+/// fault is small enough to be put into its caller.
+#[inline(never)]
+fn fault_at(image: &Image, done: u32, source: u64, target: u64) -> Found
+    ensures { result ≡ (if has image.now source then Found.Fault done target true else Found.Fault done source false) }
+{
+    if image.has(source) {
+        write_fault(done, target)
+    } else {
+        read_fault(done, source)
     }
-    write_fault(done, target + offset)
 }
 
 /// How the scan of a chunk of a dualcast ends: at one offset the read comes first, and then the writes in their order.

@@ -1,5 +1,5 @@
 -- A memory image: pages that are present or absent, and the bytes from address 0 on.
-use Rattle.std.specs.Prelude.{◌≡◌, ℕ, ◌+◌, ◌-◌, ◌*◌, ◌/◌, ◌≤◌, Bool, true, false, not, Option, List, [], ◌∷◌, ◌++◌, length, take, drop, slice_index, slice_index_or, slice_range, nat_eq}
+use Rattle.std.specs.Prelude.{◌≡◌, ℕ, ◌+◌, ◌-◌, ◌*◌, ◌/◌, ◌≤◌, Bool, true, false, not, ◌&&◌, Option, is_none, List, [], ◌∷◌, ◌++◌, length, take, drop, slice_index, slice_index_or, slice_range, nat_eq}
 use Rattle.dml_types.specs.Types.{Direction, Forward, Backward, position_or_len, range_with_len}
 
 -- the first index: the least i below n with test i, and n where there is none
@@ -9,14 +9,22 @@ first n test = position_or_len test (range_with_len 0 n)
 abbrev pub page_size : ℕ
 page_size = 4096
 
--- how memory is lent: `home` says it, or all of it is lent in one piece, each page present, and this names the
--- reference that was lent
+-- where a segment of lent memory lies: its first page, how many pages it has, and the name of the reference that was lent
+pub record Place : Type 0 where
+  pub first : ℕ
+  pub pages : ℕ
+  pub name : ℕ
+
+-- how memory is lent: `home` says it; or all of it is lent in one piece, each page present, and this names the
+-- reference that was lent; or it is lent in segments that lie at these places, and a page in none of them is absent
 pub data Loan : Type 0 where
   ByHome : Loan
   InOnePiece : (name : ℕ) → Loan
+  InSegments : (places : List Place) → Loan
 
 -- `home` and `loan` are for the prover alone. `home` is the name of the reference that was lent with a list of which
--- pages are present; it is none for an image's own pages, and for memory in one piece. No step reads or changes the two
+-- pages are present; it is none for an image's own pages, and for memory in one piece or in segments. No step reads or
+-- changes the two
 pub record Memory : Type 0 where
   pub present : List Bool
   pub bytes : List ℕ
@@ -39,9 +47,23 @@ on_loan memory loan = record memory { loan = loan }
 abbrev pub is_one_piece : Loan → Bool
 is_one_piece ByHome = false
 is_one_piece (InOnePiece name) = true
+is_one_piece (InSegments places) = false
 
 abbrev pub is_in_one_piece : Memory → Bool
 is_in_one_piece memory = is_one_piece memory.loan
+
+-- whether it is lent in segments
+abbrev pub are_segments : Loan → Bool
+are_segments ByHome = false
+are_segments (InOnePiece name) = false
+are_segments (InSegments places) = true
+
+abbrev pub is_in_segments : Memory → Bool
+is_in_segments memory = are_segments memory.loan
+
+-- whether the pages are an image's own: nobody lent them
+abbrev pub is_own : Memory → Bool
+is_own memory = is_none memory.home && not (is_in_one_piece memory) && not (is_in_segments memory)
 
 -- there are as many bytes as the pages have, present and absent pages alike
 pub record IsWhole (memory : Memory) : Type 0 where
@@ -51,8 +73,8 @@ pub record IsWhole (memory : Memory) : Type 0 where
 abbrev pub has : Memory → ℕ → Bool
 has memory address = slice_index_or memory.present (address / page_size) false
 
--- what every image keeps: 1 to 2^32 - 1 whole pages, 4,096 at most but where it is lent in one piece, and an absent
--- byte stands as 0
+-- what every image keeps: 1 to 2^32 - 1 whole pages, 4,096 at most but where it is lent in one piece or in segments, and
+-- an absent byte stands as 0
 pub record IsMemory (memory : Memory) : Type 0 where
   pub least_pages : 1 ≤ length memory.present
   pub most_pages : length memory.present ≤ 4294967295

@@ -1,10 +1,12 @@
-//! Rows over each kind of memory: an image's own pages, pages that a caller lends, and memory lent in one piece.
+//! Rows over each kind of memory: an image's own pages, pages that a caller lends, and memory lent in one piece or in
+//! segments.
 
 use super::lent::{blank_pages, lent};
 use super::rows::{
     Row, Way, bring_pages, engine_of, expect_from, expect_own, expect_records, page_of, settings,
     with_given,
 };
+use super::segments::over_segments;
 use dml_effect::are_whole_pages;
 use dml_engine::{EngineOver, run_batch_over, run_list_over};
 use dml_image::{Image, Whole};
@@ -29,6 +31,7 @@ pub(super) fn everywhere<R: Abort + Threads + Wait + Sync>(
             let own = engine.image();
             over_lent(rt, alloc, row, way, settings, given, own)?;
             in_one_piece(rt, alloc, row, way, settings, given, own)?;
+            over_segments(rt, alloc, row, way, settings, given, own)?;
             // No gate can be given where there is no engine.
             if !given {
                 without_engine(rt, alloc, row, way, settings, own)?;
@@ -39,7 +42,7 @@ pub(super) fn everywhere<R: Abort + Threads + Wait + Sync>(
 }
 
 /// The caller's memory has the bytes of an image of its own pages, and 0 where a page is absent.
-fn expect_same(rt: &impl Abort, row: &Row, own: &Image, content: &[u8]) {
+pub(super) fn expect_same(rt: &impl Abort, row: &Row, own: &Image, content: &[u8]) {
     let absent = [0; 4096];
     for (page, bytes) in content.chunks_exact(4096).enumerate() {
         let begin = (page as u64).saturating_mul(4096);

@@ -21,7 +21,7 @@ const SETTINGS: Settings = Settings {
 };
 
 /// A client fills 12 bytes from 6 before an address on, behind which no page is, and moves 4 of them to address 8.
-fn expect_served<R: Abort + Threads + Wait + Sync>(
+pub(super) fn expect_served<R: Abort + Threads + Wait + Sync>(
     rt: &R,
     alloc: Global,
     image: Image<'_>,
@@ -89,7 +89,7 @@ fn portal_over_one_piece(rt: HostRuntime) -> Result<(), Fail> {
 }
 
 /// A portal of one client over an image.
-fn over<'a>(alloc: Global, image: Image<'a>, row: Row) -> Option<One<'a>> {
+pub(super) fn over<'a>(alloc: Global, image: Image<'a>, row: Row) -> Option<One<'a>> {
     let engine = EngineOver::new(alloc, image, SETTINGS).ok()?;
     One::over(alloc, engine, row.capacity())
 }
@@ -119,7 +119,7 @@ fn rows_over_one_piece(rt: HostRuntime) -> Result<(), Fail> {
 }
 
 /// A portal of three clients over an image.
-fn three_over<'a>(alloc: Global, image: Image<'a>, capacity: u32) -> Option<Three<'a>> {
+pub(super) fn three_over<'a>(alloc: Global, image: Image<'a>, capacity: u32) -> Option<Three<'a>> {
     let engine = EngineOver::new(alloc, image, SETTINGS).ok()?;
     Three::over(alloc, engine, capacity)
 }
@@ -154,7 +154,7 @@ fn three_clients_over_one_piece(rt: HostRuntime) -> Result<(), Fail> {
 
 /// A server that stays up over an image of two pages, the second of which is absent and lent, brings no page, and a
 /// client's job faults on it.
-fn expect_stays_up<R: Abort + Threads + Wait + Sync>(
+pub(super) fn expect_stays_up<R: Abort + Threads + Wait + Sync>(
     rt: &R,
     alloc: Global,
     image: Image<'_>,

@@ -13,22 +13,22 @@ overflow_add-from c = search (rules, range_fits _ _ _ _ c.requires.memory c.requ
 pub overflow_add-to : goal.overflow_add-to
 overflow_add-to c = search (rules, range_fits _ _ _ _ c.requires.memory c.requires.target c.loop-done-test.true)
 
-pub copy_part-requires-clause-memory : goal.copy_part-requires-clause-memory
-copy_part-requires-clause-memory c =
+pub copy_behind-part-requires-clause-memory : goal.copy_behind-part-requires-clause-memory
+copy_behind-part-requires-clause-memory c =
     up_kept _ _ c.args.source _ _ _ c.requires.memory c.requires.source c.requires.target c.loop-done.invariant.moved c.loop-done.invariant.within
 
-pub copy_part-requires-clause-from : goal.copy_part-requires-clause-from
-copy_part-requires-clause-from c =
-    part_after _ _ _ c.args.source _ _ _ _ c.loop-done.invariant.moved c.requires.source (omega arith) (omega (arith, c.part_behind-part.ensures.most))
+pub copy_behind-part-requires-clause-from : goal.copy_behind-part-requires-clause-from
+copy_behind-part-requires-clause-from c =
+    part_after _ _ _ c.args.source _ _ _ _ c.loop-done.invariant.moved c.requires.source (omega arith) (omega (arith, c.loop-done.invariant.within))
 
-pub copy_part-requires-clause-to : goal.copy_part-requires-clause-to
-copy_part-requires-clause-to c =
-    part_after _ _ _ c.args.target _ _ _ _ c.loop-done.invariant.moved c.requires.target (omega arith) (omega (arith, c.part_behind-part.ensures.most))
+pub copy_behind-part-requires-clause-to : goal.copy_behind-part-requires-clause-to
+copy_behind-part-requires-clause-to c =
+    part_after _ _ _ c.args.target _ _ _ _ c.loop-done.invariant.moved c.requires.target (omega arith) (omega (arith, c.loop-done.invariant.within))
 
 pub loop-done-preserved : goal.loop-done-preserved
 loop-done-preserved c = record {
-  within = omega (arith, c.part_behind-part.ensures.most);
+  within = omega (arith, c.copy_behind-part.ensures.most);
   moved =
       up_more (kept_by c.args.self.now) _ _ c.args.source _ _ _ _ c.requires.memory c.requires.source c.requires.target c.requires.order
-      c.loop-done.invariant.moved c.part_behind-part.ensures.some (omega (arith, c.part_behind-part.ensures.most)) c.copy_part.ensures;
+      c.loop-done.invariant.moved c.copy_behind-part.ensures.some (omega (arith, c.copy_behind-part.ensures.most)) c.copy_behind-part.ensures.copied;
 }

@@ -1,0 +1,303 @@
+//! Lists and batches over memory in segments: the rows, cut at each choice of their pages, and jobs over eight segments
+//! with holes between them, with workers and without.
+ghost use Rattle.std.specs.Prelude.{IfOk};
+ghost use Rattle.dml_image.specs.Pieces.{AreSegments, pieces_of};
+
+use super::kinds::expect_same;
+use super::rows::{Row, Way, delta_answer, expect_from, page_of, with_given};
+use super::{USUAL, answer, put};
+use dml_engine::EngineOver;
+use dml_image::{Image, Segment, are_segments};
+use dml_types::{Job, Record, Settings, Status, law_of_loans};
+use std::alloc::Global;
+use std::mem;
+use std::process::Abort;
+use std::sync::Wait;
+use std::test::Fail;
+use std::thread::Threads;
+
+/// Bytes of a row's pages, one behind the other, those of absent pages 0.
+fn content_of(alloc: Global, row: &Row) -> Option<Vec<u8>> {
+    let mut content = vec![in alloc; 0; 4096 * row.pages as usize].ok()?;
+    for (page, bytes) in content.chunks_exact_mut(4096).enumerate() {
+        let number = u32::try_from(page).ok()?;
+        if row.present.contains(&number) {
+            put(bytes, &page_of(row, number));
+        }
+    }
+    Some(content)
+}
+
+/// Whether a segment ends in front of a page: the last one's end, where presence changes, and where the bit of the page
+/// is set in `cuts`.
+fn ends_at(row: &Row, page: u32, cuts: u32) -> bool {
+    page >= row.pages
+        || row.present.contains(&page) != row.present.contains(&page.saturating_sub(1))
+        || (page < 32 && cuts & (1 << page) != 0)
+}
+
+/// The segments of a row's pages that are present, cut so, and an empty one behind the last page, so that there are as
+/// many pages where that is absent.
+fn segments_of<'a>(
+    alloc: Global,
+    row: &Row,
+    content: &'a mut [u8],
+    cuts: u32,
+) -> Option<Vec<Segment<'a>>> {
+    let mut segments = Vec::new(alloc);
+    let (mut rest, mut first) = (content, 0_u32);
+    for page in 1..=row.pages {
+        if ends_at(row, page, cuts) {
+            let len = page.saturating_sub(first) as usize * 4096;
+            let (front, back) = mem::take(&mut rest).split_at_mut_checked(len)?;
+            if row.present.contains(&first) {
+                segments.push(Segment::new(first, front)).ok()?;
+            }
+            rest = back;
+            first = page;
+        }
+    }
+    segments.push(Segment::new(row.pages, rest)).ok()?;
+    Some(segments)
+}
+
+/// A row's answers over its pages in segments, cut so, with the engine's own gate or with one given.
+fn expect_cut<R: Abort + Threads + Wait + Sync>(
+    rt: &R,
+    alloc: Global,
+    row: &Row,
+    way: Way,
+    settings: Settings,
+    given: bool,
+    cuts: u32,
+) -> Option<Vec<u8>> {
+    let mut content = content_of(alloc, row)?;
+    let segments = segments_of(alloc, row, content.as_mut_slice(), cuts)?;
+    assert!(rt; are_segments(&segments));
+    let image = Image::over_segments(segments);
+    let mut engine = with_given(EngineOver::new(alloc, image, settings).ok()?, given);
+    expect_from(rt, alloc, row, way, &mut engine)?;
+    drop(engine);
+    Some(content)
+}
+
+/// How many choices there are of pages in front of which a row is cut: of those behind the first, of three at most.
+fn choices(row: &Row) -> u32 {
+    match row.pages {
+        0 | 1 => 1,
+        2 => 2,
+        3 => 4,
+        _ => 8,
+    }
+}
+
+/// A row's answers over its pages in segments that are cut in front of each choice of its pages, and what it leaves as
+/// over an image's own pages. With a gate that is given it is cut in front of all.
+pub(super) fn over_segments<R: Abort + Threads + Wait + Sync>(
+    rt: &R,
+    alloc: Global,
+    row: &Row,
+    way: Way,
+    settings: Settings,
+    given: bool,
+    own: &Image,
+) -> Option<()> {
+    let choices = choices(row);
+    for choice in 0..choices {
+        if !given || choice + 1 == choices {
+            let content = expect_cut(rt, alloc, row, way, settings, given, 2 * choice)?;
+            expect_same(rt, row, own, content.as_slice());
+        }
+    }
+    Some(())
+}
+
+/// How many segments there are.
+const SEGMENTS: usize = 8;
+
+/// Where a segment of two pages begins: behind each is a hole of two pages.
+fn small(segment: u64) -> u64 {
+    segment.wrapping_mul(16_384)
+}
+
+/// Where a segment of a mebibyte begins: behind each is a hole of a mebibyte.
+fn large(segment: u64) -> u64 {
+    segment.wrapping_mul(2_097_152)
+}
+
+/// The segments of a memory that is cut in eight, so many pages apart.
+fn eight<'a>(
+    rt: &impl Abort,
+    alloc: Global,
+    content: &'a mut [u8],
+    apart: u32,
+) -> Result<Vec<Segment<'a>>, Fail>
+    ensures { IfOk result (λ list. AreSegments (pieces_of list.items)) }
+{
+    let mut segments = Vec::with_capacity(alloc, SEGMENTS)?;
+    let len = content.len() / SEGMENTS;
+    let mut rest = content;
+    for number in 0..8_u32 {
+        let (front, back) = mem::take(&mut rest)
+            .split_at_mut_checked(len)
+            .ok_or("too few bytes")?;
+        segments.push(Segment::new(number.wrapping_mul(apart), front))?;
+        rest = back;
+    }
+    assert!(rt; are_segments(&segments));
+    Ok(segments)
+}
+
+/// A pattern of sevens.
+const SEVENS: u64 = 0x0707_0707_0707_0707;
+
+/// Jobs from one segment of two pages to another, over both pages, and into holes.
+fn small_jobs() -> [Job; 8] {
+    [
+        Job::fill(SEVENS, small(7), 8192),
+        Job::move_bytes(small(7), small(0), 8192),
+        Job::dualcast(small(0) + 100, small(1), small(2) + 4096, 4096),
+        Job::compare(small(0), small(1), 8192),
+        Job::create_delta(small(3), small(2) + 4088, 16, small(4) + 4090, 20),
+        Job::apply_delta(small(4) + 4090, 10, small(5) + 4088, 16),
+        Job::move_bytes(small(0), small(6) + 8000, 400),
+        Job::compare_pattern(small(7) + 8184, SEVENS, 16),
+    ]
+}
+
+/// What they answer, one after another.
+fn small_records() -> [Record; 8] {
+    [
+        answer(Status::Success, 0, 8192, 0),
+        answer(Status::Success, 0, 8192, 0),
+        answer(Status::Success, 0, 4096, 0),
+        answer(Status::Success, 1, 4096, 0),
+        delta_answer(Status::Success, 1, 16, 0, 10),
+        answer(Status::Success, 0, 10, 0),
+        answer(Status::WriteFault, 0, 192, small(6) + 8192),
+        answer(Status::ReadFault, 0, 8, small(7) + 8192),
+    ]
+}
+
+/// What they leave of the segments, one behind the other, in which all is 0 at first.
+fn small_left() -> [u8; 65_536] {
+    let mut left = [0; 65_536];
+    left[..8192].fill(7); // segment 0
+    left[8192..12_288].fill(7); // the first page of segment 1
+    left[20_480..24_576].fill(7); // the second page of segment 2
+    left[36_858] = 1; // in segment 4, an entry of the second block
+    left[36_860..36_868].fill(7);
+    left[45_056..45_064].fill(7); // in segment 5, that block
+    left[57_152..].fill(7); // the end of segment 6, and segment 7
+    left
+}
+
+/// A list over eight segments, which are taken back from the engine.
+fn expect_small_list<R: Abort + Threads + Wait + Sync>(
+    rt: &R,
+    alloc: Global,
+    settings: Settings,
+) -> Result<(), Fail> {
+    let mut content = [0; 65_536];
+    let image = Image::over_segments(eight(rt, alloc, &mut content, 4)?);
+    let Ok(mut engine) = EngineOver::new(alloc, image, settings) else {
+        return Err("no memory".into());
+    };
+    law_of_loans();
+    let records = engine.submit_list(rt, alloc, &small_jobs())?;
+    assert_eq!(rt; records.as_slice(), small_records().as_slice());
+    assert_eq!(rt; engine.into_image().into_segments().len(), SEGMENTS);
+    assert!(rt; content == small_left());
+    Ok(())
+}
+
+/// The same of a batch. Its apply waits for the create, and the last job, behind a job that faults, is abandoned.
+fn expect_small_batch<R: Abort + Threads + Wait + Sync>(
+    rt: &R,
+    alloc: Global,
+    settings: Settings,
+) -> Result<(), Fail> {
+    let mut content = [0; 65_536];
+    let image = Image::over_segments(eight(rt, alloc, &mut content, 4)?);
+    let Ok(mut engine) = EngineOver::new(alloc, image, settings) else {
+        return Err("no memory".into());
+    };
+    let (mut jobs, mut want) = (small_jobs(), small_records());
+    for fenced in [5, 7] {
+        jobs[fenced] = jobs[fenced].with_flags(0x01);
+    }
+    want[7] = Record::refused(Status::Abandoned);
+    law_of_loans();
+    let (own, records) = engine.submit_batch(rt, alloc, &jobs)?;
+    assert_eq!(rt; (own.status, own.completed), (Status::BatchFailed, 7));
+    assert_eq!(rt; records.as_slice(), want.as_slice());
+    assert_eq!(rt; engine.into_image().into_segments().len(), SEGMENTS);
+    assert!(rt; content == small_left());
+    Ok(())
+}
+
+/// With 1, 2 and 16 workers, and tasks of 8 bytes and of a page: all alike.
+#[test]
+fn jobs_over_eight_segments(rt: HostRuntime) -> Result<(), Fail> {
+    for workers in [1, 2, 16] {
+        for chunk in [8, 4096] {
+            let settings = Settings {
+                workers,
+                chunk,
+                ..USUAL
+            };
+            expect_small_list(&rt, rt.alloc(), settings)?;
+            expect_small_batch(&rt, rt.alloc(), settings)?;
+        }
+    }
+    Ok(())
+}
+
+/// Jobs of a mebibyte each, of two levels and worth several workers.
+fn large_jobs() -> [Job; 7] {
+    [
+        Job::fill(SEVENS, large(0), 1_048_576),
+        Job::compare_pattern(large(1), 0, 1_048_576),
+        Job::compare(large(2), large(3), 1_048_576),
+        Job::move_bytes(large(0), large(4), 1_048_576),
+        Job::compare_pattern(large(4), SEVENS, 1_048_576),
+        Job::compare(large(0), large(4), 1_048_576),
+        Job::compare(large(5), large(6), 1_048_576),
+    ]
+}
+
+/// A list of work enough for several workers.
+fn expect_large_list<R: Abort + Threads + Wait + Sync>(
+    rt: &R,
+    alloc: Global,
+    settings: Settings,
+) -> Result<(), Fail> {
+    let mut content = vec![in alloc; 0; SEGMENTS * 1_048_576]?;
+    let image = Image::over_segments(eight(rt, alloc, content.as_mut_slice(), 512)?);
+    let Ok(mut engine) = EngineOver::new(alloc, image, settings) else {
+        return Err("no memory".into());
+    };
+    let records = engine.submit_list(rt, alloc, &large_jobs())?;
+    let want = [answer(Status::Success, 0, 1_048_576, 0); 7];
+    assert_eq!(rt; records.as_slice(), want.as_slice());
+    drop(engine);
+    for (segment, bytes) in content.chunks_exact(1_048_576).enumerate() {
+        let byte = if segment == 0 || segment == 4 { 7 } else { 0 };
+        assert!(rt; bytes.iter().all(|there| *there == byte), "{segment}");
+    }
+    Ok(())
+}
+
+/// With 1, 2 and 16 workers: all alike. How many of them are started is counted beside the tests.
+#[test]
+fn list_on_workers_over_eight_segments(rt: HostRuntime) -> Result<(), Fail> {
+    for workers in [1, 2, 16] {
+        let settings = Settings {
+            workers,
+            chunk: 65_536,
+            ..USUAL
+        };
+        expect_large_list(&rt, rt.alloc(), settings)?;
+    }
+    Ok(())
+}

@@ -113,8 +113,11 @@ fn reserve_within(late: &mut VecDeque<Record>, most: usize) -> Result<(), AllocE
 /// Pushes to a client the records that wait, the oldest first, as far as its ring has room.
 fn push_late(lane: &mut Lane)
     ensures kept { kept_by lane.new ≡ kept_by lane.old }
+    ensures fewer { deque_len lane.new.late ≤ deque_len lane.old.late }
     ensures pushed { HasPushed lane.new }
     ensures sent { HasSentMore lane.old lane.new }
+    ensures before { lane.new.before ≡ lane.old.before }
+    ensures fetched { lane.new.fetched ≡ lane.old.fetched }
     ensures jobs { lane.new.jobs ≡ lane.old.jobs }
     ensures late_room { room_by lane.new ≡ room_by lane.old }
     ensures same { IsSameLane lane.old lane.new }
@@ -161,7 +164,7 @@ fn add_late(lane: &mut Lane, block: &[Record])
 }
 
 /// Pushes to a client all its records of a part of a round, if no earlier one waits and there is room; else they wait.
-fn push_or_keep(lane: &mut Lane, records: &[Record])
+fn push_whole_or_keep(lane: &mut Lane, records: &[Record])
     requires { HasRoom lane.old }
     ensures partly { IsPartly records.now lane.old lane.new }
     ensures room { HasRoom lane.new }
@@ -179,6 +182,22 @@ fn push_or_keep(lane: &mut Lane, records: &[Record])
         return;
     }
     add_late(lane, block);
+}
+
+/// Pushes to a client its records of a part of a round, behind those that wait, as far as its ring has room; the others
+/// wait.
+fn push_or_keep(lane: &mut Lane, records: &[Record])
+    requires { HasRoom lane.old }
+    ensures partly { IsPartly records.now lane.old lane.new }
+    ensures pushed { HasPushed lane.new }
+    ensures room { HasRoom lane.new }
+    ensures sent { HasSentMore lane.old lane.new }
+    ensures jobs { lane.new.jobs ≡ lane.old.jobs }
+    ensures late_room { room_by lane.new ≡ room_by lane.old }
+    ensures same { IsSameLane lane.old lane.new }
+{
+    push_whole_or_keep(lane, records);
+    push_late(lane);
 }
 
 /// The same to each client.

@@ -20,9 +20,9 @@ impl<B: Berths, G: Gate + Sync> OwnServerOver<'_, B, G> {
 
     /// Serves a round: fetches at most 128 jobs of each client that is not held back, clients in order of their
     /// numbers, carries them out as one list, and answers how many they are. The list is carried out in parts of at most
-    /// 8 MiB of its jobs' sizes, or of one job. Behind each, a client's records of that part are pushed where none waits
-    /// for it and its ring has room for all of them. Before the first and behind the last, records that wait are pushed
-    /// as far as the rings have room; the others wait with the client, and more than the server's bound hold it back.
+    /// 8 MiB of its jobs' sizes, or of one job. Before the first and behind each, records are pushed as far as the rings
+    /// have room, those that waited first; the others wait with the client, and more than the server's bound hold it
+    /// back.
     ///
     /// # Errors
     /// `NoMemory` where there is no room for a whole round; then nothing was fetched. Records that waited may have been

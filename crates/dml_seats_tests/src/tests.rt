@@ -9,6 +9,7 @@ mod growths;
 mod parts;
 mod sleeps;
 mod some;
+mod whole;
 
 use dml_engine::Engine;
 use dml_image::Image;

@@ -49,7 +49,7 @@ fn run<B: Berths + Send + 'static, R: Threads + Wait + Sync>(
         threads.push(thread::spawn(rt, move || client(own))?)?;
     }
     for _ in 0..1000 {
-        server.serve_round(rt, alloc)?;
+        let _ = server.serve_round(rt, alloc);
     }
     for thread in threads {
         let done = thread.join(rt);

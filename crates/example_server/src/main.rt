@@ -41,7 +41,7 @@ fn serve<B: Berths, R: Threads + Wait + Eprint + Sync>(
     alloc: Global,
     server: &mut OwnServer<B>,
     bell: &Bell,
-    clients: &Vec<Bell>,
+    clients: &[Bell],
     flag: &AtomicU64,
 ) {
     for _ in rt.forever() {
@@ -94,7 +94,7 @@ fn run<B: Berths + Send + 'static, R: Threads + Wait + Eprint + Sync + Copy + Se
         };
         threads.push(thread::spawn(&rt, job)?)?;
     }
-    serve(&rt, alloc, &mut server, &bell, &bells, &left);
+    serve(&rt, alloc, &mut server, &bell, bells.as_slice(), &left);
     for thread in threads {
         let done = thread.join(&rt);
         server.hand_in(done).map_err(|(_, error)| error)?;

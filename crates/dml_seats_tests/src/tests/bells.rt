@@ -11,15 +11,17 @@ use dml_types::Job;
 use std::alloc::Global;
 use std::env::Env;
 use std::marker::Brand;
-use std::sync::Wait;
+use std::sync::atomic::{AtomicBool, Ordering};
+use std::sync::{Arc, Wait};
 use std::test::Fail;
 use std::thread::{self, Threads};
+use std::time::Duration;
 
 /// How often all clients of a portal together submit a job, ring, and sleep until its record is there, where RINGS in
 /// the environment has no other number.
 const ROUNDS: u32 = 12_500;
 
-/// A ring before the sleep is not lost, and one ends one sleep.
+/// A ring before the sleep is not lost, by whichever handle, and two before it end one.
 #[test]
 fn rung_before_sleep(rt: HostRuntime) -> Result<(), Fail> {
     let bell = Bell::new(rt.alloc())?;
@@ -31,6 +33,28 @@ fn rung_before_sleep(rt: HostRuntime) -> Result<(), Fail> {
         other.ring();
         other.wait(&rt);
     }
+    Ok(())
+}
+
+/// A sleep takes the ring: the next one lasts until the next ring.
+#[test]
+fn one_ring_ends_one_sleep(rt: HostRuntime) -> Result<(), Fail> {
+    let bell = Bell::new(rt.alloc())?;
+    let other = bell.another()?;
+    let is_late = Arc::new(rt.alloc(), AtomicBool::new(false))?;
+    let flag = Arc::try_clone(&is_late)?;
+    bell.ring();
+    bell.wait(&rt);
+    let ring = move || {
+        thread::sleep(&rt, Duration::from_millis(200));
+        flag.store(true, Ordering::SeqCst);
+        other.ring();
+    };
+    let thread = thread::spawn(&rt, ring)?;
+    bell.wait(&rt);
+    let was_late = is_late.load(Ordering::SeqCst);
+    thread.join(&rt);
+    assert!(rt; was_late);
     Ok(())
 }
 
@@ -55,28 +79,30 @@ fn client<B: Berths, R: Wait>(
     seat.finish()
 }
 
-/// Serves rounds until so many jobs were carried out; sleeps where there is none, and rings the clients behind each.
+/// Serves rounds until so many jobs were carried out; sleeps behind one that finds none, and rings the clients behind
+/// each.
 fn serve<B: Berths, R: Threads + Wait + Sync>(
     rt: &R,
     alloc: Global,
     server: &mut OwnServer<B>,
     own: &Bell,
-    clients: &Vec<Bell>,
+    clients: &[Bell],
     jobs: usize,
 ) {
     let mut left = jobs;
     for _ in rt.forever() {
-        let served = server.serve_round(rt, alloc).unwrap_or(0);
+        let round = server.serve_round(rt, alloc);
         server.drop_log();
         for client in clients {
             client.ring();
         }
-        left = left.saturating_sub(served);
+        match round {
+            Ok(0) => own.wait(rt),
+            Ok(served) => left = left.saturating_sub(served),
+            Err(_) => {}
+        }
         if left == 0 {
             break;
-        }
-        if served == 0 {
-            own.wait(rt);
         }
     }
 }
@@ -105,7 +131,7 @@ fn rung<B: Berths + Send + 'static, R: Threads + Wait + Sync + Copy + Send + 'st
         let run = move || client(&rt, seat, &theirs, &ours, rounds);
         threads.push(thread::spawn(&rt, run)?)?;
     }
-    serve(&rt, alloc, &mut server, &own, &bells, jobs);
+    serve(&rt, alloc, &mut server, &own, bells.as_slice(), jobs);
     for thread in threads {
         let done = thread.join(&rt);
         if server.hand_in(done).is_err() {
@@ -131,7 +157,7 @@ fn rings_wake(rt: HostRuntime) -> Result<(), Fail> {
     let all = rounds_of_all(&rt)?;
     for clients in 1..=8 {
         let Opened { server, seats, .. } = portal_of(rt.alloc(), clients, 2).ok_or("no memory")?;
-        let rounds = all / clients;
+        let rounds = all.div_ceil(clients);
         assert!(rt; rung::<Brand, HostRuntime>(rt, rt.alloc(), server, seats, rounds)?);
     }
     Ok(())

@@ -40,13 +40,11 @@ fn serve<B: Berths, R: Threads + Wait + Files + Alloc + Sync>(
     let mut jobs = 0usize;
     for _ in rt.forever() {
         let is_last = stop.load(Ordering::SeqCst);
-        let served = server.serve_round(rt, alloc).unwrap_or(0);
-        jobs = jobs.saturating_add(served);
-        if served == 0 && is_last {
-            break;
-        }
-        if served == 0 {
-            bell.wait(rt);
+        match server.serve_round(rt, alloc) {
+            Ok(0) if is_last => break,
+            Ok(0) => bell.wait(rt),
+            Ok(served) => jobs = jobs.saturating_add(served),
+            Err(_) => {}
         }
     }
     Some((jobs, taken(rt)?.saturating_sub(start)))

@@ -37,7 +37,7 @@ fn expect_some<B: Berths, R: Abort + Threads + Wait + Sync>(
     Ok(())
 }
 
-/// Three clients submit 150, 3 and no jobs; rounds of them that are held short.
+/// Three clients submit 170, 3 and no jobs; rounds of them that are held short.
 fn short_rounds<B: Berths, R: Abort + Threads + Wait + Sync>(
     rt: &R,
     alloc: Global,

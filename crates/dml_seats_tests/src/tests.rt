@@ -9,6 +9,7 @@ mod growths;
 mod parts;
 mod sleeps;
 mod some;
+mod waits;
 mod whole;
 
 use dml_engine::Engine;

@@ -105,7 +105,7 @@ pub(super) fn over_segments<R: Abort + Threads + Wait + Sync>(
     let choices = choices(row);
     for choice in 0..choices {
         if !given || choice + 1 == choices {
-            let content = expect_cut(rt, alloc, row, way, settings, given, 2 * choice)?;
+            let content = expect_cut(rt, alloc, row, way, settings, given, choice << 1)?;
             expect_same(rt, row, own, content.as_slice());
         }
     }
@@ -115,9 +115,9 @@ pub(super) fn over_segments<R: Abort + Threads + Wait + Sync>(
 /// How many segments there are.
 const SEGMENTS: usize = 8;
 
-/// Where a segment of two pages begins: behind each is a hole of two pages.
-fn small(segment: u64) -> u64 {
-    segment.wrapping_mul(16_384)
+/// Where a byte of a segment of two pages lies: behind each segment is a hole of two pages.
+fn small(segment: u64, byte: u64) -> u64 {
+    segment.wrapping_mul(16_384).wrapping_add(byte)
 }
 
 /// Where a segment of a mebibyte begins: behind each is a hole of a mebibyte.
@@ -154,14 +154,14 @@ const SEVENS: u64 = 0x0707_0707_0707_0707;
 /// Jobs from one segment of two pages to another, over both pages, and into holes.
 fn small_jobs() -> [Job; 8] {
     [
-        Job::fill(SEVENS, small(7), 8192),
-        Job::move_bytes(small(7), small(0), 8192),
-        Job::dualcast(small(0) + 100, small(1), small(2) + 4096, 4096),
-        Job::compare(small(0), small(1), 8192),
-        Job::create_delta(small(3), small(2) + 4088, 16, small(4) + 4090, 20),
-        Job::apply_delta(small(4) + 4090, 10, small(5) + 4088, 16),
-        Job::move_bytes(small(0), small(6) + 8000, 400),
-        Job::compare_pattern(small(7) + 8184, SEVENS, 16),
+        Job::fill(SEVENS, small(7, 0), 8192),
+        Job::move_bytes(small(7, 0), small(0, 0), 8192),
+        Job::dualcast(small(0, 100), small(1, 0), small(2, 4096), 4096),
+        Job::compare(small(0, 0), small(1, 0), 8192),
+        Job::create_delta(small(3, 0), small(2, 4088), 16, small(4, 4090), 20),
+        Job::apply_delta(small(4, 4090), 10, small(5, 4088), 16),
+        Job::move_bytes(small(0, 0), small(6, 8000), 400),
+        Job::compare_pattern(small(7, 8184), SEVENS, 16),
     ]
 }
 
@@ -174,22 +174,30 @@ fn small_records() -> [Record; 8] {
         answer(Status::Success, 1, 4096, 0),
         delta_answer(Status::Success, 1, 16, 0, 10),
         answer(Status::Success, 0, 10, 0),
-        answer(Status::WriteFault, 0, 192, small(6) + 8192),
-        answer(Status::ReadFault, 0, 8, small(7) + 8192),
+        answer(Status::WriteFault, 0, 192, small(6, 8192)),
+        answer(Status::ReadFault, 0, 8, small(7, 8192)),
     ]
 }
 
 /// What they leave of the segments, one behind the other, in which all is 0 at first.
 fn small_left() -> [u8; 65_536] {
     let mut left = [0; 65_536];
-    left[..8192].fill(7); // segment 0
-    left[8192..12_288].fill(7); // the first page of segment 1
-    left[20_480..24_576].fill(7); // the second page of segment 2
-    left[36_858] = 1; // in segment 4, an entry of the second block
-    left[36_860..36_868].fill(7);
-    left[45_056..45_064].fill(7); // in segment 5, that block
-    left[57_152..].fill(7); // the end of segment 6, and segment 7
+    fill_with_sevens(&mut left, 0, 12_288); // segment 0 and the first page of segment 1
+    fill_with_sevens(&mut left, 20_480, 24_576); // the second page of segment 2
+    fill_with_sevens(&mut left, 36_860, 36_868); // in segment 4, an entry of the second block
+    fill_with_sevens(&mut left, 45_056, 45_064); // in segment 5, that block
+    fill_with_sevens(&mut left, 57_152, 65_536); // the end of segment 6, and segment 7
+    if let Some(number) = left.get_mut(36_858) {
+        *number = 1; // of that entry's block
+    }
     left
+}
+
+/// Sets the bytes from one place up to another.
+fn fill_with_sevens(bytes: &mut [u8], from: usize, to: usize) {
+    if let Some(part) = bytes.get_mut(from..to) {
+        part.fill(7);
+    }
 }
 
 /// A list over eight segments, which are taken back from the engine.
@@ -223,9 +231,8 @@ fn expect_small_batch<R: Abort + Threads + Wait + Sync>(
         return Err("no memory".into());
     };
     let (mut jobs, mut want) = (small_jobs(), small_records());
-    for fenced in [5, 7] {
-        jobs[fenced] = jobs[fenced].with_flags(0x01);
-    }
+    jobs[5] = jobs[5].with_flags(0x01);
+    jobs[7] = jobs[7].with_flags(0x01);
     want[7] = Record::refused(Status::Abandoned);
     law_of_loans();
     let (own, records) = engine.submit_batch(rt, alloc, &jobs)?;

@@ -130,15 +130,22 @@ fn far_rows() -> [(Job, Record); 7] {
 /// What they leave of the three pages.
 fn far_left() -> [u8; 12_288] {
     let mut left = [0; 12_288];
-    left[..4088].fill(1);
-    left[4088..4104].fill(3);
-    left[4104..8187].fill(2);
-    left[8188..8197].fill(3);
-    left[8197] = 1;
-    left[8199..8207].fill(3);
-    left[8208..8216].fill(3);
-    left[12_280..].fill(3);
+    fill(&mut left, 0, 4088, 1);
+    fill(&mut left, 4088, 4104, 3);
+    fill(&mut left, 4104, 8187, 2);
+    fill(&mut left, 8188, 8197, 3);
+    fill(&mut left, 8197, 8198, 1);
+    fill(&mut left, 8199, 8207, 3);
+    fill(&mut left, 8208, 8216, 3);
+    fill(&mut left, 12_280, 12_288, 3);
     left
+}
+
+/// Sets the bytes from one place up to another.
+fn fill(bytes: &mut [u8], from: usize, to: usize, byte: u8) {
+    if let Some(part) = bytes.get_mut(from..to) {
+        part.fill(byte);
+    }
 }
 
 #[test]
@@ -151,7 +158,8 @@ fn ranges_in_two_segments(rt: HostRuntime) -> Result<(), Fail> {
     segments.push(Segment::new(FAR, &mut far))?;
     for (job, want) in far_rows() {
         assert!(rt; are_segments(&segments));
-        let answer = submit_over_segments(rt.alloc(), &mut segments, &mut arena, &job, 4096)?;
+        let staging = arena.size();
+        let answer = submit_over_segments(rt.alloc(), &mut segments, &mut arena, &job, staging)?;
         expect_record(&rt, &job, answer, want);
     }
     drop(segments);

@@ -1,5 +1,5 @@
 //! Looks at presence, moves and fills over memory in segments, and the same over one piece.
-ghost use Rattle.std.specs.Prelude.{◌<◌};
+ghost use Rattle.std.specs.Prelude.{◌+◌, ◌<◌, ◌≤◌, ◌^◌};
 
 use dml_arena::Arena;
 use dml_effect::submit_to;
@@ -7,7 +7,7 @@ use dml_image::{Image, Segment, Whole, are_segments};
 use dml_types::{Job, Status};
 use std::alloc::Global;
 use std::io;
-use std::time::Instant;
+use std::time::{Duration, Instant};
 
 const MEBIBYTE: u32 = 1_048_576;
 
@@ -37,9 +37,10 @@ fn eight_segments<'a>(alloc: Global, content: &'a mut [u8]) -> io::Result<Image<
 
 /// Memory in one segment.
 fn one_segment<'a>(alloc: Global, content: &'a mut [u8]) -> io::Result<Image<'a>> {
-    let Ok(segments) = vec![in alloc; Segment::new(0, content)] else {
+    let mut segments = Vec::with_capacity(alloc, 1)?;
+    if segments.push(Segment::new(0, content)).is_err() {
         return Err(io::ErrorKind::OutOfMemory.into());
-    };
+    }
     over(segments)
 }
 
@@ -51,10 +52,12 @@ fn over<'a>(segments: Vec<Segment<'a>>) -> io::Result<Image<'a>> {
     Ok(Image::over_segments(segments))
 }
 
-/// An address of a look: of a segment, and a place in it, that nothing before tells.
-fn place(look: u32) -> u64 {
+/// An address of a look, among 16 MiB: of a segment, and a place in it, that nothing before tells.
+fn place(look: u32) -> u64
+    ensures { result + 64 ≤ 2 ^ 64 }
+{
     let mixed = look.wrapping_mul(0x9e37_79b1);
-    start(mixed >> 29) + u64::from(mixed >> 13 & 0x3fff) * 64
+    start(mixed >> 29).wrapping_add(u64::from(mixed >> 13 & 0x3fff) * 64) & 0xff_ffff
 }
 
 /// How many bytes are present, of those at so many places.
@@ -82,17 +85,21 @@ fn all_present_of(image: &Image, looks: u32) -> u32 {
 }
 
 /// Times looks at a byte's presence, and at that of 64 bytes.
-fn time_looks(rt: &HostRuntime, name: &str, image: &Image, looks: u32) -> io::Result<()>
-    requires { 0 < looks }
-{
+fn time_looks(rt: &HostRuntime, name: &str, image: &Image, looks: u32) -> io::Result<()> {
     let start = Instant::now(rt)?;
     let present = present_of(image, looks);
-    let picoseconds = start.elapsed(rt)?.as_nanos() * 1000 / u128::from(looks);
+    let picoseconds = of_one(start.elapsed(rt)?, looks);
     eprintln!(rt; "{name}_has_ps {present} {picoseconds}")?;
     let start = Instant::now(rt)?;
     let present = all_present_of(image, looks);
-    let picoseconds = start.elapsed(rt)?.as_nanos() * 1000 / u128::from(looks);
+    let picoseconds = of_one(start.elapsed(rt)?, looks);
     eprintln!(rt; "{name}_present_ps {present} {picoseconds}")
+}
+
+/// The picoseconds of one look, of so many.
+fn of_one(all: Duration, looks: u32) -> u128 {
+    let picoseconds = all.as_nanos().saturating_mul(1000);
+    picoseconds.checked_div(u128::from(looks)).unwrap_or(0)
 }
 
 /// Submits a job, by a call that the compiler keeps; none where the arena is too small.
@@ -132,13 +139,18 @@ fn time_job(
 /// Times moves from one segment to another, of a page over a page's edge too, and a fill.
 fn time_jobs(rt: &HostRuntime, name: &str, image: &mut Image, measures: bool) -> io::Result<()> {
     let (source, target) = (start(2), start(5));
+    let edge = source.wrapping_add(8);
     let few = if measures { 400 } else { 1 };
     let many = if measures { 200_000 } else { 1 };
     for (row, job, calls) in [
         ("move", Job::move_bytes(source, target, 64), many),
         ("move", Job::move_bytes(source, target, 4096), many),
         ("move", Job::move_bytes(source, target, MEBIBYTE), few),
-        ("edge", Job::move_bytes(source + 8, target + 8, 4096), many),
+        (
+            "edge",
+            Job::move_bytes(edge, target.wrapping_add(8), 4096),
+            many,
+        ),
         ("fill", Job::fill(7, target, 4096), many),
     ] {
         time_job(rt, name, row, image, &job, calls)?;
@@ -152,18 +164,32 @@ fn time_over(rt: &HostRuntime, name: &str, image: &mut Image, measures: bool) ->
     time_jobs(rt, name, image, measures)
 }
 
-/// Times looks and jobs over one piece, one segment and eight.
-pub(crate) fn time_segments(rt: &HostRuntime, measures: bool) -> io::Result<()> {
-    let mut content = Vec::from_elem(rt.alloc(), 0x5a, 16 * MEBIBYTE as usize)?;
-    let mut whole = Whole::new(content.as_mut_slice());
+/// The same over one piece.
+fn time_piece(rt: &HostRuntime, content: &mut [u8], measures: bool) -> io::Result<()> {
+    let mut whole = Whole::new(content);
     if !whole.is_memory() {
         return Err(io::ErrorKind::InvalidData.into());
     }
-    time_over(rt, "piece", &mut whole.take(), measures)?;
-    drop(whole);
-    let mut one = one_segment(rt.alloc(), content.as_mut_slice())?;
-    time_over(rt, "one_segment", &mut one, measures)?;
-    drop(one);
-    let mut eight = eight_segments(rt.alloc(), content.as_mut_slice())?;
-    time_over(rt, "eight_segments", &mut eight, measures)
+    let mut image = whole.take();
+    time_over(rt, "piece", &mut image, measures)
+}
+
+/// The same over one segment.
+fn time_one(rt: &HostRuntime, content: &mut [u8], measures: bool) -> io::Result<()> {
+    let mut image = one_segment(rt.alloc(), content)?;
+    time_over(rt, "one_segment", &mut image, measures)
+}
+
+/// The same over eight segments.
+fn time_eight(rt: &HostRuntime, content: &mut [u8], measures: bool) -> io::Result<()> {
+    let mut image = eight_segments(rt.alloc(), content)?;
+    time_over(rt, "eight_segments", &mut image, measures)
+}
+
+/// Times looks and jobs over one piece, one segment and eight.
+pub(crate) fn time_segments(rt: &HostRuntime, measures: bool) -> io::Result<()> {
+    let mut content = Vec::from_elem(rt.alloc(), 0x5a, 16 * MEBIBYTE as usize)?;
+    time_piece(rt, content.as_mut_slice(), measures)?;
+    time_one(rt, content.as_mut_slice(), measures)?;
+    time_eight(rt, content.as_mut_slice(), measures)
 }

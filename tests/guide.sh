@@ -201,6 +201,7 @@ for program in "$top"/crates/example_*/src/*.rt; do
     case $file in
         crates/example_portal/*) lines=85 ;;
         crates/example_server/*) lines=120 ;;
+        crates/example_guest/*) lines=140 ;;
         *) lines=60 ;;
     esac
     [ "${file##*/}" != main.rt ] || [ "$(wc -l <"$program")" -lt "$lines" ] || complain "$file: $lines lines or more"

@@ -49,6 +49,10 @@ impl Jobs {
                 ..job
             },
             4..=8 => job.with_check(self.random.below(3) as u8),
+            9 => Job {
+                delta_size: self.random.below(1 << 20),
+                ..job
+            },
             _ => job,
         }
     }

@@ -10,7 +10,6 @@ mod parts;
 mod sleeps;
 mod some;
 mod waits;
-mod whole;
 
 use dml_engine::Engine;
 use dml_image::Image;

@@ -430,7 +430,10 @@ pub effect_of_fenced : (memory : Memory) (job : Job) (staging : ℕ) → refusal
 effect_of_fenced memory job staging accepted =
     effect_with memory job staging (checked_where_accepted_free job staging accepted) (need_within_free job staging accepted)
 
--- which needs as much as it does without
+pub fenced_need_under : (job : Job) (staging size : ℕ) → refusal (unfenced job) staging ≡ None → staging ≤ size → need job ≤ size
+fenced_need_under job staging size accepted enough = omega (arith, need_within_free job staging accepted)
+
+-- room for it without its fence is room for it
 pub room_in_batch : (job : Job) (staging size : ℕ) → refusal (unfenced job) staging ≡ None → (TakesStaging (unfenced job) staging → need (unfenced job) ≤ size) → IsDelta job → need job ≤ size
 room_in_batch job staging size accepted room delta =
     ⊎_elim (λ some. room (delta, accepted, some, need_within_free job staging accepted)) (λ none. omega (arith, none)) (cases_lt 0 (need job))

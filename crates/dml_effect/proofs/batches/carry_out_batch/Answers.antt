@@ -1,14 +1,11 @@
 use Rattle.std.proofs.Common.{◌≡◌, ◌<◌, ◌≤◌, ℕ, false, length, get_or, take, sym, ◌∙◌, ap, ap₂, arith}
 use Rattle.std.specs.Prelude.{◌&&◌, nat_eq, not}
 use Rattle.std.proofs.lemmas.List.{length-set}
-use Rattle.std.proofs.lemmas.List.Elements.{All-get_or}
 use Rattle.dml_types.specs.declared.jobs.Job.{Job}
 use Rattle.dml_types.specs.declared.records.Record.{Record}
 use Rattle.dml_types.specs.Effect.{code_of}
 use Rattle.dml_types.specs.Job.{is_fenced, no_op_job, unfenced}
-use Rattle.dml_types.specs.Refusal.{need}
 use Rattle.dml_types.specs.Step.{ends_before, have_succeeded, step}
-use Rattle.dml_effect.specs.Straight.{TakesStaging}
 use Rattle.dml_effect.proofs.BatchLemmas.{carried_one, succeeded_more}
 use Rattle.dml_effect.proofs.batches.carry_out_batch.Goals as goal
 

@@ -1,6 +1,6 @@
 use Rattle.std.proofs.Common.{◌≡◌, ◌<◌, ◌≤◌, ℕ, ◌+◌, Bool, false, [], List, length, get_or, map, set, take, refl, sym, ◌∙◌, ap, subst, arith}
 use Rattle.std.specs.Prelude.{◌&&◌, nat_eq, not}
-use Rattle.std.proofs.lemmas.List.{get_or-map, length-map}
+use Rattle.std.proofs.lemmas.List.{length-map}
 use Rattle.std.proofs.lemmas.List.Elements.{All-get_or}
 use Rattle.dml_types.specs.declared.jobs.Job.{Job}
 use Rattle.dml_types.specs.declared.records.Record.{Record}
@@ -12,12 +12,8 @@ use Rattle.dml_desc.specs.Descriptor.{bytes_of_record, decoded}
 use Rattle.dml_arena.specs.Block.{Block}
 use Rattle.dml_effect.specs.Batches.{IsCarriedInBytes, free_records}
 use Rattle.dml_effect.specs.Straight.{TakesStaging}
-use Rattle.dml_effect.proofs.BatchLemmas.{bytes_one, length_whole, no_bytes_carried, succeeded_with}
+use Rattle.dml_effect.proofs.BatchLemmas.{bytes_one, decoded_at, no_bytes_carried, succeeded_with}
 use Rattle.dml_effect.proofs.batches.carry_out_batch_bytes.Goals as goal
-
--- the job of a descriptor
-job_at : (ds : List (List ℕ)) (i : ℕ) (job : Job) → i < length ds → job ≡ decoded (get_or ds i []) → get_or (map decoded ds) i no_op_job ≡ job
-job_at ds i job below is = get_or-map decoded ds i [] no_op_job below ∙ sym is
 
 pub loop-i-init : goal.loop-i-init
 loop-i-init c =
@@ -29,7 +25,7 @@ submit_in_batch_to-outcome-requires c =
     let ds = c.args.descriptors.now in
     let i = c.loop-i.i in
     let below : i < length ds = omega (arith, c.loop-i-test.true) in
-    let own = job_at ds i c.decode-job.result below c.decode-job.ensures in
+    let own = decoded_at ds i c.decode-job.result below c.decode-job.ensures in
     let fits : Job → ℕ → Type 0 = λ j size. TakesStaging (unfenced j) c.args.staging → need (unfenced j) ≤ size in
     let room = All-get_or (λ (j : Job). fits j c.args.arena.now.size) (map decoded ds) i no_op_job (omega (arith, below, length-map ds decoded)) c.requires.staging in
     record { staging = subst (λ (j : Job). fits j c.loop-i.arena.size) own (subst (λ (a : Block). fits (get_or (map decoded ds) i no_op_job) a.size) (sym c.loop-i.invariant.2) room) }
@@ -48,7 +44,7 @@ loop-i-preserved c =
     let low : i < length ds = omega (arith, c.loop-i-test.true) in
     let below : i < length jobs = omega (arith, low, length-map ds decoded) in
     let job : Job = get_or jobs i no_op_job in
-    let own : c.decode-job.result ≡ job = sym (job_at ds i c.decode-job.result low c.decode-job.ensures) in
+    let own : c.decode-job.result ≡ job = sym (decoded_at ds i c.decode-job.result low c.decode-job.ensures) in
     let tested : ends_before jobs whole i ≡ false =
     ap (λ (b : Bool). is_fenced job && not b) (sym known.1)
     ∙ (ap (λ (j : Job). is_fenced j && not c.loop-i.succeeded) (sym own) ∙ (sym c.waits_in_vain.ensures ∙ c.if-waits_in_vain.false)) in

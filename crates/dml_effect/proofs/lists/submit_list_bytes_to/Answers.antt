@@ -1,10 +1,27 @@
-use Rattle.std.proofs.Common.{◌≡◌, ℕ, ◌+◌, ◌<◌, ◌++◌, [], ◌∷◌, List, length, map, take, drop, get_or, sym, ◌∙◌, ap, arith}
-use Rattle.std.proofs.lemmas.List.{append_assoc, drop_more, take_more_set, length-set}
+use Rattle.std.proofs.Common.{◌≡◌, ℕ, ◌+◌, ◌<◌, ◌≤◌, ◌++◌, [], ◌∷◌, List, length, map, take, drop, get_or, sym, subst, ◌∙◌, ap, arith}
+use Rattle.std.proofs.lemmas.List.{append_assoc, drop_more, take_more_set, length-map, length-set}
 use Rattle.dml_types.specs.declared.jobs.Job.{Job}
+use Rattle.dml_types.specs.Job.{no_op_job}
 use Rattle.dml_types.specs.Memory.{Memory}
+use Rattle.dml_types.specs.Refusal.{need}
 use Rattle.dml_types.specs.Step.{memory_after, records_of, step}
 use Rattle.dml_desc.specs.Descriptor.{bytes_of_record, decoded}
+use Rattle.dml_arena.specs.Block.{Block}
+use Rattle.dml_effect.specs.Straight.{TakesStaging}
+use Rattle.dml_effect.proofs.BatchLemmas.{decoded_at, room_in_list}
 use Rattle.dml_effect.proofs.lists.submit_list_bytes_to.Goals as goal
+
+pub submit_to-outcome-requires : goal.submit_to-outcome-requires
+submit_to-outcome-requires c =
+    let ds = c.args.descriptors.now in
+    let jobs = map decoded ds in
+    let i = c.loop-i.i in
+    let low : i < length ds = omega (arith, c.loop-i-test.true) in
+    let below : i < length jobs = omega (arith, low, length-map ds decoded) in
+    let own = decoded_at ds i c.decode-job.result low c.decode-job.ensures in
+    let fits : Job → ℕ → Type 0 = λ j size. TakesStaging j c.args.staging → need j ≤ size in
+    let room : fits (get_or jobs i no_op_job) c.args.arena.now.size = room_in_list jobs c.args.staging c.args.arena.now.size i below c.requires.staging in
+    record { staging = subst (λ (j : Job). fits j c.loop-i.arena.size) own (subst (λ (a : Block). fits (get_or jobs i no_op_job) a.size) (sym c.loop-i.invariant.arena) room) }
 
 pub loop-i-preserved : goal.loop-i-preserved
 loop-i-preserved c =

@@ -60,6 +60,39 @@ fn descriptors_of(alloc: Global, jobs: &[Job]) -> Result<Vec<[u8; 64]>, Fail> {
     Ok(list)
 }
 
+/// Carries out a batch of descriptors over segments that are a memory.
+#[tactic(auto, using(dml_effect::proofs::BatchLemmas::room_of_limit))]
+fn batch_over(
+    rt: &impl Abort,
+    alloc: Global,
+    segments: &mut [Segment<'_>],
+    arena: &mut Arena,
+    list: &[[u8; 64]],
+    answers: &mut [[u8; 32]],
+) -> Result<BatchRecord, Fail> {
+    let staging = arena.size();
+    assert!(rt; are_segments(segments));
+    assert!(rt; answers.len() == list.len() && list.len() < 1000);
+    Ok(submit_batch_over_segments(alloc, segments, arena, list, staging, answers)?)
+}
+
+/// The same of a list.
+#[tactic(auto, using(dml_effect::proofs::BatchLemmas::room_of_limit))]
+fn list_over(
+    rt: &impl Abort,
+    alloc: Global,
+    segments: &mut [Segment<'_>],
+    arena: &mut Arena,
+    list: &[[u8; 64]],
+    answers: &mut [[u8; 32]],
+) -> Result<(), Fail> {
+    let staging = arena.size();
+    assert!(rt; are_segments(segments));
+    assert!(rt; answers.len() == list.len());
+    submit_list_over_segments(alloc, segments, arena, list, staging, answers)?;
+    Ok(())
+}
+
 impl Row<'_> {
     /// Expects the records of the jobs.
     fn expect_records(&self, rt: &impl Abort, call: &str, records: &[Record]) {
@@ -92,7 +125,7 @@ impl Row<'_> {
     fn expect_page(&self, rt: &impl Abort, call: &str, page: &[u8]) {
         let mut want = [0; 4096];
         write_over(rt, &mut want, 0, self.left);
-        assert!(rt; page == want, "{call}");
+        assert!(rt; page == &want[..], "{call}");
     }
 
     /// As a batch, on an image of its own.
@@ -116,6 +149,7 @@ impl Row<'_> {
         let mut records = blanks(alloc, self.jobs.len())?;
         let staging = arena.size();
         assert!(rt; records.len() == self.jobs.len() && self.jobs.len() < 1000);
+        assert!(rt; self.records.len() == self.jobs.len());
         let done = carry_out_batch(&mut image, arena, self.jobs, staging, &mut records);
         assert_eq!(rt; done, self.completed);
         assert_eq!(rt; &records[..done], &self.records[..done]);
@@ -160,20 +194,17 @@ impl Row<'_> {
     }
 
     /// Over a caller's page as a segment.
-    #[tactic(auto, using(dml_effect::proofs::BatchLemmas::room_of_limit))]
     fn over_segment(&self, rt: &impl Abort, alloc: Global, arena: &mut Arena) -> Result<(), Fail> {
         let mut page = [0; 4096];
         let list = descriptors_of(alloc, self.jobs)?;
         let mut answers = blank_answers(alloc, self.jobs.len())?;
-        let staging = arena.size();
-        let mut segments = [Segment::new(0, &mut page)];
-        assert!(rt; are_segments(&segments));
-        assert!(rt; answers.len() == list.len() && list.len() < 1000);
-        let own =
-            submit_batch_over_segments(alloc, &mut segments, arena, &list, staging, &mut answers)?;
+        let mut segments = Vec::with_capacity(alloc, 1)?;
+        segments.push(Segment::new(0, &mut page))?;
+        let own = batch_over(rt, alloc, &mut segments, arena, &list, &mut answers)?;
+        drop(segments);
         self.expect_own(rt, "submit_batch_over_segments", own);
         self.expect_answers(rt, "submit_batch_over_segments", &answers);
-        self.expect_page(rt, "submit_batch_over_segments", segments[0].bytes());
+        self.expect_page(rt, "submit_batch_over_segments", &page);
         Ok(())
     }
 
@@ -235,7 +266,6 @@ impl Row<'_> {
     }
 
     /// The same over it as a segment.
-    #[tactic(auto, using(dml_effect::proofs::BatchLemmas::room_of_limit))]
     fn as_list_over_segment(
         &self,
         rt: &impl Abort,
@@ -245,13 +275,12 @@ impl Row<'_> {
         let mut page = [0; 4096];
         let list = descriptors_of(alloc, self.jobs)?;
         let mut answers = blank_answers(alloc, self.jobs.len())?;
-        let staging = arena.size();
-        let mut segments = [Segment::new(0, &mut page)];
-        assert!(rt; are_segments(&segments));
-        assert!(rt; answers.len() == list.len());
-        submit_list_over_segments(alloc, &mut segments, arena, &list, staging, &mut answers)?;
+        let mut segments = Vec::with_capacity(alloc, 1)?;
+        segments.push(Segment::new(0, &mut page))?;
+        list_over(rt, alloc, &mut segments, arena, &list, &mut answers)?;
+        drop(segments);
         self.expect_answers(rt, "submit_list_over_segments", &answers);
-        self.expect_page(rt, "submit_list_over_segments", segments[0].bytes());
+        self.expect_page(rt, "submit_list_over_segments", &page);
         Ok(())
     }
 

@@ -17,14 +17,14 @@ pub put-requires : goal.put-requires
 put-requires c =
     let name = c.new-pages.result.content.ghost_name in
     let lent = whole_is c.args.content.now _ c.take-image.result name c.take-image.ensures c.new-pages.ensures.content in
-    let back = batch_after c.args.content.now name (map decoded c.args.descriptors.now) c.args.staging c.args.staging c.take-image.result lent refl _ c.submit_batch_bytes_to-outcome.ensures.image in
+    let back = batch_after c.args.content.now name (map decoded c.args.descriptors.now) c.args.staging c.args.staging c.take-image.result lent refl c.submit_batch_bytes_to-outcome.new.image c.submit_batch_bytes_to-outcome.ensures.image in
     ap (λ (m : Memory). is_one_piece m.loan) back
 
 pub returns-clause-answer : goal.returns-clause-answer
 returns-clause-answer c =
     let name = c.new-pages.result.content.ghost_name in
     let lent = whole_is c.args.content.now _ c.take-image.result name c.take-image.ensures c.new-pages.ensures.content in
-    batch_answer_there c.args.content.now name (map decoded c.args.descriptors.now) c.args.staging c.args.staging c.take-image.result lent refl _ c.submit_batch_bytes_to-outcome.ensures.answer
+    batch_answer_there c.args.content.now name (map decoded c.args.descriptors.now) c.args.staging c.args.staging c.take-image.result lent refl c.submit_batch_bytes_to-outcome.result c.submit_batch_bytes_to-outcome.ensures.answer
 
 pub returns-clause-records : goal.returns-clause-records
 returns-clause-records c =

@@ -17,7 +17,7 @@ pub put-requires : goal.put-requires
 put-requires c =
     let name = c.new-pages.result.content.ghost_name in
     let lent = whole_is c.args.content.now _ c.take-image.result name c.take-image.ensures c.new-pages.ensures.content in
-    let back = list_after c.args.content.now name (map decoded c.args.descriptors.now) c.args.staging c.args.staging c.take-image.result lent refl _ c.submit_list_bytes_to.ensures.image in
+    let back = list_after c.args.content.now name (map decoded c.args.descriptors.now) c.args.staging c.args.staging c.take-image.result lent refl c.submit_list_bytes_to.new.image c.submit_list_bytes_to.ensures.image in
     ap (λ (m : Memory). is_one_piece m.loan) back
 
 pub returns-clause-records : goal.returns-clause-records

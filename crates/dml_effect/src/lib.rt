@@ -20,7 +20,8 @@ mod records;
 
 pub use applying::join_apply;
 pub use batches::{
-    abandon, answer_of_batch, carry_out_batch, have_succeeded, submit_batch_bytes_to, submit_batch_to,
+    abandon, answer_of_batch, carry_out_batch, have_succeeded, submit_batch_bytes_to,
+    submit_batch_to,
 };
 pub use carrying::{
     carry_out, carry_out_straight, submit_in_batch_to, submit_straight_to, submit_to, takes_staging,

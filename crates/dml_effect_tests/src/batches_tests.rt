@@ -3,9 +3,9 @@ use crate::tests::{image_with, record, shows, write_over};
 use dml_arena::Arena;
 use dml_desc::{decode_record, encode};
 use dml_effect::{
-    abandon, answer_of_batch, are_whole_pages, carry_out_batch, have_succeeded, submit_batch_bytes_to,
-    submit_batch_over, submit_batch_over_segments, submit_batch_to, submit_list_bytes_to,
-    submit_list_over, submit_list_over_segments, submit_list_to,
+    abandon, answer_of_batch, are_whole_pages, carry_out_batch, have_succeeded,
+    submit_batch_bytes_to, submit_batch_over, submit_batch_over_segments, submit_batch_to,
+    submit_list_bytes_to, submit_list_over, submit_list_over_segments, submit_list_to,
 };
 use dml_image::{Image, Segment, are_segments};
 use dml_types::{BatchRecord, Job, Record, Status};
@@ -155,7 +155,10 @@ impl Row<'_> {
         assert_eq!(rt; &records[..done], &self.records[..done]);
         let own = answer_of_batch(&records[..done]);
         self.expect_own(rt, "answer_of_batch", own);
-        assert_eq!(rt; have_succeeded(&records[..done]), self.status == Status::Success);
+        assert_eq!(rt;
+            have_succeeded(&records[..done]),
+            self.status == Status::Success
+        );
         abandon(&mut records, done);
         self.expect_records(rt, "abandon", &records);
         self.expect_image(rt, "carry_out_batch", &image);

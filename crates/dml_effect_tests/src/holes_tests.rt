@@ -213,14 +213,26 @@ fn refused_lists_over_segments(rt: HostRuntime) -> Result<(), Fail> {
     let list = [encode(&Job::move_bytes(0, 8192, 8)).ok_or("no descriptor")?];
     let mut told = [[0xff; 32]];
     assert!(rt; are_segments(&segments));
-    let answer =
-        submit_list_over_segments(rt.alloc(), &mut segments, &mut arena, &list, 4096, &mut told);
+    let answer = submit_list_over_segments(
+        rt.alloc(),
+        &mut segments,
+        &mut arena,
+        &list,
+        4096,
+        &mut told,
+    );
     let listed = told_by(&rt, answer.is_ok(), &told[0]);
     let batch = [encode(&Job::move_bytes(0, 8200, 8)).ok_or("no descriptor")?];
     let mut told = [[0xff; 32]];
     assert!(rt; are_segments(&segments));
-    let own =
-        submit_batch_over_segments(rt.alloc(), &mut segments, &mut arena, &batch, 4096, &mut told);
+    let own = submit_batch_over_segments(
+        rt.alloc(),
+        &mut segments,
+        &mut arena,
+        &batch,
+        4096,
+        &mut told,
+    );
     let batched = told_by(&rt, own.is_ok(), &told[0]);
     drop(segments);
     assert_eq!(rt; (high[0], high[7]), (listed, listed));

@@ -13,9 +13,7 @@ ghost use Rattle.dml_engine.specs.Lists.{IsReady};
 use crate::errors::EngineError;
 use dml_arena::Arena;
 use dml_desc::Checked;
-use dml_effect::{
-    by_fields, carry_out_batch, submit_in_batch_to, submit_list_to, submit_to,
-};
+use dml_effect::{by_fields, carry_out_batch, submit_in_batch_to, submit_list_to, submit_to};
 use dml_image::{Image, ImageError};
 use dml_pool::{Free, Gate};
 use dml_types::{Job, Record, Settings};

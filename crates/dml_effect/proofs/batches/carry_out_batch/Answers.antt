@@ -16,15 +16,15 @@ loop-i-preserved c =
     let i = c.loop-i.i in
     let records = c.loop-i.records in
     let known = c.loop-i.invariant in
-    let record = c.by_fields-record.result in
+    let outcome = c.by_fields-record.result in
     let below : i < length jobs = omega (arith, c.loop-i-test.true) in
     let job : Job = get_or jobs i no_op_job in
     let tested : ends_before jobs records i ≡ false =
     ap (λ b. is_fenced job && not b) (sym known.2) ∙ (sym c.waits_in_vain.ensures ∙ c.if-waits_in_vain.false) in
-    let answer : record ≡ (step c.loop-i.image (unfenced job) staging).1 =
+    let answer : outcome ≡ (step c.loop-i.image (unfenced job) staging).1 =
     c.by_fields-record.ensures ∙ c.submit_in_batch_to.ensures.answer in (
-      carried_one c.args.image.now jobs staging i c.loop-i.image c.submit_in_batch_to.new.image records record known.0 below tested c.submit_in_batch_to.ensures.image answer,
-      length-set records i record ∙ known.1,
-      c.still_succeeded-succeeded.ensures ∙ (ap (λ b. b && nat_eq (code_of record.status) 0x01) known.2 ∙ sym (succeeded_more records i record (omega (arith, below, known.1)))),
+      carried_one c.args.image.now jobs staging i c.loop-i.image c.submit_in_batch_to.new.image records outcome known.0 below tested c.submit_in_batch_to.ensures.image answer,
+      length-set records i outcome ∙ known.1,
+      c.still_succeeded-succeeded.ensures ∙ (ap (λ b. b && nat_eq (code_of outcome.status) 0x01) known.2 ∙ sym (succeeded_more records i outcome (omega (arith, below, known.1)))),
       c.submit_in_batch_to.ensures.arena ∙ known.3,
     )

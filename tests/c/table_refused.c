@@ -1,7 +1,8 @@
 /*
  * Each growth of memory that the library asks for, refused in turn: the call that asked answers want of memory and
  * leaves everything as it was, so that the same call does its work right after; no other call answers it, and at the
- * end every block is given back. Jobs over an engine's own pages, and those over buffers, ask for nothing.
+ * end every block is given back. Jobs on an engine's own pages, those over other memory with its staging, and those
+ * over buffers, ask for nothing.
  *
  * Linked with -Wl,--wrap=malloc,--wrap=realloc,--wrap=free, so that the library's own calls come here first.
  */
@@ -59,7 +60,7 @@ void __wrap_free(void *block)
 /* ---- the calls */
 
 /* Those that ask for memory, and at how many of their growths each answered want of it. */
-enum call { CREATE, BRING, OVER, LIST_OVER, POINTERS, WHOLE, LIST_WHOLE, CALLS };
+enum call { CREATE, STAGING, BRING, OVER, LIST_OVER, POINTERS, WHOLE, LIST_WHOLE, CALLS };
 static size_t met[CALLS];
 
 static void expect(const char *what, bool holds)
@@ -112,6 +113,64 @@ static void walk_engine(const uint8_t page[PAGE])
     expect("the bytes before the delta record", memcmp(bytes, page, 128) == 0);
     expect("the delta record", memcmp(bytes + 128, delta, 20) == 0);
     expect("the bytes behind it", memcmp(bytes + 148, page + 148, PAGE - 148) == 0);
+    expect_done("submit_batch", kazovuni_submit_batch(&engine, create, 1, records, 1, records[0]));
+    long held = blocks;
+    expect_done("evict", kazovuni_evict(&engine, 1));
+    expect("the memory of a page that is given up", blocks == held - 1);
+    kazovuni_free(&engine);
+    expect("free", blocks == 0 && !is_met);
+}
+
+/* The ways of a job with the staging of an engine, and of many jobs. */
+enum { IN, LIST_IN, BATCH_IN, AT, LIST_AT, BATCH_AT, STAGED_FORMS };
+
+static uint8_t submit_staged(int form, kazovuni_engine *engine, uint8_t bytes[PAGE], uint8_t records[1][32])
+{
+    kazovuni_region table[1] = {{0, bytes, PAGE}};
+    uint8_t batch[32];
+    switch (form) {
+    case IN:
+        return kazovuni_submit_in(engine, bytes, PAGE, create, records);
+    case LIST_IN:
+        return kazovuni_submit_list_in(engine, bytes, PAGE, create, 1, records, 1);
+    case BATCH_IN:
+        return kazovuni_submit_batch_in(engine, bytes, PAGE, create, 1, records, 1, batch);
+    case AT:
+        return kazovuni_submit_at(engine, table, 1, create, records);
+    case LIST_AT:
+        return kazovuni_submit_list_at(engine, table, 1, create, 1, records, 1);
+    default:
+        return kazovuni_submit_batch_at(engine, table, 1, create, 1, records, 1, batch);
+    }
+}
+
+/* An engine for its staging alone; the calls that have it ask for nothing, over the longest table neither. */
+static void walk_staged(const uint8_t page[PAGE])
+{
+    static uint8_t bytes[PAGE], pages[KAZOVUNI_MOST_REGIONS][PAGE];
+    static const uint8_t fill[64] = {[7] = 0x04, [16] = 7, [34] = 4}; /* of 64 pages */
+    kazovuni_region table[KAZOVUNI_MOST_REGIONS];
+    kazovuni_engine engine = {0};
+    uint8_t records[1][32];
+    while (!is_done(STAGING, kazovuni_create_staging(&engine, NEED)))
+        expect("the handle of no engine", engine.engine == NULL && !engine.is_open && blocks == 0);
+    size_t before = growths;
+    long held = blocks;
+    for (int form = 0; form < 2 * STAGED_FORMS; form++) {
+        memcpy(bytes, page, PAGE);
+        memset(records, 0xcc, 32);
+        expect_done("a call with staging", submit_staged(form % STAGED_FORMS, &engine, bytes, records));
+        expect("the record with staging", memcmp(records[0], created, 32) == 0);
+        expect("the delta record with staging", memcmp(bytes + 128, delta, 20) == 0);
+    }
+    for (int i = 0; i < KAZOVUNI_MOST_REGIONS; i++)
+        table[i] = (kazovuni_region){(uint64_t)i * PAGE, pages[i], PAGE};
+    for (int round = 0; round < 2; round++) {
+        expect_done("the longest table",
+                    kazovuni_submit_at(&engine, table, KAZOVUNI_MOST_REGIONS, fill, records[0]));
+        expect("its record", records[0][0] == 0x01);
+    }
+    expect("a call with staging asks for memory", growths == before && blocks == held);
     kazovuni_free(&engine);
     expect("free", blocks == 0 && !is_met);
 }
@@ -254,14 +313,15 @@ static void walk_list(enum call call)
 int main(void)
 {
     static uint8_t page[PAGE];
-    static const char *const names[CALLS] = {"create", "bring", "submit_over", "submit_list_over", "submit_pointers",
-                                             "submit_whole", "submit_list_whole"};
+    static const char *const names[CALLS] = {"create", "create_staging", "bring", "submit_over", "submit_list_over",
+                                             "submit_pointers", "submit_whole", "submit_list_whole"};
     memcpy(page + 72, at_72, 8);
     memcpy(page + 88, at_88, 8);
     do {
         refused++;
         growths = 0;
         walk_engine(page);
+        walk_staged(page);
         for (enum call call = OVER; call < CALLS; call++)
             walk_lent(call, page);
         walk_list(LIST_OVER);

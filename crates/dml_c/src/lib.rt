@@ -12,7 +12,13 @@ mod handles;
 mod holding;
 mod lending;
 mod looking;
+mod paging;
 mod parts;
+mod regions;
+mod room;
+mod staged;
+mod tables;
+mod touching;
 mod values;
 mod whole;
 
@@ -31,5 +37,10 @@ pub use looking::{
     kazovuni_check, kazovuni_decode, kazovuni_encode, kazovuni_need, kazovuni_record_decode,
     kazovuni_record_encode, kazovuni_rest, kazovuni_version,
 };
+pub use paging::{kazovuni_evict, kazovuni_present};
+pub use regions::CRegion;
+pub use staged::{kazovuni_create_staging, kazovuni_submit_in};
+pub use tables::kazovuni_submit_at;
+pub use touching::{CRange, kazovuni_completion, kazovuni_ranges};
 pub use values::{CJob, CRecord};
 pub use whole::{kazovuni_submit_list_whole, kazovuni_submit_whole};

@@ -1,0 +1,54 @@
+//! Jobs over regions of the caller's memory, in tables.
+ghost use Rattle.std.specs.Prelude.{◌≡◌, ◌≢◌, ◌↔◌, ◌≤◌, ◌⊎◌, None, IfSome, IsSome};
+ghost use Rattle.dml_types.specs.Step.{step};
+ghost use Rattle.dml_desc.specs.Descriptor.{bytes_of_record, decoded};
+ghost use Rattle.dml_c.specs.Regions as table;
+
+use crate::codes::{DONE, NO_ENGINE, NO_MEMORY};
+use crate::handles::CEngine;
+use crate::regions::{CRegion, judged};
+use std::alloc::Global;
+
+/// Carries out the job of a descriptor over the regions of a table, and writes its completion record. A page in none of
+/// the regions is absent.
+#[unsafe(no_mangle)]
+pub extern "C" fn kazovuni_submit_at(
+    alloc: Global,
+    engine: &mut CEngine,
+    regions: &mut [CRegion<'_>],
+    descriptor: &[u8; 64],
+    answer: &mut [u8; 32],
+) -> u8
+    ensures codes { (result ≡ 0) ⊎ (result ≡ 2) ⊎ (result ≡ 4) ⊎ ((12 ≤ result) × (result ≤ 17)) }
+    ensures no_engine { (result ≡ 4) ↔ (engine.old.handle.state ≡ None) }
+    ensures fault { IsSome engine.old.handle.state → table.table_fault regions.old ≢ 0
+        → result ≡ table.table_fault regions.old }
+    ensures sound { (result ≡ 0) ⊎ (result ≡ 2) → table.table_fault regions.old ≡ 0 }
+    ensures engine { engine.new.handle.state ≡ engine.old.handle.state }
+    ensures memory { IfSome engine.old.handle.state (λ s. result ≡ 0 → table.memory_of_regions regions.new
+        ≡ (step (table.memory_of_regions regions.old) (decoded descriptor.now) s.staging).0) }
+    ensures record { IfSome engine.old.handle.state (λ s. result ≡ 0 → answer.new
+        ≡ bytes_of_record (step (table.memory_of_regions regions.old) (decoded descriptor.now) s.staging).1) }
+    ensures addresses { table.addresses_of regions.new ≡ table.addresses_of regions.old }
+    ensures unchanged { result ≢ 0 → (regions.new ≡ regions.old) × (answer.new ≡ answer.old) }
+{
+    if !engine.is_open() {
+        return NO_ENGINE;
+    }
+    let code = judged(regions);
+    if code != DONE {
+        return code;
+    }
+    let Some(mut inner) = engine.take(alloc) else {
+        return NO_ENGINE;
+    };
+    let code = match inner.submit_at(alloc, regions, descriptor) {
+        Some(outcome) => {
+            *answer = dml_desc::record_bytes(&outcome);
+            DONE
+        }
+        None => NO_MEMORY,
+    };
+    engine.put(inner);
+    code
+}

@@ -4,9 +4,10 @@ use Rattle.std.specs.Prelude.{◌||◌, ◌==◌, nat_lt, if◌then◌else◌}
 use Rattle.std.proofs.lemmas.Bool.{cases_eq, cond-false, cond-true, eq-eqb, eqb-false, eqb-true, ltb-false, ne_eqb, not-false, or_parts}
 use Rattle.std.proofs.lemmas.List.{drop_more, places}
 use Rattle.dml_image.specs.declared.segments.Segment.{Segment}
-use Rattle.dml_image.specs.Pieces.{AreInOrder, AreSegments, Piece, end_of, marks_from, pages_of, piece_of, pieces_of}
+use Rattle.dml_types.specs.Memory.{Loan, Memory, Place, are_segments, is_in_segments}
+use Rattle.dml_image.specs.Pieces.{AreInOrder, AreSegments, Piece, end_of, marks_from, pages_of, piece_of, pieces_of, place_of, places_of}
 use Rattle.dml_c.specs.declared.regions.CRegion.{CRegion}
-use Rattle.dml_c.specs.Regions.{addresses_of, end_of_region, first_fault, most_end, piece_of_region, pieces_of_regions, region_fault, table_fault}
+use Rattle.dml_c.specs.Regions.{addresses_of, end_of_region, first_fault, memory_of_regions, most_end, piece_of_region, pieces_of_regions, region_fault, table_fault}
 
 -- what a region is that breaks no rule
 pub record IsSound (end : ℕ) (region : CRegion) : Type 0 where
@@ -139,3 +140,34 @@ starts (segment ∷ segments) = ap (λ (rest : List ℕ). 4096 * segment.first �
 pub placed : (regions : List CRegion) (segments : List Segment) → length regions ≡ length segments → ((j : ℕ) (region : CRegion) (segment : Segment) → j < length segments → (get_or regions j region).address ≡ 4096 * (get_or segments j segment).first) → addresses_of regions ≡ map (λ (p : Piece). 4096 * p.first) (pieces_of segments)
 placed regions segments size same =
     each_alike (λ (r : CRegion). r.address) (λ (s : Segment). 4096 * s.first) regions segments size same ∙ sym (starts segments)
+
+-- where the segments of a table lie
+pub as_many_places : (segments : List Segment) → length (map place_of (pieces_of segments)) ≡ length segments
+as_many_places [] = refl
+as_many_places (segment ∷ segments) = ap suc (as_many_places segments)
+
+pub place_starts : (pieces : List Piece) → map (λ (p : Piece). 4096 * p.first) pieces ≡ map (λ (p : Place). 4096 * p.first) (map place_of pieces)
+place_starts [] = refl
+place_starts (piece ∷ pieces) = ap (λ (rest : List ℕ). 4096 * piece.first ∷ rest) (place_starts pieces)
+
+region_places : (regions : List CRegion) → length (map place_of (pieces_of_regions regions)) ≡ length regions
+region_places [] = refl
+region_places (region ∷ regions) = ap suc (region_places regions)
+
+region_starts : (end : ℕ) (regions : List CRegion) → first_fault end regions ≡ 0 → map (λ (p : Place). 4096 * p.first) (map place_of (pieces_of_regions regions)) ≡ addresses_of regions
+region_starts end [] none = refl
+region_starts end (region ∷ regions) none =
+    let first = first_sound end region regions none in
+    let here : 4096 * (region.address / 4096) ≡ region.address = let place = first.0.place in omega (arith, place) in
+    ap₂ (λ (n : ℕ) (rest : List ℕ). n ∷ rest) here (region_starts (end_of_region region) regions first.1)
+
+-- a memory that is lent as a table's is
+module _ (regions : List CRegion) (after : Memory) (same : after.loan ≡ (memory_of_regions regions).loan) where
+  pub still_segments : is_in_segments after ≡ true
+  still_segments = ap are_segments same
+
+  pub still_as_many : length (places_of after.loan) ≡ length regions
+  still_as_many = ap (λ (l : Loan). length (places_of l)) same ∙ region_places regions
+
+  pub still_placed : first_fault 0 regions ≡ 0 → map (λ (p : Place). 4096 * p.first) (places_of after.loan) ≡ addresses_of regions
+  still_placed none = ap (λ (l : Loan). map (λ (p : Place). 4096 * p.first) (places_of l)) same ∙ region_starts 0 regions none

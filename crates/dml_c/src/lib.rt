@@ -27,7 +27,7 @@ pub use direct::{
     kazovuni_apply_delta, kazovuni_compare, kazovuni_compare_pattern, kazovuni_create_delta,
     kazovuni_dualcast, kazovuni_fill, kazovuni_move, kazovuni_move_within, law_of_staging,
 };
-pub use handles::CEngine;
+pub use handles::{CEngine, handed_over};
 pub use holding::{
     kazovuni_bring, kazovuni_create, kazovuni_free, kazovuni_read, kazovuni_submit,
     kazovuni_submit_list, kazovuni_write,

@@ -28,6 +28,7 @@ use Rattle.dml_scan.specs.Found.{done_count}
 use Rattle.dml_scan.proofs.ReachLemmas.{found_all, blocked_at, done_found, scan_done_within}
 use Rattle.dml_effect.specs.Chunks.{GoesByOffsets, scan_size}
 use Rattle.dml_effect.specs.Effects.{are_present, some_puts}
+use Rattle.dml_effect.specs.Straight.{IsDelta, TakesStaging}
 use Rattle.dml_effect.specs.Joined.{fault_by, copied_record, compared_record, scanned_record, scanned_puts, puts_when_done}
 use Rattle.dml_effect.proofs.ChunkLemmas.{found_is, ends_at, stop_at}
 use Rattle.dml_effect.proofs.PutLemmas.{puts_made_some, some_put, no_put}
@@ -431,3 +432,8 @@ effect_of_fenced memory job staging accepted =
 
 pub fenced_need_under : (job : Job) (staging size : ℕ) → refusal (unfenced job) staging ≡ None → staging ≤ size → need job ≤ size
 fenced_need_under job staging size accepted enough = omega (arith, need_within_free job staging accepted)
+
+-- room for it without its fence is room for it
+pub room_in_batch : (job : Job) (staging size : ℕ) → refusal (unfenced job) staging ≡ None → (TakesStaging (unfenced job) staging → need (unfenced job) ≤ size) → IsDelta job → need job ≤ size
+room_in_batch job staging size accepted room delta =
+    ⊎_elim (λ some. room (delta, accepted, some, need_within_free job staging accepted)) (λ none. omega (arith, none)) (cases_lt 0 (need job))

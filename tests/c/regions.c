@@ -4,11 +4,13 @@
  * looked at and given up, the ranges of a descriptor and records at completion addresses. What each has to answer
  * stands here.
  */
+#define _GNU_SOURCE
 #include "kazovuni.h"
 
 #include <stdio.h>
 #include <stdlib.h>
 #include <string.h>
+#include <sys/mman.h>
 
 enum { PAGE = KAZOVUNI_PAGE_BYTES, FIRST = 0, BEHIND = 1, APART = 2, REGIONS = 3 };
 
@@ -222,10 +224,139 @@ static void try_jobs(kazovuni_engine *engine)
     RECORD(KAZOVUNI_STATUS_STAGING_REFUSED, 0, 0, 0, 0);
 }
 
+/* The calls of lists and batches: on the image, over pages in one piece, over regions. */
+enum { ON_IMAGE, IN_ONE_PIECE, IN_REGIONS, PLACES };
+static uint8_t pages[2 * PAGE];
+
+static uint8_t submit_list(
+    int place, kazovuni_engine *engine, const void *descriptors, size_t jobs, void *records, size_t answers)
+{
+    kazovuni_region regions[] = {{0, pages, PAGE}, {PAGE, pages + PAGE, PAGE}};
+    switch (place) {
+    case ON_IMAGE:
+        return kazovuni_submit_list(engine, descriptors, jobs, records, answers);
+    case IN_ONE_PIECE:
+        return kazovuni_submit_list_in(engine, pages, sizeof pages, descriptors, jobs, records, answers);
+    default:
+        return kazovuni_submit_list_at(engine, regions, 2, descriptors, jobs, records, answers);
+    }
+}
+
+static uint8_t submit_batch(
+    int place, kazovuni_engine *engine, const void *descriptors, size_t jobs, void *records, size_t answers,
+    uint8_t batch[32])
+{
+    kazovuni_region regions[] = {{0, pages, PAGE}, {PAGE, pages + PAGE, PAGE}};
+    memset(batch, 0xcc, 32);
+    switch (place) {
+    case ON_IMAGE:
+        return kazovuni_submit_batch(engine, descriptors, jobs, records, answers, batch);
+    case IN_ONE_PIECE:
+        return kazovuni_submit_batch_in(engine, pages, sizeof pages, descriptors, jobs, records, answers, batch);
+    default:
+        return kazovuni_submit_batch_at(engine, regions, 2, descriptors, jobs, records, answers, batch);
+    }
+}
+
+/* What a list and a batch are refused for beside their memory, in the order of the tests. */
+static void try_counts(int place, kazovuni_engine *engine)
+{
+    uint8_t descriptors[2][64] = {{0}}, records[2][32], batch[32];
+    kazovuni_engine none = {0};
+    size_t many = (size_t)1 << 32;
+    memset(records, 0xcc, sizeof records);
+    EXPECT(submit_list(place, &none, descriptors, 2, records, 1) == KAZOVUNI_NO_ENGINE);
+    EXPECT(submit_batch(place, &none, descriptors, 2, records, 1, batch) == KAZOVUNI_NO_ENGINE && batch[0] == 0xcc);
+    EXPECT(submit_list(place, engine, descriptors, 2, records, 1) == KAZOVUNI_NOT_AS_MANY);
+    EXPECT(submit_list(place, engine, descriptors, 1, records, 2) == KAZOVUNI_NOT_AS_MANY);
+    EXPECT(submit_batch(place, engine, descriptors, 2, records, 1, batch) == KAZOVUNI_NOT_AS_MANY && batch[0] == 0xcc);
+    EXPECT(submit_batch(place, engine, NULL, 0, records, 2, batch) == KAZOVUNI_NOT_AS_MANY && batch[0] == 0xcc);
+    /* so many descriptors and records are reserved, and never touched */
+    uint8_t *room = mmap(NULL, 96 * many, PROT_READ | PROT_WRITE, MAP_PRIVATE | MAP_ANONYMOUS | MAP_NORESERVE, -1, 0);
+    if (room == MAP_FAILED) {
+        puts("regions: a batch of 2^32 jobs is not reserved here, and left out");
+    } else {
+        EXPECT(submit_batch(place, engine, room, many, room + 64 * many, many - 1, batch) == KAZOVUNI_NOT_AS_MANY);
+        EXPECT(submit_batch(place, engine, room, many, room + 64 * many, many, batch) == KAZOVUNI_TOO_MANY_JOBS);
+        EXPECT(batch[0] == 0xcc && munmap(room, 96 * many) == 0);
+    }
+    EXPECT(records[0][0] == 0xcc && records[1][31] == 0xcc);
+    EXPECT(submit_list(place, engine, NULL, 0, NULL, 0) == KAZOVUNI_OK);
+    EXPECT(submit_batch(place, engine, NULL, 0, NULL, 0, batch) == KAZOVUNI_OK);
+    expect_record(batch, KAZOVUNI_STATUS_SUCCESS, 0, 0, 0, 0, __LINE__);
+}
+
+/* Memory and codes are tested before the counts. */
+static void try_memory_first(kazovuni_engine *engine)
+{
+    uint8_t descriptors[2][64] = {{0}}, records[1][32] = {{0xcc}}, batch[32] = {0xcc};
+    kazovuni_region wrong = {1, pages, PAGE};
+    EXPECT(kazovuni_submit_list_in(engine, pages, 1, descriptors, 2, records, 1) == KAZOVUNI_NOT_PAGES);
+    EXPECT(kazovuni_submit_batch_in(engine, pages, 1, descriptors, 2, records, 1, batch) == KAZOVUNI_NOT_PAGES);
+    EXPECT(kazovuni_submit_list_at(engine, NULL, 0, descriptors, 2, records, 1) == KAZOVUNI_NO_REGIONS);
+    EXPECT(kazovuni_submit_batch_at(engine, NULL, 0, descriptors, 2, records, 1, batch) == KAZOVUNI_NO_REGIONS);
+    EXPECT(kazovuni_submit_list_at(engine, &wrong, 1, descriptors, 2, records, 1) == KAZOVUNI_BAD_ADDRESS);
+    EXPECT(kazovuni_submit_batch_at(engine, &wrong, 1, descriptors, 2, records, 1, batch) == KAZOVUNI_BAD_ADDRESS);
+    EXPECT(records[0][0] == 0xcc && batch[0] == 0xcc);
+}
+
+/* What stands in the memory that the jobs go over. */
+static void look(int place, kazovuni_engine *engine, uint8_t bytes[2 * PAGE])
+{
+    memcpy(bytes, pages, 2 * PAGE);
+    if (place == ON_IMAGE)
+        EXPECT(kazovuni_read(engine, 0, bytes, 2 * PAGE) == KAZOVUNI_OK);
+}
+
+/* A list, in which a fence is refused; batches with a fence behind jobs that succeeded, and behind one that failed. */
+static void try_fences(int place, kazovuni_engine *engine)
+{
+    const kazovuni_job jobs[] = {
+        {.opcode = KAZOVUNI_OP_FILL, .source = 0x0101010101010101, .target = 0, .size = 16},
+        {.opcode = KAZOVUNI_OP_MOVE, .source = 2 * PAGE, .target = 64, .size = 8}, /* meets a page fault */
+        {.opcode = KAZOVUNI_OP_MOVE, .flags = KAZOVUNI_FLAG_FENCE, .source = 0, .target = PAGE, .size = 16},
+        {.opcode = KAZOVUNI_OP_FILL, .source = 0x0202020202020202, .target = 0, .size = 8},
+    };
+    uint8_t descriptors[4][64], records[4][32], batch[32], bytes[2 * PAGE];
+    for (int i = 0; i < 4; i++)
+        EXPECT(kazovuni_encode(&jobs[i], descriptors[i]));
+    memset(pages, 0, sizeof pages);
+    if (place == ON_IMAGE)
+        EXPECT(kazovuni_bring(engine, 0, pages) == KAZOVUNI_OK && kazovuni_bring(engine, 1, pages) == KAZOVUNI_OK);
+    /* the fence is not behind the job that fails: all are carried out, and the batch has failed */
+    memcpy(descriptors[3], descriptors[1], 64);
+    EXPECT(submit_batch(place, engine, descriptors[2], 2, records[2], 2, batch) == KAZOVUNI_OK);
+    expect_record(batch, KAZOVUNI_STATUS_BATCH_FAILED, 0, 2, 0, 0, __LINE__);
+    expect_record(records[2], KAZOVUNI_STATUS_SUCCESS, 0, 16, 0, 0, __LINE__);
+    expect_record(records[3], KAZOVUNI_STATUS_READ_FAULT, 0, 0, 2 * PAGE, 0, __LINE__);
+    /* it is behind it: the two jobs from the fence on are abandoned */
+    EXPECT(kazovuni_encode(&jobs[3], descriptors[3]));
+    memset(records, 0xcc, sizeof records);
+    EXPECT(submit_batch(place, engine, descriptors, 4, records, 4, batch) == KAZOVUNI_OK);
+    expect_record(batch, KAZOVUNI_STATUS_BATCH_FAILED, 0, 2, 0, 0, __LINE__);
+    expect_record(records[0], KAZOVUNI_STATUS_SUCCESS, 0, 16, 0, 0, __LINE__);
+    expect_record(records[1], KAZOVUNI_STATUS_READ_FAULT, 0, 0, 2 * PAGE, 0, __LINE__);
+    expect_record(records[2], KAZOVUNI_STATUS_ABANDONED, 0, 0, 0, 0, __LINE__);
+    expect_record(records[3], KAZOVUNI_STATUS_ABANDONED, 0, 0, 0, 0, __LINE__);
+    look(place, engine, bytes);
+    EXPECT(bytes[0] == 1 && bytes[15] == 1 && bytes[16] == 0 && bytes[PAGE] == 0);
+    /* all succeed */
+    memcpy(descriptors[1], descriptors[0], 64);
+    EXPECT(submit_batch(place, engine, descriptors, 4, records, 4, batch) == KAZOVUNI_OK);
+    expect_record(batch, KAZOVUNI_STATUS_SUCCESS, 0, 4, 0, 0, __LINE__);
+    expect_record(records[2], KAZOVUNI_STATUS_SUCCESS, 0, 16, 0, 0, __LINE__);
+    look(place, engine, bytes);
+    EXPECT(bytes[0] == 2 && bytes[8] == 1 && bytes[PAGE] == 1 && bytes[PAGE + 15] == 1 && bytes[PAGE + 16] == 0);
+    /* in a list the fence is an invalid flag, and the jobs behind it are carried out */
+    EXPECT(submit_list(place, engine, descriptors, 4, records, 4) == KAZOVUNI_OK);
+    expect_record(records[2], KAZOVUNI_STATUS_BAD_FLAGS, 0, 0, 0, 0, __LINE__);
+    expect_record(records[3], KAZOVUNI_STATUS_SUCCESS, 0, 8, 0, 0, __LINE__);
+}
+
 /* An engine for its staging alone, and jobs over pages in one piece with it. */
 static void try_staging(void)
 {
-    static uint8_t pages[3 * PAGE];
+    static uint8_t pages[3 * PAGE]; /* others than above */
     kazovuni_engine engine = {0};
     kazovuni_job create = {.opcode = KAZOVUNI_OP_CREATE_DELTA, .target = PAGE, .extra = 2 * PAGE, .size = PAGE};
     kazovuni_job fault = {.opcode = KAZOVUNI_OP_FILL, .target = 3 * PAGE - 4, .size = 8};
@@ -368,6 +499,14 @@ int main(void)
     if (kazovuni_create_staging(&engine, 8000) != KAZOVUNI_OK)
         return 2;
     try_jobs(&engine);
+    kazovuni_free(&engine);
+    if (kazovuni_create(&engine, 2, 8000) != KAZOVUNI_OK)
+        return 2;
+    for (int place = 0; place < PLACES; place++) {
+        try_counts(place, &engine);
+        try_fences(place, &engine);
+    }
+    try_memory_first(&engine);
     kazovuni_free(&engine);
     try_staging();
     try_pages();

@@ -1,8 +1,8 @@
 //! The engine behind a handle.
 ghost use Rattle.std.specs.Prelude.{◌≡◌, ◌≢◌, ◌↔◌, ◌+◌, ◌^◌, ◌<◌, ◌≤◌, IfOk, IsOk, IsTrue, OnErr, OnOk, Err, length, map, true};
-ghost use Rattle.std.specs.Prelude.{if◌then◌else◌, None, IfSome, IsSome};
+ghost use Rattle.std.specs.Prelude.{if◌then◌else◌, None, IfSome, IsSome, OnTrue, OnFalse};
 ghost use Rattle.dml_types.specs.Memory.{bytes_at, has_all, present_bytes, put};
-ghost use Rattle.dml_types.specs.Step.{memory_after, records_of, step};
+ghost use Rattle.dml_types.specs.Step.{batch, memory_after, records_of, step};
 ghost use Rattle.dml_desc.specs.Descriptor.{bytes_of_record, decoded};
 ghost use Rattle.dml_image.specs.Brought.{brought, evicted, has_page};
 ghost use Rattle.dml_effect.specs.Pages.{IsWholePages, all_present};
@@ -13,9 +13,12 @@ use crate::lending::submit_move;
 use crate::regions::{CRegion, MOST_REGIONS, lend, settle};
 use crate::room::Room;
 use dml_arena::Arena;
-use dml_effect::{by_fields, submit_over_whole, submit_to};
+use dml_effect::{
+    by_fields, submit_batch_bytes_to, submit_batch_over, submit_list_bytes_to, submit_list_over,
+    submit_over_whole, submit_to,
+};
 use dml_image::{Image, ImageError};
-use dml_types::{Op, Record};
+use dml_types::{BatchRecord, Op, Record};
 use std::alloc::{AllocError, Global};
 use std::marker::Model;
 
@@ -143,6 +146,7 @@ impl Engine {
     }
 
     /// Carries out the jobs of some descriptors one after another, and writes the bytes of their records.
+    #[tactic(auto, using(dml_effect::proofs::BatchLemmas::room_of_limit))]
     pub fn submit_all(&mut self, descriptors: &[[u8; 64]], answers: &mut [[u8; 32]])
         requires { length answers.old ≡ length descriptors.now }
         ensures image { self.new
@@ -150,9 +154,39 @@ impl Engine {
         ensures records { answers.new
             ≡ map bytes_of_record (records_of self.old.image (map decoded descriptors.now) self.old.staging) }
     {
-        for i in 0..descriptors.len() {
-            answers[i] = dml_desc::record_bytes(&self.submit(&descriptors[i]));
-        }
+        let staging = self.staging;
+        submit_list_bytes_to(
+            &mut self.image,
+            &mut self.arena,
+            descriptors,
+            staging,
+            answers,
+        );
+    }
+
+    /// Carries out the jobs of some descriptors as a batch, writes the bytes of their records, and answers its own.
+    #[tactic(auto, using(dml_effect::proofs::BatchLemmas::room_of_limit))]
+    pub fn submit_batch(
+        &mut self,
+        descriptors: &[[u8; 64]],
+        answers: &mut [[u8; 32]],
+    ) -> BatchRecord
+        requires few { length descriptors.now < 2 ^ 32 }
+        requires as_many { length answers.old ≡ length descriptors.now }
+        ensures image { self.new
+            ≡ with_image self.old (batch self.old.image (map decoded descriptors.now) self.old.staging).0 }
+        ensures answer { result ≡ (batch self.old.image (map decoded descriptors.now) self.old.staging).1 }
+        ensures records { answers.new
+            ≡ map bytes_of_record (batch self.old.image (map decoded descriptors.now) self.old.staging).2 }
+    {
+        let staging = self.staging;
+        submit_batch_bytes_to(
+            &mut self.image,
+            &mut self.arena,
+            descriptors,
+            staging,
+            answers,
+        )
     }
 }
 
@@ -201,6 +235,123 @@ impl Engine {
         };
         let job = dml_desc::decode(descriptor);
         let answer = by_fields(submit_to(&mut image, &mut self.arena, &job, self.staging));
+        settle(&mut self.room, regions, image);
+        Some(answer)
+    }
+
+    /// Carries out the jobs of some descriptors one after another over the caller's whole pages, and writes the bytes of
+    /// their records.
+    #[tactic(auto, using(dml_effect::proofs::BatchLemmas::room_of_limit))]
+    pub fn submit_all_over(
+        &mut self,
+        content: &mut [u8],
+        descriptors: &[[u8; 64]],
+        answers: &mut [[u8; 32]],
+    )
+        requires pages { IsWholePages content.old }
+        requires as_many { length answers.old ≡ length descriptors.now }
+        ensures engine { self.new ≡ self.old }
+        ensures content { content.new
+            ≡ (memory_after (all_present content.old) (map decoded descriptors.now) self.old.staging).bytes }
+        ensures records { answers.new
+            ≡ map bytes_of_record (records_of (all_present content.old) (map decoded descriptors.now) self.old.staging) }
+    {
+        let staging = self.staging;
+        submit_list_over(content, &mut self.arena, descriptors, staging, answers);
+    }
+
+    /// Carries out the jobs of some descriptors as a batch over the caller's whole pages, writes the bytes of their
+    /// records, and answers its own.
+    #[tactic(auto, using(dml_effect::proofs::BatchLemmas::room_of_limit))]
+    pub fn submit_batch_over(
+        &mut self,
+        content: &mut [u8],
+        descriptors: &[[u8; 64]],
+        answers: &mut [[u8; 32]],
+    ) -> BatchRecord
+        requires pages { IsWholePages content.old }
+        requires few { length descriptors.now < 2 ^ 32 }
+        requires as_many { length answers.old ≡ length descriptors.now }
+        ensures engine { self.new ≡ self.old }
+        ensures content { content.new
+            ≡ (batch (all_present content.old) (map decoded descriptors.now) self.old.staging).0.bytes }
+        ensures answer { result ≡ (batch (all_present content.old) (map decoded descriptors.now) self.old.staging).1 }
+        ensures records { answers.new
+            ≡ map bytes_of_record (batch (all_present content.old) (map decoded descriptors.now) self.old.staging).2 }
+    {
+        let staging = self.staging;
+        submit_batch_over(content, &mut self.arena, descriptors, staging, answers)
+    }
+
+    /// Carries out the jobs of some descriptors one after another over the regions of a sound table, and writes the bytes
+    /// of their records; false where there is no memory for a list of the regions.
+    #[tactic(auto, using(dml_effect::proofs::BatchLemmas::room_of_limit))]
+    pub fn submit_all_at(
+        &mut self,
+        alloc: Global,
+        regions: &mut [CRegion<'_>],
+        descriptors: &[[u8; 64]],
+        answers: &mut [[u8; 32]],
+    ) -> bool
+        requires sound { table.table_fault regions.old ≡ 0 }
+        requires as_many { length answers.old ≡ length descriptors.now }
+        ensures engine { self.new ≡ self.old }
+        ensures memory { OnTrue result (table.memory_of_regions regions.new
+            ≡ memory_after (table.memory_of_regions regions.old) (map decoded descriptors.now) self.old.staging) }
+        ensures records { OnTrue result (answers.new ≡ map bytes_of_record
+            (records_of (table.memory_of_regions regions.old) (map decoded descriptors.now) self.old.staging)) }
+        ensures addresses { table.addresses_of regions.new ≡ table.addresses_of regions.old }
+        ensures unchanged { OnFalse result ((regions.new ≡ regions.old) × (answers.new ≡ answers.old)) }
+    {
+        let Some(mut image) = lend(alloc, &mut self.room, regions) else {
+            return false;
+        };
+        let staging = self.staging;
+        submit_list_bytes_to(
+            &mut image,
+            &mut self.arena,
+            descriptors,
+            staging,
+            answers,
+        );
+        settle(&mut self.room, regions, image);
+        true
+    }
+
+    /// Carries out the jobs of some descriptors as a batch over the regions of a sound table, writes the bytes of their
+    /// records, and answers its own; `None` where there is no memory for a list of the regions.
+    #[tactic(auto, using(dml_effect::proofs::BatchLemmas::room_of_limit))]
+    pub fn submit_batch_at(
+        &mut self,
+        alloc: Global,
+        regions: &mut [CRegion<'_>],
+        descriptors: &[[u8; 64]],
+        answers: &mut [[u8; 32]],
+    ) -> Option<BatchRecord>
+        requires sound { table.table_fault regions.old ≡ 0 }
+        requires few { length descriptors.now < 2 ^ 32 }
+        requires as_many { length answers.old ≡ length descriptors.now }
+        ensures engine { self.new ≡ self.old }
+        ensures memory { IsSome result → table.memory_of_regions regions.new
+            ≡ (batch (table.memory_of_regions regions.old) (map decoded descriptors.now) self.old.staging).0 }
+        ensures answer { IfSome result (λ r. r
+            ≡ (batch (table.memory_of_regions regions.old) (map decoded descriptors.now) self.old.staging).1) }
+        ensures records { IsSome result → answers.new ≡ map bytes_of_record
+            (batch (table.memory_of_regions regions.old) (map decoded descriptors.now) self.old.staging).2 }
+        ensures addresses { table.addresses_of regions.new ≡ table.addresses_of regions.old }
+        ensures unchanged { result ≡ None → (regions.new ≡ regions.old) × (answers.new ≡ answers.old) }
+    {
+        let Some(mut image) = lend(alloc, &mut self.room, regions) else {
+            return None;
+        };
+        let staging = self.staging;
+        let answer = submit_batch_bytes_to(
+            &mut image,
+            &mut self.arena,
+            descriptors,
+            staging,
+            answers,
+        );
         settle(&mut self.room, regions, image);
         Some(answer)
     }

@@ -30,7 +30,7 @@ pub use direct::{
 pub use handles::{CEngine, handed_over};
 pub use holding::{
     kazovuni_bring, kazovuni_create, kazovuni_free, kazovuni_read, kazovuni_submit,
-    kazovuni_submit_list, kazovuni_write,
+    kazovuni_submit_batch, kazovuni_submit_list, kazovuni_write,
 };
 pub use lending::{kazovuni_submit_list_over, kazovuni_submit_over, kazovuni_submit_pointers};
 pub use looking::{
@@ -39,8 +39,10 @@ pub use looking::{
 };
 pub use paging::{kazovuni_evict, kazovuni_present};
 pub use regions::CRegion;
-pub use staged::{kazovuni_create_staging, kazovuni_submit_in};
-pub use tables::kazovuni_submit_at;
+pub use staged::{
+    kazovuni_create_staging, kazovuni_submit_batch_in, kazovuni_submit_in, kazovuni_submit_list_in,
+};
+pub use tables::{kazovuni_submit_at, kazovuni_submit_batch_at, kazovuni_submit_list_at};
 pub use touching::{CRange, kazovuni_completion, kazovuni_ranges};
 pub use values::{CJob, CRecord};
 pub use whole::{kazovuni_submit_list_whole, kazovuni_submit_whole};

@@ -1,5 +1,5 @@
 //! Pages of an image that are looked at, and that are given up.
-ghost use Rattle.std.specs.Prelude.{◌≡◌, ◌≢◌, ◌↔◌, ◌^◌, ◌+◌, ◌≤◌, ◌⊎◌, None, Some, IfSome, IsTrue, length, option_map};
+ghost use Rattle.std.specs.Prelude.{◌≡◌, ◌≢◌, ◌↔◌, ◌^◌, ◌+◌, ◌<◌, ◌≤◌, ◌⊎◌, None, Some, IfSome, IsTrue, length, option_map};
 ghost use Rattle.dml_types.specs.Memory.{present_bytes};
 ghost use Rattle.dml_image.specs.Brought.{evicted, has_page};
 ghost use Rattle.dml_c.specs.State.{with_image};
@@ -42,7 +42,7 @@ pub extern "C" fn kazovuni_present(
 ) -> u8
     ensures codes { (result ≡ 0) ⊎ (result ≡ 4) ⊎ (result ≡ 9) }
     ensures no_engine { (result ≡ 4) ↔ (engine.old.handle.state ≡ None) }
-    ensures past { IfSome engine.old.handle.state (λ _. (result ≡ 9) ↔ (2 ^ 64 + 1 ≤ address + length)) }
+    ensures past { IfSome engine.old.handle.state (λ _. (result ≡ 9) ↔ (2 ^ 64 < address + length)) }
     ensures present { IfSome engine.old.handle.state (λ s.
         result ≡ 0 → present.new ≡ present_bytes s.image address length) }
     ensures unread { result ≢ 0 → present.new ≡ present.old }
@@ -63,7 +63,7 @@ pub extern "C" fn kazovuni_present(
 
 /// Whether a range ends above 2^64.
 fn ends_past(address: u64, length: u32) -> bool
-    ensures { IsTrue result ↔ (2 ^ 64 + 1 ≤ address + length) }
+    ensures { IsTrue result ↔ (2 ^ 64 < address + length) }
 {
     address > 0 && u64::from(length) > (u64::MAX - address) + 1
 }

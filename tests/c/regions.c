@@ -93,7 +93,7 @@ static uint8_t submit_at(kazovuni_engine *engine, kazovuni_job job, uint8_t reco
 /* What a table is refused for, each rule by itself and before those that come later. */
 static void try_tables(kazovuni_engine *engine)
 {
-    static uint8_t page[2 * PAGE];
+    static uint8_t page[3 * PAGE];
     uint8_t descriptor[64] = {0}, record[32];
     kazovuni_engine none = {0};
     kazovuni_region many[KAZOVUNI_MOST_REGIONS + 1], one = {0, page, PAGE}, two[2];
@@ -141,7 +141,7 @@ static void try_tables(kazovuni_engine *engine)
     two[1].address = 0;
     EXPECT(AT(two, 2) == KAZOVUNI_NOT_RISING);
     two[0] = (kazovuni_region){0, page, 2 * PAGE};
-    two[1] = (kazovuni_region){PAGE, page, PAGE};
+    two[1] = (kazovuni_region){PAGE, page + 2 * PAGE, PAGE};
     EXPECT(AT(two, 2) == KAZOVUNI_NOT_RISING);
     two[0].address = 1;
     EXPECT(AT(two, 2) == KAZOVUNI_BAD_ADDRESS);

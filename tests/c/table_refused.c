@@ -1,7 +1,7 @@
 /*
  * Each growth of memory that the library asks for, refused in turn: the call that asked answers want of memory and
  * leaves everything as it was, so that the same call does its work right after; no other call answers it, and at the
- * end every block is given back. Jobs on an engine's own pages, those over other memory with its staging, and those
+ * end every block is given back. And all growths above a budget. Jobs on an engine's own pages, those over other memory with its staging, and those
  * over buffers, ask for nothing.
  *
  * Linked with -Wl,--wrap=malloc,--wrap=realloc,--wrap=free, so that the library's own calls come here first.
@@ -18,6 +18,7 @@ enum { PAGE = KAZOVUNI_PAGE_BYTES, NEED = 40, LIMIT = 1 << 20 };
 /* ---- the heap */
 
 static size_t growths, refused; /* so many were asked for; the number of the one that is refused */
+static size_t budget = SIZE_MAX; /* above so many, every one is refused */
 static long blocks;             /* that are held */
 static bool is_met;             /* the last call met the refusal */
 static size_t largest;          /* of the blocks that were asked for */
@@ -31,7 +32,7 @@ void __wrap_free(void *block);
 
 static bool refuses(void)
 {
-    bool is_refused = ++growths == refused;
+    bool is_refused = ++growths == refused || growths > budget;
     is_met |= is_refused;
     return is_refused;
 }
@@ -173,6 +174,32 @@ static void walk_staged(const uint8_t page[PAGE])
     expect("a call with staging asks for memory", growths == before && blocks == held);
     kazovuni_free(&engine);
     expect("free", blocks == 0 && !is_met);
+}
+
+/* With less than an engine takes, none is made; with just that, its calls do their work, which is no growth more. */
+static void walk_budget(const uint8_t page[PAGE])
+{
+    static uint8_t bytes[PAGE];
+    kazovuni_engine engine = {0};
+    uint8_t records[1][32];
+    for (budget = 0;; budget++) {
+        growths = refused = 0;
+        uint8_t answer = kazovuni_create_staging(&engine, NEED);
+        if (answer == KAZOVUNI_OK)
+            break;
+        expect("the answer above a budget", answer == KAZOVUNI_NO_MEMORY && budget < 100);
+        expect("the handle above a budget", engine.engine == NULL && !engine.is_open && blocks == 0);
+    }
+    is_met = false;
+    for (int form = 0; form < STAGED_FORMS; form++) {
+        memcpy(bytes, page, PAGE);
+        expect_done("a call within the budget", submit_staged(form, &engine, bytes, records));
+        expect("the record within the budget", memcmp(records[0], created, 32) == 0);
+    }
+    expect("the growths of an engine for its staging", growths == budget);
+    kazovuni_free(&engine);
+    expect("free", blocks == 0);
+    budget = SIZE_MAX;
 }
 
 static uint8_t submit(enum call call, uint8_t bytes[PAGE], uint8_t records[1][32])
@@ -328,6 +355,7 @@ int main(void)
         walk_list(LIST_WHOLE);
         walk_buffers(page);
     } while (growths >= refused);
+    walk_budget(page);
     printf("table_refused:");
     for (enum call call = CREATE; call < CALLS; call++) {
         printf(" %s %zu", names[call], met[call]);

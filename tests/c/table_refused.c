@@ -1,8 +1,8 @@
 /*
  * Each growth of memory that the library asks for, refused in turn: the call that asked answers want of memory and
  * leaves everything as it was, so that the same call does its work right after; no other call answers it, and at the
- * end every block is given back. And all growths above a budget. Jobs on an engine's own pages, those over other memory with its staging, and those
- * over buffers, ask for nothing.
+ * end every block is given back. And all growths above a budget. Jobs on an engine's own pages, those over other memory
+ * with its staging, and those over buffers, ask for nothing.
  *
  * Linked with -Wl,--wrap=malloc,--wrap=realloc,--wrap=free, so that the library's own calls come here first.
  */

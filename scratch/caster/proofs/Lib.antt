@@ -1,0 +1,3 @@
+pub mod EmptyVec
+pub mod Steps
+pub mod Walks

@@ -60,7 +60,8 @@ dml_command:refused_parse_words dmljob:refused_description dml_engine:refused_ru
 dml_engine:refused_run_batch_over dml_seats:refused_bell'
 
 # The tests that make before their call what another one makes: TEST=SET_UP.
-share_set_up='dml_core:refused_made_rows_by_steps=made_rows dml_engine:refused_bring=submit
+share_set_up='dml_core:refused_made_rows_by_steps=made_rows
+dml_effect:refused_lists_over_segments=submit_over_segments dml_engine:refused_bring=submit
 dml_engine:refused_second_bring=submit dml_engine:refused_list_alone=submit dml_engine:refused_batch_alone=submit
 dml_engine:refused_submit_into=submit_on_workers dml_engine:refused_submit_list=submit_on_workers
 dml_engine:refused_submit_batch=submit_on_workers dml_engine:refused_waves_of_a_batch=waves

@@ -1,5 +1,6 @@
 pub mod AppliedLemmas
 pub mod ApplyChunkLemmas
+pub mod BatchLemmas
 pub mod ChunkLemmas
 pub mod ChunkListLemmas
 pub mod CreateChunkLemmas
@@ -7,8 +8,10 @@ pub mod CreateJoinLemmas
 pub mod CreatedLemmas
 pub mod EntryLemmas
 pub mod JoinLemmas
+pub mod LendingLemmas
 pub mod PageLemmas
 pub mod PutLemmas
 pub mod ScannedLemmas
+pub mod SegmentLemmas
 pub mod StraightLemmas
 pub mod WholeLemmas

@@ -1,6 +1,6 @@
 -- The scan of a whole job is its operation's equation.
-use Rattle.std.proofs.Common.{◌≡◌, ℕ, ◌+◌, ◌-◌, ◌<◌, ◌≤◌, Bool, true, false, not, ◌&&◌, List, [], ◌∷◌, length, Some, None, refl, sym, ◌∙◌, ap, ap₂, subst, arith, ⊎_elim, cond, eqb, unwrap_or}
-use Rattle.std.specs.Prelude.{⊤, find, ◌==◌}
+use Rattle.std.proofs.Common.{◌≡◌, ℕ, ◌+◌, ◌-◌, ◌<◌, ◌≤◌, Bool, true, false, not, ◌&&◌, List, [], ◌∷◌, length, Option, Some, None, refl, sym, ◌∙◌, ap, ap₂, subst, arith, ⊎_elim, cond, eqb, unwrap_or}
+use Rattle.std.specs.Prelude.{⊤, find, option_map, ◌==◌}
 use Rattle.std.proofs.lemmas.Bool.{cases_lt, eq-eqb, not-false, and_parts}
 use Rattle.dml_types.specs.declared.findings.Found.{Found}
 use Rattle.dml_types.specs.declared.findings.Found.TheVariants.{All, Differs, Fault as Stopped}
@@ -16,7 +16,7 @@ use Rattle.dml_types.specs.Job.{op_of, unfenced}
 use Rattle.dml_types.specs.Effect.{code_of, Fault, is_clear, first_fault, read_fault, stopped_at, faulted, ended, judged}
 use Rattle.dml_types.specs.Bytewise.{pattern_bytes, operation_direction, lowest_done, result_of, faults_at, length_of, moved, dualcast, filled, compare_answer, compared, passes}
 use Rattle.dml_types.specs.Chunk.{fault_found, scan_done, scan_found, scan_staged, scan_offset}
-use Rattle.dml_types.specs.Refusal.{need, refusal}
+use Rattle.dml_types.specs.Refusal.{need, operation_need, refusal}
 use Rattle.dml_types.specs.Step.{effect, operation_effect}
 use Rattle.dml_types.proofs.FirstLemmas.{first_le, first_agree, fails_before}
 use Rattle.dml_types.proofs.MemoryLemmas.{bytes_at_none, has_all_from, has_all_within, length_bytes_at, present_front}
@@ -28,6 +28,7 @@ use Rattle.dml_scan.specs.Found.{done_count}
 use Rattle.dml_scan.proofs.ReachLemmas.{found_all, blocked_at, done_found, scan_done_within}
 use Rattle.dml_effect.specs.Chunks.{GoesByOffsets, scan_size}
 use Rattle.dml_effect.specs.Effects.{are_present, some_puts}
+use Rattle.dml_effect.specs.Straight.{IsDelta, TakesStaging}
 use Rattle.dml_effect.specs.Joined.{fault_by, copied_record, compared_record, scanned_record, scanned_puts, puts_when_done}
 use Rattle.dml_effect.proofs.ChunkLemmas.{found_is, ends_at, stop_at}
 use Rattle.dml_effect.proofs.PutLemmas.{puts_made_some, some_put, no_put}
@@ -429,5 +430,29 @@ pub effect_of_fenced : (memory : Memory) (job : Job) (staging : ℕ) → refusal
 effect_of_fenced memory job staging accepted =
     effect_with memory job staging (checked_where_accepted_free job staging accepted) (need_within_free job staging accepted)
 
-pub fenced_need_under : (job : Job) (staging size : ℕ) → refusal (unfenced job) staging ≡ None → staging ≤ size → need job ≤ size
-fenced_need_under job staging size accepted enough = omega (arith, need_within_free job staging accepted)
+-- the staging that a job needs is not read off its flags
+need_unfenced : (job : Job) → need (unfenced job) ≡ need job
+need_unfenced job =
+    elim (op_of job) as (λ (o : Option Op). unwrap_or (option_map (λ op. operation_need op (unfenced job)) o) 0 ≡ unwrap_or (option_map (λ op. operation_need op job) o) 0) [
+      | None ↦ refl
+      | Some op ↦ same op
+    ]
+  where
+    same : (op : Op) → operation_need op (unfenced job) ≡ operation_need op job
+    same NoOp = refl
+    same Move = refl
+    same Fill = refl
+    same Compare = refl
+    same ComparePattern = refl
+    same CreateDelta = refl
+    same ApplyDelta = refl
+    same Dualcast = refl
+
+-- room for it without its fence is room for it
+pub room_in_batch : (job : Job) (staging size : ℕ) → refusal (unfenced job) staging ≡ None → (TakesStaging (unfenced job) staging → need (unfenced job) ≤ size) → IsDelta job → need job ≤ size
+room_in_batch job staging size accepted room delta =
+    let free = need_unfenced job in
+    let within : need (unfenced job) ≤ staging = subst (λ (n : ℕ). n ≤ staging) (sym free) (need_within_free job staging accepted) in
+    ⊎_elim (λ some. subst (λ (n : ℕ). n ≤ size) free (room (delta, accepted, subst (λ (n : ℕ). 0 < n) (sym free) some, within)))
+    (λ none. omega (arith, none))
+    (cases_lt 0 (need job))

@@ -43,9 +43,9 @@ pub fn submit_to(image: &mut Image, arena: &mut Arena, job: &Job, staging: u32) 
 }
 
 /// The same for a job of a batch, which may have the fence and is carried out without it.
-#[tactic(auto, using(crate::proofs::WholeLemmas::effect_of_fenced, crate::proofs::WholeLemmas::fenced_need_under))]
+#[tactic(auto, using(crate::proofs::WholeLemmas::effect_of_fenced))]
 pub fn submit_in_batch_to(image: &mut Image, arena: &mut Arena, job: &Job, staging: u32) -> Record
-    requires staging { staging ≤ arena.old.size }
+    requires staging { TakesStaging (unfenced job.now) staging → need (unfenced job.now) ≤ arena.old.size }
     ensures image { image.new ≡ (step image.old (unfenced job.now) staging).0 }
     ensures answer { result ≡ (step image.old (unfenced job.now) staging).1 }
     ensures arena { arena.new ≡ arena.old }

@@ -2,7 +2,8 @@
 //! pages cut at each choice of their pages, and want of memory.
 use crate::tests::{LentRow, expect_record, fills, moves, other_jobs, record, unaligned_moves};
 use dml_arena::Arena;
-use dml_effect::submit_over_segments;
+use dml_desc::{decode_record, encode};
+use dml_effect::{submit_batch_over_segments, submit_list_over_segments, submit_over_segments};
 use dml_image::{Segment, are_segments};
 use dml_types::{Job, Record, Status};
 use std::alloc::Global;
@@ -208,4 +209,52 @@ fn refused_submit_over_segments(rt: HostRuntime) -> Result<(), Fail> {
     drop(segments);
     assert_eq!(rt; (high[0], high[7], high[8]), (moved, moved, 2));
     Ok(())
+}
+
+/// The same of a list and of a batch behind it.
+#[test]
+#[tactic(auto, using(dml_effect::proofs::BatchLemmas::room_of_limit))]
+fn refused_lists_over_segments(rt: HostRuntime) -> Result<(), Fail> {
+    let mut arena = Arena::new(rt.alloc(), 4096)?;
+    let (mut low, mut high) = ([1; 4096], [2; 4096]);
+    let mut segments = two(rt.alloc(), &mut low, &mut high)?;
+    let list = [encode(&Job::move_bytes(0, 8192, 8)).ok_or("no descriptor")?];
+    let mut told = [[0xff; 32]];
+    assert!(rt; are_segments(&segments));
+    let answer = submit_list_over_segments(
+        rt.alloc(),
+        &mut segments,
+        &mut arena,
+        &list,
+        4096,
+        &mut told,
+    );
+    let listed = told_by(&rt, answer.is_ok(), &told[0]);
+    let batch = [encode(&Job::move_bytes(0, 8200, 8)).ok_or("no descriptor")?];
+    let mut told = [[0xff; 32]];
+    assert!(rt; are_segments(&segments));
+    let own = submit_batch_over_segments(
+        rt.alloc(),
+        &mut segments,
+        &mut arena,
+        &batch,
+        4096,
+        &mut told,
+    );
+    let batched = told_by(&rt, own.is_ok(), &told[0]);
+    drop(segments);
+    assert_eq!(rt; (high[0], high[7]), (listed, listed));
+    assert_eq!(rt; (high[8], high[15], high[16]), (batched, batched, 2));
+    Ok(())
+}
+
+/// Expects the record of a move of 8 bytes, or none where memory was wanting, and answers what stands at its target.
+fn told_by(rt: &impl Abort, is_done: bool, told: &[u8; 32]) -> u8 {
+    if is_done {
+        assert_eq!(rt; decode_record(told), Some(record(Status::Success, 0, 8, 0)));
+        1
+    } else {
+        assert_eq!(rt; *told, [0xff; 32]);
+        2
+    }
 }

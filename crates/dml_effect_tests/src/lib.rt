@@ -4,6 +4,8 @@
 #[cfg(test)]
 mod apply_tests;
 #[cfg(test)]
+mod batches_tests;
+#[cfg(test)]
 mod compare_tests;
 #[cfg(test)]
 mod create_tests;

@@ -1,17 +1,18 @@
 //! Batches: lists in which a fenced job waits for all jobs before it, and is carried out only where each succeeded.
-ghost use Rattle.std.specs.Prelude.{◌≡◌, ◌↔◌, ◌+◌, ◌-◌, ◌<◌, ◌≤◌, ◌++◌, ℕ, false, true, IfOk, IsErrOf, OnErr, OnOk, length, nat_le, replicate, slice_index_or, take};
+ghost use Rattle.std.specs.Prelude.{◌≡◌, ◌↔◌, ◌<◌, ◌≤◌, ℕ, false, true, IfOk, IsErrOf, OnErr, OnOk, length, nat_le, replicate, slice_index_or};
 ghost use Rattle.std.specs.List.{list_any};
 ghost use Rattle.dml_types.specs.Job.{is_fenced, no_op_job};
 ghost use Rattle.dml_types.specs.Effect.{ended};
-ghost use Rattle.dml_types.specs.Step.{batch, batch_answer, batch_jobs, ends_before, have_succeeded};
+ghost use Rattle.dml_types.specs.Step.{batch, batch_jobs, ends_before};
 ghost use Rattle.dml_types.specs.declared.statuses.Status.TheVariants.{Abandoned};
-ghost use Rattle.dml_engine.specs.Batches.{EndsAt, IsCarried};
+ghost use Rattle.dml_effect.specs.Batches.{EndsAt, IsCarried};
 
 use crate::engines::EngineOver;
 use crate::errors::SubmitError;
 use crate::lists::plan_waves;
 use crate::opening::{Fences, open_all};
 use crate::submitting::MOST_JOBS;
+use dml_effect::{abandon, answer_of_batch, have_succeeded};
 use dml_levels::law_of_fences;
 use dml_pool::Gate;
 use dml_types::{BatchRecord, Job, Record, Status};
@@ -52,7 +53,7 @@ impl<G: Gate + Sync> EngineOver<'_, G> {
     }
 
     /// Carries out a batch of at most 1,024 jobs, writes the record of each at its place, and returns the batch's own.
-    #[tactic(auto, using(crate::proofs::BatchLemmas::batch_answers))]
+    #[tactic(auto, using(dml_effect::proofs::BatchLemmas::batch_answers))]
     pub(crate) fn batch_into<R: Threads + Wait + Sync>(
         &mut self,
         rt: &R,
@@ -69,7 +70,7 @@ impl<G: Gate + Sync> EngineOver<'_, G> {
         ensures watched { self.new.watched ≡ self.old.watched }
     {
         let done = self.carry_out_or_abandon(rt, alloc, jobs, records);
-        batch_record(&records[..done])
+        answer_of_batch(&records[..done])
     }
 
     /// Carries out the jobs of a batch as far as its fences let them, and abandons the others. Answers how many are
@@ -164,26 +165,6 @@ impl<G: Gate + Sync> EngineOver<'_, G> {
     }
 }
 
-impl<G> EngineOver<'_, G> {
-    /// The same by this worker alone, in list order.
-    fn batch_in_list_order(&mut self, jobs: &[Job], records: &mut [Record]) -> usize
-        requires size { length records.old ≡ length jobs.now }
-        ensures carried { IsCarried self.old.image jobs.now self.old.settings.staging result
-            self.new.image records.new }
-        ensures ends { EndsAt jobs.now result records.new }
-        ensures settings { self.new.settings ≡ self.old.settings }
-        ensures watched { self.new.watched ≡ self.old.watched }
-    {
-        for i in 0..jobs.len() {
-            if ends_before(jobs, records, i) {
-                return i;
-            }
-            records[i] = self.carry_out_in_batch(&jobs[i]);
-        }
-        jobs.len()
-    }
-}
-
 /// A record for each job, all as of abandoned ones.
 pub(crate) fn abandoned(alloc: Global, jobs: &[Job]) -> Result<Vec<Record>, AllocError>
     ensures { IfOk result (λ list. list.items ≡ replicate (length jobs.now) (ended Abandoned 0 0 0)) }
@@ -193,14 +174,6 @@ pub(crate) fn abandoned(alloc: Global, jobs: &[Job]) -> Result<Vec<Record>, Allo
         records.push_reserved(Record::refused(Status::Abandoned));
     }
     Ok(records)
-}
-
-/// Writes the records of abandoned jobs from a place on.
-fn abandon(records: &mut [Record], from: usize)
-    requires { from ≤ length records.old }
-    ensures { records.new ≡ take from records.old ++ replicate (length records.old - from) (ended Abandoned 0 0 0) }
-{
-    records[from..].fill(Record::refused(Status::Abandoned));
 }
 
 /// The first place from `start` on whose job is fenced, or the end of the list.
@@ -231,26 +204,4 @@ fn ends_before(jobs: &[Job], records: &[Record], place: usize) -> bool
     ensures { result ≡ ends_before jobs.now records.now place }
 {
     jobs[place].is_fenced() && !have_succeeded(&records[..place])
-}
-
-/// The record of a batch whose jobs that were carried out have these.
-fn batch_record(records: &[Record]) -> BatchRecord
-    requires { length records.now ≤ 1024 }
-    ensures { result ≡ batch_answer records.now }
-{
-    BatchRecord {
-        status: if have_succeeded(records) {
-            Status::Success
-        } else {
-            Status::BatchFailed
-        },
-        completed: records.len() as u32,
-    }
-}
-
-/// Whether each of these has status 0x01.
-fn have_succeeded(records: &[Record]) -> bool
-    ensures { result ≡ have_succeeded records.now }
-{
-    records.iter().all(|record| record.status.code() == 0x01)
 }

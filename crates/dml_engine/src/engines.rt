@@ -2,7 +2,8 @@ ghost use Rattle.std.specs.Prelude.{◌≡◌, ◌≢◌, ◌↔◌, ◌<◌, �
 ghost use Rattle.dml_types.specs.Memory.{has_all, put};
 ghost use Rattle.dml_types.specs.Job.{unfenced};
 ghost use Rattle.dml_types.specs.Limits.{IsValid};
-ghost use Rattle.dml_types.specs.Step.{step};
+ghost use Rattle.dml_types.specs.Step.{memory_after, records_of, step};
+ghost use Rattle.dml_effect.specs.Batches.{EndsAt, IsCarried};
 ghost use Rattle.dml_image.specs.Brought.{brought, has_page};
 ghost use Rattle.dml_levels.specs.Laws.{begun, carried};
 ghost use Rattle.dml_order.specs.Order.{run_all};
@@ -12,7 +13,7 @@ ghost use Rattle.dml_engine.specs.Lists.{IsReady};
 use crate::errors::EngineError;
 use dml_arena::Arena;
 use dml_desc::Checked;
-use dml_effect::{by_fields, submit_in_batch_to, submit_to};
+use dml_effect::{by_fields, carry_out_batch, submit_in_batch_to, submit_list_to, submit_to};
 use dml_image::{Image, ImageError};
 use dml_pool::{Free, Gate};
 use dml_types::{Job, Record, Settings};
@@ -211,6 +212,34 @@ impl<'a, G> EngineOver<'a, G> {
         ensures watched { self.new.watched ≡ self.old.watched }
     {
         by_fields(submit_in_batch_to(&mut self.image, &mut self.arena, job, self.settings.staging))
+    }
+
+    /// Carries out a list of jobs one after another with this one worker, and writes the record of each at its place.
+    #[tactic(auto, using(dml_effect::proofs::BatchLemmas::room_of_limit))]
+    pub(crate) fn in_list_order(&mut self, jobs: &[Job], records: &mut [Record])
+        requires size { length records.old ≡ length jobs.now }
+        ensures image { self.new.image ≡ memory_after self.old.image jobs.now self.old.settings.staging }
+        ensures records { records.new ≡ records_of self.old.image jobs.now self.old.settings.staging }
+        ensures settings { self.new.settings ≡ self.old.settings }
+        ensures watched { self.new.watched ≡ self.old.watched }
+    {
+        let staging = self.settings.staging;
+        submit_list_to(&mut self.image, &mut self.arena, jobs, staging, records);
+    }
+
+    /// Carries out the jobs of a batch in list order with this one worker, as far as its fences let them, and answers
+    /// how many that are. The records of the others are of no account.
+    #[tactic(auto, using(dml_effect::proofs::BatchLemmas::room_of_limit))]
+    pub(crate) fn batch_in_list_order(&mut self, jobs: &[Job], records: &mut [Record]) -> usize
+        requires size { length records.old ≡ length jobs.now }
+        ensures carried { IsCarried self.old.image jobs.now self.old.settings.staging result
+            self.new.image records.new }
+        ensures ends { EndsAt jobs.now result records.new }
+        ensures settings { self.new.settings ≡ self.old.settings }
+        ensures watched { self.new.watched ≡ self.old.watched }
+    {
+        let staging = self.settings.staging;
+        carry_out_batch(&mut self.image, &mut self.arena, jobs, staging, records)
     }
 }
 

@@ -144,19 +144,6 @@ impl<G> EngineOver<'_, G> {
             && Load::of_list(jobs, fences, settings).list_workers(settings.workers) > 1
     }
 
-    /// Carries out a list of jobs one after another, and writes the record of each at its place.
-    fn in_list_order(&mut self, jobs: &[Job], records: &mut [Record])
-        requires size { length records.old ≡ length jobs.now }
-        ensures image { self.new.image ≡ memory_after self.old.image jobs.now self.old.settings.staging }
-        ensures records { records.new ≡ records_of self.old.image jobs.now self.old.settings.staging }
-        ensures settings { self.new.settings ≡ self.old.settings }
-        ensures watched { self.new.watched ≡ self.old.watched }
-    {
-        for i in 0..jobs.len() {
-            records[i] = self.carry_out_alone(&jobs[i]);
-        }
-    }
-
     /// Carries out the jobs at these places that do anything, without their fences and one after another, and writes
     /// the record of each at its place.
     fn carry_out_places(&mut self, jobs: &[Checked], places: &[u32], records: &mut [Record])

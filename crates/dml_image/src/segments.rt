@@ -39,7 +39,7 @@ impl<'a> Segment<'a> {
     }
 
     /// Its bytes, to be changed; until others are put in their place, none are left here.
-    pub(crate) fn take(&mut self) -> &'a mut [u8]
+    pub fn take(&mut self) -> &'a mut [u8]
         ensures bytes { result.now ≡ self.old.content.now }
         ensures same_reference { result.ghost_name ≡ self.old.content.ghost_name }
         ensures left { self.new.content.now ≡ [] }

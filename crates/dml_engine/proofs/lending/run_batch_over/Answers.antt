@@ -5,7 +5,7 @@ use Rattle.dml_types.specs.Step.{batch}
 use Rattle.dml_image.proofs.LentLemmas.{piece_kept}
 use Rattle.dml_effect.specs.Pages.{all_present}
 use Rattle.dml_effect.proofs.PageLemmas.{whole_is}
-use Rattle.dml_engine.proofs.LendingLemmas.{batch_after, batch_answer_there, batch_records_there}
+use Rattle.dml_effect.proofs.LendingLemmas.{batch_after, batch_answer_there, batch_records_there}
 use Rattle.dml_engine.proofs.lending.run_batch_over.Goals as goal
 
 pub take-image-requires : goal.take-image-requires

@@ -4,7 +4,7 @@ use Rattle.dml_types.specs.Step.{memory_after}
 use Rattle.dml_image.proofs.LentLemmas.{piece_kept}
 use Rattle.dml_effect.specs.Pages.{all_present}
 use Rattle.dml_effect.proofs.PageLemmas.{whole_is}
-use Rattle.dml_engine.proofs.LendingLemmas.{list_after, list_answers}
+use Rattle.dml_effect.proofs.LendingLemmas.{list_after, list_answers}
 use Rattle.dml_engine.proofs.lending.run_list_over.Goals as goal
 
 pub take-image-requires : goal.take-image-requires

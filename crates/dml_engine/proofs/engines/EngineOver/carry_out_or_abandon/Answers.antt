@@ -1,5 +1,5 @@
 use Rattle.std.proofs.Common.{◌∙◌}
-use Rattle.dml_engine.proofs.BatchLemmas.{batch_count, batch_image, batch_records}
+use Rattle.dml_effect.proofs.BatchLemmas.{batch_count, batch_image, batch_records}
 use Rattle.dml_engine.proofs.engines.EngineOver.carry_out_or_abandon.Goals as goal
 
 pub returns-clause-count : goal.returns-clause-count

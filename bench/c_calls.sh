@@ -1,10 +1,12 @@
 #!/bin/sh
-# Builds the C library and bench/c_calls.c, runs that and dml_bench alternately, and prints the least and the median of
-# the calls' times, and the bars of calls from C: a move of 4 KiB over memmove, and each call over the same one inside
-# Rattle (`submit_over` on the caller's pages, `submit_to` on an image's own); and moves of pages anywhere in 1 GiB in
-# one piece over memmove at the same places, by bench/c_whole.c. Then the jobs straight over buffers, by
-# bench/c_buffers.c, beside the same ones by kazovuni_submit_pointers, with their bars as ratios: of the operation's own
-# call (`buffers`) and of kazovuni_execute (`execute`), which checks the job twice.
+# Builds the C library and bench/c_calls.c, runs that and dml_bench alternately, and prints the least and the median
+# of the calls' times, and the bars of calls from C: a move of 4 KiB over memmove, and each call over the same one
+# inside Rattle (`submit_over` on the caller's pages, `submit_to` on an image's own); and moves of pages anywhere in 1
+# GiB in one piece over memmove at the same places, by bench/c_whole.c. Jobs with the staging of an engine beside the
+# same ones with their own from malloc, jobs over eight regions beside one, and a batch of moves of a page beside the
+# list of them that dml_bench hands to an engine of one worker, by bench/c_regions.c. Then the jobs straight over
+# buffers, by bench/c_buffers.c, beside the same ones by kazovuni_submit_pointers, with their bars as ratios: of the
+# operation's own call (`buffers`) and of kazovuni_execute (`execute`), which checks the job twice.
 #
 # Usage: bench/c_calls.sh [ROUNDS [OLDER]]   15 rounds, where nothing else is said.
 # OLDER is the prefix of an older library, or an older checkout, whose own tools/install_library.sh is run then. The
@@ -44,14 +46,15 @@ installed "$here/.." "$work/now"
 built c_calls "$work/now" c_calls
 built c_buffers "$work/now" c_buffers
 built c_whole "$work/now" c_whole
-programs='c_calls c_whole dml_bench c_buffers' backwards='c_buffers dml_bench c_whole c_calls'
+built c_regions "$work/now" c_regions
+programs='c_calls c_whole c_regions dml_bench c_buffers' backwards='c_buffers dml_bench c_regions c_whole c_calls'
 if [ -n "$older" ]; then
     [ -f "$older/lib/libkazovuni.a" ] || { installed "$older" "$work/before"; older=$work/before; }
     built older "$older" c_calls
     built now_buffers "$work/now" c_buffers -DPOINTERS_ALONE
     built older_buffers "$older" c_buffers -DPOINTERS_ALONE
-    programs='c_calls older c_whole dml_bench c_buffers now_buffers older_buffers'
-    backwards='older_buffers now_buffers c_buffers dml_bench c_whole older c_calls'
+    programs='c_calls older c_whole c_regions dml_bench c_buffers now_buffers older_buffers'
+    backwards='older_buffers now_buffers c_buffers dml_bench c_regions c_whole older c_calls'
 fi
 
 # one ROUND PROGRAM: writes "ROUND NAME BYTES NANOSECONDS" for each row of a program; those of the older library get a
@@ -62,7 +65,11 @@ one() {
         *) "$work/$2" >"$work/rows" || exit 2 ;;
     esac
     case $2 in
-        dml_bench) sed -n "s/^\(over_move\|own_move\) /$1 &/p" "$work/rows" ;;
+        dml_bench)
+            sed -n "s/^\(over_move\|own_move\) /$1 &/p" "$work/rows"
+            awk -v round="$1" '$1 == "list_page_moves" && $2 == 1 { printf "%d %s 4096 %.2f\n", round, $1, $3 / 1024 }' \
+                "$work/rows"
+            ;;
         older | older_buffers) sed "s/^/$1 older_/" "$work/rows" ;;
         now_buffers) sed "s/^/$1 now_/" "$work/rows" ;;
         *) sed "s/^/$1 /" "$work/rows" ;;
@@ -176,6 +183,15 @@ awk -v busy="$busy" -v older="${older:+1}" '
             bar("kazovuni_submit (a handle) of " bytes " bytes, over submit_to in Rattle", \
                 over("kazovuni_submit", "own_move", bytes), 20)
         }
+        ratio_bar("create of a page with the staging of an engine, to kazovuni_submit_whole", \
+            ratio("create_in", "create_whole", 4096), 0.85)
+        ratio_bar("apply of 20 entries with the staging of an engine, to the same", \
+            ratio("apply_in", "apply_whole", 4096), 0.75)
+        for (bytes = 64; bytes <= 4096; bytes *= 64)
+            bar("move of " bytes " bytes over eight regions, over the same over one", \
+                over("move_at_eight", "move_at_one", bytes), 40)
+        ratio_bar("batch of 1,024 moves of a page, to a list of them on an engine of one worker", \
+            ratio("moves_batch", "list_page_moves", 4096), 1.02)
         for (n = 1; older && n <= rows; n++) {
             split(row[n], part, " ")
             if (part[1] ~ /^kazovuni_/ && (1, "older_" part[1], part[2]) in times)

@@ -1,6 +1,6 @@
 /*
  * Kazovuni: the jobs of Intel's data streaming accelerator in software, straight over the caller's own buffers, over
- * whole pages of the caller's, or over an image of its own behind a handle.
+ * whole pages of the caller's in one piece or in regions, or over an image of its own behind a handle.
  *
  * A job is a descriptor of 64 bytes and answers a completion record of 32, both laid out as linux/idxd.h has them; all
  * numbers are little-endian. No function has a precondition but that its pointers are valid for the bytes named (of
@@ -14,7 +14,8 @@
  * whatever the job touches, and no other thread, process or device may touch any of it meanwhile. Over buffers of the
  * caller's that is a job's own written ranges alone; over whole pages it is all of their bytes, which have to be
  * writable, for a compare too. A descriptor in memory that others can write is to be copied first: some calls read it
- * twice. A handle stays on its thread: all calls with it are made by the thread that called kazovuni_create.
+ * twice. A handle may be handed to another thread: one call at a time is made with it, and a lock, a thread's start or
+ * join, or a sequentially consistent atomic stands between the calls of two threads.
  *
  * Descriptors, records and the bytes that jobs work on need no alignment but what a job's rules ask of its addresses.
  * The completion address of a descriptor is read past: its record goes where the call is told.
@@ -35,7 +36,7 @@ extern "C" {
  * This header's version: the major number in the upper 16 bits, the minor one in the lower. A library fits where its
  * kazovuni_version() has the same major number, and is no less.
  */
-#define KAZOVUNI_VERSION UINT32_C(0x00010002)
+#define KAZOVUNI_VERSION UINT32_C(0x00010003)
 
 #define KAZOVUNI_DESCRIPTOR_BYTES 64
 #define KAZOVUNI_RECORD_BYTES 32
@@ -44,12 +45,15 @@ extern "C" {
 #define KAZOVUNI_MOST_WHOLE_PAGES UINT32_C(4294967295) /* of memory in one piece */
 
 #define KAZOVUNI_MOST_STAGING UINT32_C(16777216)
+#define KAZOVUNI_MOST_REGIONS 64 /* of a table */
 
 /* How this header's own functions are declared: a C++ program has each of them once, however many files include it. */
 #ifdef __cplusplus
 #define KAZOVUNI_INLINE inline
+#define KAZOVUNI_CAST(type, value) static_cast<type>(value)
 #else
 #define KAZOVUNI_INLINE static inline
+#define KAZOVUNI_CAST(type, value) ((type)(value))
 #endif
 
 /* What a call answers. Whatever is not KAZOVUNI_OK, nothing was changed. */
@@ -63,15 +67,60 @@ enum {
     KAZOVUNI_BAD_PAGES = 6,    /* an engine has 1 to 4,096 pages */
     KAZOVUNI_BAD_SETTINGS = 7, /* an engine has at most 16,777,216 bytes of staging */
     KAZOVUNI_NO_SUCH_PAGE = 8, /* the engine has no page of this number */
-    KAZOVUNI_ABSENT = 9,       /* a byte of the range is absent */
+    KAZOVUNI_ABSENT = 9,       /* a byte of the range, or the page, is absent; or the range ends above 2^64 */
     KAZOVUNI_OTHER_OPERATION = 10, /* the descriptor's operation is another one than the call's */
-    KAZOVUNI_OTHER_LENGTH = 11     /* a buffer has another length than the job's range */
+    KAZOVUNI_OTHER_LENGTH = 11,    /* a buffer has another length than the job's range */
+    KAZOVUNI_NO_REGIONS = 12,      /* the table of regions is empty */
+    KAZOVUNI_TOO_MANY_REGIONS = 13, /* it has more than 64 */
+    KAZOVUNI_BAD_LENGTH = 14,      /* a region has no byte, or no whole pages */
+    KAZOVUNI_BAD_ADDRESS = 15,     /* a region's address is no multiple of 4,096 */
+    KAZOVUNI_REGION_PAST = 16,     /* a region ends above 2^44 - 4,096 */
+    KAZOVUNI_NOT_RISING = 17,      /* a region begins before the one in front of it ends */
+    KAZOVUNI_TOO_MANY_JOBS = 18    /* a batch has 2^32 jobs or more */
 };
 
-/* The statuses of a completion record that are this library's own; the others are those of linux/idxd.h. */
+/* Opcodes: those of the operations that there are, and a batch's, which no single descriptor may have. */
 enum {
-    KAZOVUNI_STATUS_RANGE_PAST = 0x7d,     /* a range ends above 2^64 */
-    KAZOVUNI_STATUS_STAGING_REFUSED = 0x7e /* the job needs more staging than there is */
+    KAZOVUNI_OP_NO_OP = 0x00,
+    KAZOVUNI_OP_BATCH = 0x01,
+    KAZOVUNI_OP_MOVE = 0x03,
+    KAZOVUNI_OP_FILL = 0x04,
+    KAZOVUNI_OP_COMPARE = 0x05,
+    KAZOVUNI_OP_COMPARE_PATTERN = 0x06,
+    KAZOVUNI_OP_CREATE_DELTA = 0x07,
+    KAZOVUNI_OP_APPLY_DELTA = 0x08,
+    KAZOVUNI_OP_DUALCAST = 0x09
+};
+
+/* Flags of a descriptor; a job with another one is refused. */
+enum {
+    KAZOVUNI_FLAG_FENCE = 0x01,          /* in a batch alone: abandoned unless all jobs before it succeeded */
+    KAZOVUNI_FLAG_BLOCK_ON_FAULT = 0x02, /* accepted, and without effect */
+    KAZOVUNI_FLAG_ADDRESS_VALID = 0x04,  /* the completion address is one */
+    KAZOVUNI_FLAG_REQUEST_RECORD = 0x08, /* a record is written there for a success too */
+    KAZOVUNI_FLAG_CHECK_RESULT = 0x80,   /* a result that is not the expected one is 0x02 */
+    KAZOVUNI_FLAG_CACHE_CONTROL = 0x100  /* accepted, and without effect */
+};
+
+/* The statuses of a completion record. The codes are those of linux/idxd.h, but for the library's own two. */
+enum {
+    KAZOVUNI_STATUS_ABANDONED = 0x00,       /* the job of a batch was abandoned at a fence */
+    KAZOVUNI_STATUS_SUCCESS = 0x01,
+    KAZOVUNI_STATUS_FALSE_PREDICATE = 0x02, /* done, and the result is not the expected one */
+    KAZOVUNI_STATUS_READ_FAULT = 0x03,      /* a byte to be read is absent */
+    KAZOVUNI_STATUS_BATCH_FAILED = 0x05,    /* some job of the batch has another status than 0x01 */
+    KAZOVUNI_STATUS_NOT_RISING = 0x07,      /* the offsets of a delta record do not rise */
+    KAZOVUNI_STATUS_OFFSET_RANGE = 0x08,    /* an offset of a delta record is out of range */
+    KAZOVUNI_STATUS_BAD_OPCODE = 0x10,
+    KAZOVUNI_STATUS_BAD_FLAGS = 0x11,
+    KAZOVUNI_STATUS_BAD_SIZE = 0x13,
+    KAZOVUNI_STATUS_BAD_DELTA_SIZE = 0x15,
+    KAZOVUNI_STATUS_OVERLAP = 0x16,
+    KAZOVUNI_STATUS_DUALCAST_BITS = 0x17,   /* a dualcast's targets differ in address bits 11:0 */
+    KAZOVUNI_STATUS_MISALIGNED = 0x1c,
+    KAZOVUNI_STATUS_RANGE_PAST = 0x7d,      /* own: a range ends above 2^64 */
+    KAZOVUNI_STATUS_STAGING_REFUSED = 0x7e, /* own: the job needs more staging than there is */
+    KAZOVUNI_STATUS_WRITE_FAULT = 0x83      /* a byte to be written is absent */
 };
 
 /*
@@ -108,6 +157,20 @@ typedef struct kazovuni_engine {
     bool is_open;
 } kazovuni_engine;
 
+/* A range of bytes that a job names. */
+typedef struct kazovuni_range {
+    uint64_t address;
+    uint32_t length;
+    bool is_written;
+} kazovuni_range;
+
+/* Whole pages of the caller's memory, and the address that jobs know their first byte by. */
+typedef struct kazovuni_region {
+    uint64_t address;
+    uint8_t *bytes;
+    size_t length;
+} kazovuni_region;
+
 /* The version of the library that is linked. */
 uint32_t kazovuni_version(void);
 
@@ -135,6 +198,15 @@ bool kazovuni_record_decode(const uint8_t record[32], kazovuni_record *fields);
  * address, are written as 0.
  */
 bool kazovuni_rest(const uint8_t descriptor[64], const uint8_t record[32], uint8_t left[64]);
+
+/*
+ * Writes the ranges that a job names, those that it reads and then those that it writes, zeros behind them, and answers
+ * how many there are. A refused job touches none of them, and a job may end before it comes to all of their bytes.
+ */
+uint32_t kazovuni_ranges(const void *descriptor, kazovuni_range ranges[3]);
+
+/* Writes a descriptor's completion address: false, and nothing is written, where its flags say that it has none. */
+bool kazovuni_completion(const void *descriptor, uint64_t *address);
 
 /*
  * Jobs straight over the caller's own buffers. Each call carries out the job of a descriptor over the buffers that are
@@ -234,10 +306,16 @@ uint8_t kazovuni_submit_list_whole(
     size_t answers);
 
 /*
- * Makes an engine with an image of so many pages, all absent, and takes its staging: KAZOVUNI_HAS_ENGINE,
- * KAZOVUNI_BAD_PAGES, KAZOVUNI_BAD_SETTINGS, tested in this order, or KAZOVUNI_NO_MEMORY.
+ * Makes an engine with an image of so many pages, all absent, and takes its staging and room for a table of regions:
+ * KAZOVUNI_HAS_ENGINE, KAZOVUNI_BAD_PAGES, KAZOVUNI_BAD_SETTINGS, tested in this order, or KAZOVUNI_NO_MEMORY.
  */
 uint8_t kazovuni_create(kazovuni_engine *engine, uint32_t pages, uint32_t staging);
+
+/*
+ * The same for its staging and that room alone, as the calls below take them: its image is one absent page.
+ * KAZOVUNI_HAS_ENGINE, KAZOVUNI_BAD_SETTINGS, tested in this order, or KAZOVUNI_NO_MEMORY.
+ */
+uint8_t kazovuni_create_staging(kazovuni_engine *engine, uint32_t staging);
 
 /* Frees the engine, if there is one, and zeroes the handle's fields. */
 void kazovuni_free(kazovuni_engine *engine);
@@ -254,6 +332,18 @@ uint8_t kazovuni_write(kazovuni_engine *engine, uint64_t address, const uint8_t 
 /* Reads bytes of the image from an address on: KAZOVUNI_NO_ENGINE, or KAZOVUNI_ABSENT. */
 uint8_t kazovuni_read(kazovuni_engine *engine, uint64_t address, uint8_t *bytes, size_t length);
 
+/*
+ * Gives a page of the image up, with its memory; it is absent from then on, and may be brought again:
+ * KAZOVUNI_NO_ENGINE, KAZOVUNI_NO_SUCH_PAGE, or KAZOVUNI_ABSENT, where it was absent.
+ */
+uint8_t kazovuni_evict(kazovuni_engine *engine, uint32_t page);
+
+/*
+ * Writes how many bytes of a range of the image come before the first absent one: KAZOVUNI_NO_ENGINE, or
+ * KAZOVUNI_ABSENT, where the range ends above 2^64.
+ */
+uint8_t kazovuni_present(kazovuni_engine *engine, uint64_t address, uint32_t length, uint32_t *present);
+
 /* Carries out a job on the image and writes its completion record: KAZOVUNI_NO_ENGINE. */
 uint8_t kazovuni_submit(kazovuni_engine *engine, const uint8_t descriptor[64], uint8_t record[32]);
 
@@ -263,6 +353,56 @@ uint8_t kazovuni_submit(kazovuni_engine *engine, const uint8_t descriptor[64], u
  */
 uint8_t kazovuni_submit_list(
     kazovuni_engine *engine, const uint8_t *descriptors, size_t jobs, uint8_t *records, size_t answers);
+
+/*
+ * The calls from here on take descriptors and records as void: 64 and 32 bytes each, one behind the other, of any type.
+ *
+ * Carries out a batch on the image: its jobs one after another, those with the fence too. One that has it is
+ * abandoned, and so are all behind it, unless every job before it has status 0x01; an abandoned job changes nothing,
+ * and its record is all zeros. Writes the record of each job, and the batch's own: 0x01 where all jobs that were
+ * carried out have it, else 0x05, and how many these are. KAZOVUNI_NO_ENGINE, KAZOVUNI_NOT_AS_MANY, or
+ * KAZOVUNI_TOO_MANY_JOBS.
+ */
+uint8_t kazovuni_submit_batch(
+    kazovuni_engine *engine, const void *descriptors, size_t jobs, void *records, size_t answers, void *batch_record);
+
+/*
+ * As kazovuni_submit_whole, kazovuni_submit_list_whole and kazovuni_submit_batch, over memory of the caller's in one
+ * piece of any size, with the staging of an engine: no memory is asked for, and the engine's own image stays as it is.
+ * KAZOVUNI_NO_ENGINE, KAZOVUNI_NOT_PAGES, of the second and third KAZOVUNI_NOT_AS_MANY, of the third
+ * KAZOVUNI_TOO_MANY_JOBS, tested in this order.
+ */
+uint8_t kazovuni_submit_in(
+    kazovuni_engine *engine, uint8_t *bytes, size_t length, const void *descriptor, void *record);
+
+uint8_t kazovuni_submit_list_in(
+    kazovuni_engine *engine, uint8_t *bytes, size_t length, const void *descriptors, size_t jobs, void *records,
+    size_t answers);
+
+uint8_t kazovuni_submit_batch_in(
+    kazovuni_engine *engine, uint8_t *bytes, size_t length, const void *descriptors, size_t jobs, void *records,
+    size_t answers, void *batch_record);
+
+/*
+ * The same over regions of the caller's memory: the table says which address the first byte of each has. Regions may
+ * touch, and a job may go over from one to the next; a page in none of them is absent. They may lie anywhere in the
+ * process, in any order, but share no byte with each other, which no test sees, nor with the table, descriptors or
+ * records. Each pointer is valid for its length. The table is as it was once the call returns. KAZOVUNI_NO_ENGINE;
+ * KAZOVUNI_NO_REGIONS, KAZOVUNI_TOO_MANY_REGIONS, and region by region KAZOVUNI_BAD_LENGTH, KAZOVUNI_BAD_ADDRESS,
+ * KAZOVUNI_REGION_PAST, KAZOVUNI_NOT_RISING; of the second and third KAZOVUNI_NOT_AS_MANY, of the third
+ * KAZOVUNI_TOO_MANY_JOBS; tested in this order, before anything is done. The room for the table is the engine's own, so
+ * no memory is asked for; KAZOVUNI_NO_MEMORY would answer that it is gone.
+ */
+uint8_t kazovuni_submit_at(
+    kazovuni_engine *engine, kazovuni_region *regions, size_t count, const void *descriptor, void *record);
+
+uint8_t kazovuni_submit_list_at(
+    kazovuni_engine *engine, kazovuni_region *regions, size_t count, const void *descriptors, size_t jobs,
+    void *records, size_t answers);
+
+uint8_t kazovuni_submit_batch_at(
+    kazovuni_engine *engine, kazovuni_region *regions, size_t count, const void *descriptors, size_t jobs,
+    void *records, size_t answers, void *batch_record);
 
 /* What stands in a descriptor at a place: a number, an address, and the pointer that it is. x86-64 has them so too. */
 KAZOVUNI_INLINE uint32_t kazovuni_number_at(const uint8_t *place)
@@ -287,6 +427,30 @@ KAZOVUNI_INLINE uint8_t *kazovuni_pointer_at(const uint8_t *place)
 #else
     return (uint8_t *)address;
 #endif
+}
+
+/*
+ * Writes a job's completion record at a place, as a device does: where the flags of its descriptor say that there is a
+ * completion address, and either ask for a record or the status is not 0x01; that of an abandoned job, all zeros, is
+ * written too. The status byte is written last, with gcc and clang behind all others also for other threads: who reads
+ * it by an acquiring load, and sees that it is no more what it was, may read the rest. The place is what
+ * kazovuni_completion tells, as a pointer; it is no part of any running call. Answers whether it is written.
+ */
+KAZOVUNI_INLINE bool kazovuni_put_record(const void *descriptor, const void *record, void *place)
+{
+    const uint8_t *from = KAZOVUNI_CAST(const uint8_t *, record);
+    uint8_t *to = KAZOVUNI_CAST(uint8_t *, place);
+    uint32_t flags = kazovuni_number_at(KAZOVUNI_CAST(const uint8_t *, descriptor) + 4);
+    bool is_asked_for = (flags & KAZOVUNI_FLAG_REQUEST_RECORD) != 0 || from[0] != KAZOVUNI_STATUS_SUCCESS;
+    if ((flags & KAZOVUNI_FLAG_ADDRESS_VALID) == 0 || !is_asked_for)
+        return false;
+    memcpy(to + 1, from + 1, KAZOVUNI_RECORD_BYTES - 1);
+#if defined(__GNUC__)
+    __atomic_store_n(to, from[0], __ATOMIC_RELEASE);
+#else
+    *KAZOVUNI_CAST(volatile uint8_t *, to) = from[0];
+#endif
+    return true;
 }
 
 /* A move by the descriptor's own addresses: where the ranges overlap, inside the buffer that both of them make up. */

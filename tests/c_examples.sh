@@ -88,6 +88,11 @@ try_examples() {
         compiled "$example" "$@" "examples/c/$example.$suffix" &&
             prints "$example.$suffix by $1 on the library of $kit" "examples/c/$example.answer" "$work/$example"
     done
+    for example in storage monitor; do
+        [ "$suffix" = c ] || continue # these are in C alone
+        compiled "$example" "$@" "examples/c/$example.c" &&
+            prints "$example.c by $1 on the library of $kit" "examples/c/$example.answer" "$work/$example"
+    done
     [ "$suffix" = c ] || set -- "$@" -x c++
     compiled device "$@" examples/c/device.c -x none && try_device "the device by $1 on the library of $kit"
 }

@@ -107,7 +107,7 @@ try() {
         [ "$status" = 0 ] || complain "$1: growth $number refused: $status"
         number=$((number + 1))
     done
-    [ "$number" = 10 ] || complain "$1: $((number - 1)) growths were met, and 9 are wanted"
+    [ "$number" = 12 ] || complain "$1: $((number - 1)) growths were met, and 11 are wanted"
 }
 
 # stricter COMPILER: the warning of casts to a value's own type, where a C++ compiler has it

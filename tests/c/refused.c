@@ -56,6 +56,20 @@ static uint8_t again(void)
     return kazovuni_submit_list(&engine, descriptor[0], 1, record[0], 1);
 }
 
+/* What needs no memory either: jobs over other memory with the staging of the engine. */
+static uint8_t with_its_staging(void)
+{
+    kazovuni_region table[1] = {{0, bytes, sizeof bytes}};
+    uint8_t batch[32];
+    if (kazovuni_submit_in(&engine, bytes, sizeof bytes, descriptor, record) != KAZOVUNI_OK ||
+        kazovuni_submit_list_in(&engine, bytes, sizeof bytes, descriptor, 1, record, 1) != KAZOVUNI_OK ||
+        kazovuni_submit_batch_in(&engine, bytes, sizeof bytes, descriptor, 1, record, 1, batch) != KAZOVUNI_OK ||
+        kazovuni_submit_at(&engine, table, 1, descriptor, record) != KAZOVUNI_OK ||
+        kazovuni_submit_list_at(&engine, table, 1, descriptor, 1, record, 1) != KAZOVUNI_OK)
+        return KAZOVUNI_NO_MEMORY;
+    return kazovuni_submit_batch_at(&engine, table, 1, descriptor, 1, record, 1, batch);
+}
+
 /*
  * Jobs that stage nothing, and the statuses of their records: a fill; creates and applies that are refused, by each of
  * their rules; and those that have nothing to stage.
@@ -107,7 +121,7 @@ int main(int count, char **words)
 {
     static uint8_t (*const calls[])(void) = {
         over_pages, as_a_list, by_pointers, in_one_piece, as_a_list_in_one_piece, create, bring, again,
-        without_staging};
+        with_its_staging, without_staging};
     int wanted = count > 1 ? atoi(words[1]) : 0, refused = 0;
     descriptor[0][7] = 0x07;
     descriptor[0][24] = 8;

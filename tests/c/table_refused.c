@@ -1,7 +1,8 @@
 /*
  * Each growth of memory that the library asks for, refused in turn: the call that asked answers want of memory and
  * leaves everything as it was, so that the same call does its work right after; no other call answers it, and at the
- * end every block is given back. Jobs over an engine's own pages, and those over buffers, ask for nothing.
+ * end every block is given back. And all growths above a budget. Jobs on an engine's own pages, those over other memory
+ * with its staging, and those over buffers, ask for nothing.
  *
  * Linked with -Wl,--wrap=malloc,--wrap=realloc,--wrap=free, so that the library's own calls come here first.
  */
@@ -17,6 +18,7 @@ enum { PAGE = KAZOVUNI_PAGE_BYTES, NEED = 40, LIMIT = 1 << 20 };
 /* ---- the heap */
 
 static size_t growths, refused; /* so many were asked for; the number of the one that is refused */
+static size_t budget = SIZE_MAX; /* above so many, every one is refused */
 static long blocks;             /* that are held */
 static bool is_met;             /* the last call met the refusal */
 static size_t largest;          /* of the blocks that were asked for */
@@ -30,7 +32,7 @@ void __wrap_free(void *block);
 
 static bool refuses(void)
 {
-    bool is_refused = ++growths == refused;
+    bool is_refused = ++growths == refused || growths > budget;
     is_met |= is_refused;
     return is_refused;
 }
@@ -59,7 +61,7 @@ void __wrap_free(void *block)
 /* ---- the calls */
 
 /* Those that ask for memory, and at how many of their growths each answered want of it. */
-enum call { CREATE, BRING, OVER, LIST_OVER, POINTERS, WHOLE, LIST_WHOLE, CALLS };
+enum call { CREATE, STAGING, BRING, OVER, LIST_OVER, POINTERS, WHOLE, LIST_WHOLE, CALLS };
 static size_t met[CALLS];
 
 static void expect(const char *what, bool holds)
@@ -94,7 +96,8 @@ static const uint8_t delta[20] = {1, 0, 1, 2, 3, 4, 5, 6, 7, 8, 3, 0, 0x11, 0x12
 static void walk_engine(const uint8_t page[PAGE])
 {
     kazovuni_engine engine = {0};
-    uint8_t bytes[PAGE], records[1][32];
+    uint8_t bytes[PAGE], records[1][32], batch[32];
+    uint32_t present = 0;
     while (!is_done(CREATE, kazovuni_create(&engine, 2, NEED)))
         expect("the handle of no engine", engine.engine == NULL && !engine.is_open && blocks == 0);
     while (!is_done(BRING, kazovuni_bring(&engine, 0, page)))
@@ -112,8 +115,94 @@ static void walk_engine(const uint8_t page[PAGE])
     expect("the bytes before the delta record", memcmp(bytes, page, 128) == 0);
     expect("the delta record", memcmp(bytes + 128, delta, 20) == 0);
     expect("the bytes behind it", memcmp(bytes + 148, page + 148, PAGE - 148) == 0);
+    expect_done("submit_batch", kazovuni_submit_batch(&engine, create, 1, records, 1, batch));
+    expect_done("present", kazovuni_present(&engine, 0, 2 * PAGE, &present));
+    expect("how many bytes are present", present == 2 * PAGE);
+    long held = blocks;
+    expect_done("evict", kazovuni_evict(&engine, 1));
+    expect("the memory of a page that is given up", blocks == held - 1);
     kazovuni_free(&engine);
     expect("free", blocks == 0 && !is_met);
+}
+
+/* The ways of a job with the staging of an engine, and of many jobs. */
+enum { IN, LIST_IN, BATCH_IN, AT, LIST_AT, BATCH_AT, STAGED_FORMS };
+
+static uint8_t submit_staged(int form, kazovuni_engine *engine, uint8_t bytes[PAGE], uint8_t records[1][32])
+{
+    kazovuni_region table[1] = {{0, bytes, PAGE}};
+    uint8_t batch[32];
+    switch (form) {
+    case IN:
+        return kazovuni_submit_in(engine, bytes, PAGE, create, records);
+    case LIST_IN:
+        return kazovuni_submit_list_in(engine, bytes, PAGE, create, 1, records, 1);
+    case BATCH_IN:
+        return kazovuni_submit_batch_in(engine, bytes, PAGE, create, 1, records, 1, batch);
+    case AT:
+        return kazovuni_submit_at(engine, table, 1, create, records);
+    case LIST_AT:
+        return kazovuni_submit_list_at(engine, table, 1, create, 1, records, 1);
+    default:
+        return kazovuni_submit_batch_at(engine, table, 1, create, 1, records, 1, batch);
+    }
+}
+
+/* An engine for its staging alone; the calls that have it ask for nothing, over the longest table neither. */
+static void walk_staged(const uint8_t page[PAGE])
+{
+    static uint8_t bytes[PAGE], pages[KAZOVUNI_MOST_REGIONS][PAGE];
+    static const uint8_t fill[64] = {[7] = 0x04, [16] = 7, [34] = 4}; /* of 64 pages */
+    kazovuni_region table[KAZOVUNI_MOST_REGIONS];
+    kazovuni_engine engine = {0};
+    uint8_t records[1][32];
+    while (!is_done(STAGING, kazovuni_create_staging(&engine, NEED)))
+        expect("the handle of no engine", engine.engine == NULL && !engine.is_open && blocks == 0);
+    size_t before = growths;
+    long held = blocks;
+    for (int form = 0; form < 2 * STAGED_FORMS; form++) {
+        memcpy(bytes, page, PAGE);
+        memset(records, 0xcc, 32);
+        expect_done("a call with staging", submit_staged(form % STAGED_FORMS, &engine, bytes, records));
+        expect("the record with staging", memcmp(records[0], created, 32) == 0);
+        expect("the delta record with staging", memcmp(bytes + 128, delta, 20) == 0);
+    }
+    for (int i = 0; i < KAZOVUNI_MOST_REGIONS; i++)
+        table[i] = (kazovuni_region){(uint64_t)i * PAGE, pages[i], PAGE};
+    for (int round = 0; round < 2; round++) {
+        expect_done("the longest table",
+                    kazovuni_submit_at(&engine, table, KAZOVUNI_MOST_REGIONS, fill, records[0]));
+        expect("its record", records[0][0] == 0x01);
+    }
+    expect("a call with staging asks for memory", growths == before && blocks == held);
+    kazovuni_free(&engine);
+    expect("free", blocks == 0 && !is_met);
+}
+
+/* With less than an engine takes, none is made; with just that, its calls do their work, which is no growth more. */
+static void walk_budget(const uint8_t page[PAGE])
+{
+    static uint8_t bytes[PAGE];
+    kazovuni_engine engine = {0};
+    uint8_t records[1][32];
+    for (budget = 0;; budget++) {
+        growths = refused = 0;
+        uint8_t answer = kazovuni_create_staging(&engine, NEED);
+        if (answer == KAZOVUNI_OK)
+            break;
+        expect("the answer above a budget", answer == KAZOVUNI_NO_MEMORY && budget < 100);
+        expect("the handle above a budget", engine.engine == NULL && !engine.is_open && blocks == 0);
+    }
+    is_met = false;
+    for (int form = 0; form < STAGED_FORMS; form++) {
+        memcpy(bytes, page, PAGE);
+        expect_done("a call within the budget", submit_staged(form, &engine, bytes, records));
+        expect("the record within the budget", memcmp(records[0], created, 32) == 0);
+    }
+    expect("the growths of an engine for its staging", growths == budget);
+    kazovuni_free(&engine);
+    expect("free", blocks == 0);
+    budget = SIZE_MAX;
 }
 
 static uint8_t submit(enum call call, uint8_t bytes[PAGE], uint8_t records[1][32])
@@ -254,20 +343,22 @@ static void walk_list(enum call call)
 int main(void)
 {
     static uint8_t page[PAGE];
-    static const char *const names[CALLS] = {"create", "bring", "submit_over", "submit_list_over", "submit_pointers",
-                                             "submit_whole", "submit_list_whole"};
+    static const char *const names[CALLS] = {"create", "create_staging", "bring", "submit_over", "submit_list_over",
+                                             "submit_pointers", "submit_whole", "submit_list_whole"};
     memcpy(page + 72, at_72, 8);
     memcpy(page + 88, at_88, 8);
     do {
         refused++;
         growths = 0;
         walk_engine(page);
+        walk_staged(page);
         for (enum call call = OVER; call < CALLS; call++)
             walk_lent(call, page);
         walk_list(LIST_OVER);
         walk_list(LIST_WHOLE);
         walk_buffers(page);
     } while (growths >= refused);
+    walk_budget(page);
     printf("table_refused:");
     for (enum call call = CREATE; call < CALLS; call++) {
         printf(" %s %zu", names[call], met[call]);

@@ -1,8 +1,10 @@
 pub mod AsBox
 pub mod BaseLemmas
 pub mod DirectLemmas
+pub mod EmptyList
 pub mod MoveLemmas
 pub mod PageLemmas
+pub mod RegionLemmas
 pub mod StagingLemmas
 pub mod Steps
 pub mod Walks

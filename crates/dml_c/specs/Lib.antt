@@ -1,6 +1,9 @@
 pub mod Bases
+pub mod Completions
 pub mod Direct
 pub mod Held
 pub mod Needs
+pub mod Ranges
+pub mod Regions
 pub mod State
 pub mod Values

@@ -2,8 +2,8 @@
 use Rattle.std.specs.Prelude.{ℕ, List, Option, None, Some, map}
 use Rattle.dml_types.specs.declared.jobs.Job.{Job}
 use Rattle.dml_types.specs.Memory.{Memory}
-use Rattle.dml_types.specs.Step.{memory_after, records_of, step}
-use Rattle.dml_desc.specs.Descriptor.{bytes_of_record}
+use Rattle.dml_types.specs.Step.{batch, memory_after, records_of, step}
+use Rattle.dml_desc.specs.Descriptor.{bytes_of_batch, bytes_of_record}
 use Rattle.dml_image.specs.Brought.{all_absent}
 
 pub record State : Type 0 where
@@ -34,3 +34,16 @@ answered (Some state) job old = bytes_of_record (step state.image job state.stag
 abbrev pub answered_all : Option State → List Job → List (List ℕ) → List (List ℕ)
 answered_all None jobs old = old
 answered_all (Some state) jobs old = map bytes_of_record (records_of state.image jobs state.staging)
+
+-- an engine after a batch, and what the batch and its jobs are answered
+abbrev pub batched : Option State → List Job → Option State
+batched None jobs = None
+batched (Some state) jobs = Some (with_image state (batch state.image jobs state.staging).0)
+
+abbrev pub batch_answered : Option State → List Job → List ℕ → List ℕ
+batch_answered None jobs old = old
+batch_answered (Some state) jobs old = bytes_of_batch (batch state.image jobs state.staging).1
+
+abbrev pub batch_records : Option State → List Job → List (List ℕ) → List (List ℕ)
+batch_records None jobs old = old
+batch_records (Some state) jobs old = map bytes_of_record (batch state.image jobs state.staging).2

@@ -27,7 +27,7 @@ pub const BAD_SETTINGS: u8 = 7;
 /// The engine has no page of this number.
 pub const NO_SUCH_PAGE: u8 = 8;
 
-/// A byte of the range is absent.
+/// A byte of the range, or the page, is absent; or the range ends above 2^64.
 pub const ABSENT: u8 = 9;
 
 /// The descriptor's operation is another one than the call's.
@@ -35,3 +35,24 @@ pub const OTHER_OPERATION: u8 = 10;
 
 /// A buffer has another length than the job's range.
 pub const OTHER_LENGTH: u8 = 11;
+
+/// A table has no region.
+pub const NO_REGIONS: u8 = 12;
+
+/// A table has more than 64 regions.
+pub const TOO_MANY_REGIONS: u8 = 13;
+
+/// A region has no byte, or no whole pages.
+pub const BAD_LENGTH: u8 = 14;
+
+/// A region's address is no multiple of 4,096.
+pub const BAD_ADDRESS: u8 = 15;
+
+/// A region ends above 2^44 - 4,096.
+pub const REGION_PAST: u8 = 16;
+
+/// A region begins before the one in front of it in the table ends.
+pub const NOT_RISING: u8 = 17;
+
+/// A batch has fewer than 2^32 jobs.
+pub const TOO_MANY_JOBS: u8 = 18;

@@ -1,14 +1,15 @@
 //! Jobs over an image of the library's own, behind a handle.
-ghost use Rattle.std.specs.Prelude.{◌≡◌, ◌≢◌, ◌↔◌, ◌+◌, ◌<◌, ◌≤◌, ◌⊎◌, None, Some, IfSome, IsSome, IsTrue, false};
+ghost use Rattle.std.specs.Prelude.{◌≡◌, ◌≢◌, ◌↔◌, ◌^◌, ◌+◌, ◌<◌, ◌≤◌, ◌⊎◌, None, Some, IfSome, IsSome, IsTrue, false};
 ghost use Rattle.std.specs.Prelude.{length, map, option_map};
 ghost use Rattle.dml_types.specs.Memory.{bytes_at, has_all, put};
 ghost use Rattle.dml_desc.specs.Descriptor.{decoded};
 ghost use Rattle.dml_image.specs.Brought.{brought, has_page};
 ghost use Rattle.dml_c.specs.State.{answered, answered_all, opened, submitted, submitted_all, with_image};
+ghost use Rattle.dml_c.specs.State.{batch_answered, batch_records, batched};
 
 use crate::codes::{
     ABSENT, BAD_PAGES, BAD_SETTINGS, DONE, HAS_ENGINE, NO_ENGINE, NO_MEMORY, NO_SUCH_PAGE,
-    NOT_AS_MANY,
+    NOT_AS_MANY, TOO_MANY_JOBS,
 };
 use crate::engines::Engine;
 use crate::handles::CEngine;
@@ -192,6 +193,48 @@ pub extern "C" fn kazovuni_submit_list(
         return NO_ENGINE;
     };
     inner.submit_all(descriptors, answers);
+    engine.put(inner);
+    DONE
+}
+
+/// Carries out the jobs of some descriptors as a batch on the image, and writes the completion record of each and the
+/// batch's own.
+#[unsafe(no_mangle)]
+pub extern "C" fn kazovuni_submit_batch(
+    alloc: Global,
+    engine: &mut CEngine,
+    descriptors: &[[u8; 64]],
+    answers: &mut [[u8; 32]],
+    answer: &mut [u8; 32],
+) -> u8
+    ensures codes { (result ≡ 0) ⊎ (result ≡ 3) ⊎ (result ≡ 4) ⊎ (result ≡ 18) }
+    ensures no_engine { (result ≡ 4) ↔ (engine.old.handle.state ≡ None) }
+    ensures not_as_many { IsSome engine.old.handle.state
+        → ((result ≢ 3) ↔ (length answers.old ≡ length descriptors.now)) }
+    ensures too_many { result ≡ 18 → 2 ^ 32 ≤ length descriptors.now }
+    ensures few { result ≡ 0 → length descriptors.now < 2 ^ 32 }
+    ensures image { result ≡ 0 → engine.new.handle.state
+        ≡ batched engine.old.handle.state (map decoded descriptors.now) }
+    ensures records { result ≡ 0 → answers.new
+        ≡ batch_records engine.old.handle.state (map decoded descriptors.now) answers.old }
+    ensures answer { result ≡ 0 → answer.new
+        ≡ batch_answered engine.old.handle.state (map decoded descriptors.now) answer.old }
+    ensures unchanged { result ≢ 0 → (engine.new.handle.state ≡ engine.old.handle.state)
+        × (answers.new ≡ answers.old) × (answer.new ≡ answer.old) }
+{
+    if !engine.is_open() {
+        return NO_ENGINE;
+    }
+    if descriptors.len() != answers.len() {
+        return NOT_AS_MANY;
+    }
+    if u32::try_from(descriptors.len()).is_err() {
+        return TOO_MANY_JOBS;
+    }
+    let Some(mut inner) = engine.take(alloc) else {
+        return NO_ENGINE;
+    };
+    *answer = dml_desc::batch_bytes(&inner.submit_batch(descriptors, answers));
     engine.put(inner);
     DONE
 }

@@ -259,7 +259,7 @@ fn job_arena(alloc: Global, job: &Job, staging: u32) -> Result<Option<Arena>, Ar
 
 /// Carries out a move, or answers its refusal.
 #[inline(always)]
-fn submit_move(bytes: &mut [u8], job: &Job, staging: u32) -> Record
+pub fn submit_move(bytes: &mut [u8], job: &Job, staging: u32) -> Record
     requires pages { IsWholePages bytes.old }
     requires operation { op_of job.now ≡ Some Move }
     ensures content { bytes.new ≡ (step (all_present bytes.old) job.now staging).0.bytes }

@@ -11,9 +11,9 @@ use dml_types::{Job, Op};
 /// The version of the header: the major number in the upper 16 bits, the minor one in the lower.
 #[unsafe(no_mangle)]
 pub extern "C" fn kazovuni_version() -> u32
-    ensures { result ≡ 65538 }
+    ensures { result ≡ 65539 }
 {
-    0x0001_0002
+    0x0001_0003
 }
 
 /// 0 where the job of a descriptor is accepted, else the code of the first rule that it breaks.
@@ -39,8 +39,8 @@ fn check_other(descriptor: &[u8; 64], staging: u32) -> u8
     code_of(&dml_desc::decode(descriptor), staging)
 }
 
-/// 0 where a job is accepted, else the code of the first rule that it breaks. Where its operation is known, the rules of
-/// the others are left out.
+/// 0 where a job is accepted, else the code of the first rule that it breaks. Where its operation is known, the rules
+/// of the others are left out.
 #[inline(always)]
 fn code_of(job: &Job, staging: u32) -> u8
     ensures { result ≡ code_or_zero (refusal job.now staging) }

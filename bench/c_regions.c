@@ -1,0 +1,127 @@
+/*
+ * The time of jobs with the staging of an engine, beside the same ones by kazovuni_submit_whole, which takes its own
+ * from malloc; of a job over eight regions beside the same one over a single region; and of a batch of moves of a page
+ * beside a list of them. Rows of a name, a number of bytes and the nanoseconds of one job, the median of rounds in
+ * which the two go by turns. bench/c_calls.sh builds and runs it.
+ */
+#include "kazovuni.h"
+#include "timing.h"
+
+enum { PAGE = KAZOVUNI_PAGE_BYTES, PAGES = 2048, SIZE = PAGES * PAGE, ROUNDS = 41, CALLS = 2000, MOVES = 1024 };
+
+static uint8_t *bytes;
+static uint8_t descriptor[64], record[32], descriptors[MOVES][64], records[MOVES][32], batch[32];
+static kazovuni_engine engine;
+static kazovuni_region one[1], eight[8];
+
+static uint8_t whole(void)
+{
+    return kazovuni_submit_whole(bytes, SIZE, descriptor, MEBIBYTE, record);
+}
+
+static uint8_t in(void)
+{
+    return kazovuni_submit_in(&engine, bytes, SIZE, descriptor, record);
+}
+
+static uint8_t at_one(void)
+{
+    return kazovuni_submit_at(&engine, one, 1, descriptor, record);
+}
+
+static uint8_t at_eight(void)
+{
+    return kazovuni_submit_at(&engine, eight, 8, descriptor, record);
+}
+
+static uint8_t list(void)
+{
+    return kazovuni_submit_list_in(&engine, bytes, SIZE, descriptors, MOVES, records, MOVES);
+}
+
+static uint8_t batch_in(void)
+{
+    return kazovuni_submit_batch_in(&engine, bytes, SIZE, descriptors, MOVES, records, MOVES, batch);
+}
+
+static void give_up(const char *what)
+{
+    fprintf(stderr, "c_regions: %s\n", what);
+    exit(2);
+}
+
+static double timed(uint8_t (*call)(void), int calls)
+{
+    uint8_t codes = 0;
+    double start = now();
+    for (int i = 0; i < calls; i++)
+        codes |= call();
+    double time = (now() - start) / calls;
+    if (codes != KAZOVUNI_OK || record[0] != KAZOVUNI_STATUS_SUCCESS)
+        give_up("a job does not do its work");
+    return time;
+}
+
+static int is_more(const void *a, const void *b)
+{
+    double x = *(const double *)a, y = *(const double *)b;
+    return (x > y) - (x < y);
+}
+
+/* Two ways of one job by turns, each a row. */
+static void print_rows(
+    const char *job, size_t size, const char *first, uint8_t (*one_way)(void), const char *second,
+    uint8_t (*other_way)(void), int calls, int jobs)
+{
+    static double times[2][ROUNDS];
+    for (int round = 0; round < ROUNDS; round++)
+        for (int way = 0; way < 2; way++)
+            times[(way + round) % 2][round] = timed((way + round) % 2 ? other_way : one_way, calls) / jobs;
+    for (int way = 0; way < 2; way++) {
+        qsort(times[way], ROUNDS, sizeof(double), is_more);
+        printf("%s_%s %zu %.2f\n", job, way ? second : first, size, times[way][ROUNDS / 2]);
+    }
+}
+
+static void describe(kazovuni_job job)
+{
+    if (!kazovuni_encode(&job, descriptor))
+        give_up("a descriptor");
+}
+
+int main(void)
+{
+    bytes = calloc(PAGES, PAGE);
+    if (!bytes || kazovuni_create_staging(&engine, MEBIBYTE) != KAZOVUNI_OK)
+        return 2;
+    one[0] = (kazovuni_region){0, bytes, SIZE};
+    for (size_t i = 0; i < 8; i++)
+        eight[i] = (kazovuni_region){i * (SIZE / 8), bytes + i * (SIZE / 8), SIZE / 8};
+
+    /* a create of a page in which 20 blocks differ, and an apply of its record, which leaves the page as it is */
+    for (size_t i = 0; i < 20; i++)
+        bytes[PAGE + i * 200] = 1;
+    describe((kazovuni_job){.opcode = KAZOVUNI_OP_CREATE_DELTA, .source = 0, .target = PAGE, .size = PAGE,
+                            .extra = 2 * PAGE, .delta_size = 5120});
+    print_rows("create", PAGE, "whole", whole, "in", in, CALLS, 1);
+    describe((kazovuni_job){.opcode = KAZOVUNI_OP_APPLY_DELTA, .source = 2 * PAGE, .target = PAGE, .size = PAGE,
+                            .delta_size = 200});
+    print_rows("apply", PAGE, "whole", whole, "in", in, CALLS, 1);
+
+    describe((kazovuni_job){.opcode = KAZOVUNI_OP_MOVE, .source = 64, .target = SIZE - PAGE, .size = 64});
+    print_rows("move", 64, "at_one", at_one, "at_eight", at_eight, CALLS, 1);
+    describe((kazovuni_job){.opcode = KAZOVUNI_OP_MOVE, .source = 0, .target = SIZE - PAGE, .size = PAGE});
+    print_rows("move", PAGE, "at_one", at_one, "at_eight", at_eight, CALLS, 1);
+
+    /* each page to the one beside it, as dml_bench moves them in its list_page_moves */
+    for (uint64_t i = 0; i < MOVES; i++) {
+        kazovuni_job move = {
+            .opcode = KAZOVUNI_OP_MOVE, .source = 2 * i * PAGE, .target = (2 * i + 1) * PAGE, .size = PAGE};
+        if (!kazovuni_encode(&move, descriptors[i]))
+            give_up("a descriptor");
+    }
+    print_rows("moves", PAGE, "list", list, "batch", batch_in, 4, MOVES);
+    kazovuni_free(&engine);
+    free(bytes);
+    return batch[0] == KAZOVUNI_STATUS_SUCCESS && records[MOVES - 1][0] == KAZOVUNI_STATUS_SUCCESS ? 0 : 2;
+}

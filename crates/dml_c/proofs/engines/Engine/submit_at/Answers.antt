@@ -1,0 +1,27 @@
+use Rattle.std.proofs.Common.{sym, ◌∙◌, ap}
+use Rattle.dml_types.specs.Memory.{Memory}
+use Rattle.dml_types.proofs.LoanLemmas.{loan_after_step}
+use Rattle.dml_c.proofs.RegionLemmas.{no_first_fault, still_as_many, still_placed, still_segments}
+use Rattle.dml_c.proofs.engines.Engine.submit_at.Goals as goal
+
+-- the memory is lent as it was
+pub settle-requires-clause-segments : goal.settle-requires-clause-segments
+settle-requires-clause-segments c =
+    still_segments c.args.regions.now c.submit_to.new.image
+    (ap (λ (m : Memory). m.loan) c.submit_to.ensures.image
+    ∙ (loan_after_step c.in-Some.image c.decode-job.result c.self.inside.staging ∙ ap (λ (m : Memory). m.loan) c.in-Some.ensures.image))
+
+pub settle-requires-clause-as_many : goal.settle-requires-clause-as_many
+settle-requires-clause-as_many c =
+    still_as_many c.args.regions.now c.submit_to.new.image
+    (ap (λ (m : Memory). m.loan) c.submit_to.ensures.image
+    ∙ (loan_after_step c.in-Some.image c.decode-job.result c.self.inside.staging ∙ ap (λ (m : Memory). m.loan) c.in-Some.ensures.image))
+    ∙ sym c.in-Some.ensures.as_many
+
+pub returns-clause-addresses : goal.returns-clause-addresses
+returns-clause-addresses c =
+    c.settle.ensures.addresses
+    ∙ still_placed c.args.regions.now c.submit_to.new.image
+    (ap (λ (m : Memory). m.loan) c.submit_to.ensures.image
+    ∙ (loan_after_step c.in-Some.image c.decode-job.result c.self.inside.staging ∙ ap (λ (m : Memory). m.loan) c.in-Some.ensures.image))
+    (no_first_fault c.args.regions.now c.requires)

@@ -1,24 +1,26 @@
 -- What a move and a dualcast do to the image, by the bytes that were done.
 use Rattle.std.proofs.Common.{◌≡◌, ℕ, ◌+◌, ◌-◌, ◌<◌, ◌≤◌, ◌^◌, true, not, List, [], length, Some, refl, sym, ◌∙◌, ap, ap₂, arith, ⊎_elim, inl, inr}
 use Rattle.dml_types.specs.declared.findings.Found.{Found}
+use Rattle.dml_types.specs.declared.findings.Found.TheVariants.{All}
 use Rattle.dml_types.specs.declared.jobs.Job.{Job}
 use Rattle.dml_types.specs.declared.records.Record.{Record}
 use Rattle.dml_types.specs.declared.operations.Direction.{Direction}
 use Rattle.dml_types.specs.declared.operations.Direction.TheVariants.{Forward, Backward}
 use Rattle.dml_types.specs.declared.operations.Op.TheVariants.{Move, Dualcast}
 use Rattle.dml_types.specs.Job.{op_of, span}
-use Rattle.dml_types.specs.Memory.{Memory, IsWhole, has_all, bytes_at, worked_offset, put}
+use Rattle.dml_types.specs.Memory.{Memory, IsWhole, has_all, bytes_at, present_toward, worked_offset, put}
 use Rattle.dml_types.specs.Bytewise.{operation_direction, result_of, lowest_done, length_of, moved, dualcast, passes}
 use Rattle.dml_types.specs.Chunk.{scan_found}
 use Rattle.dml_types.proofs.FirstLemmas.{first_le}
-use Rattle.dml_types.proofs.MemoryLemmas.{bytes_at_none, put_nil, length_bytes_at, has_all_within, read_beside}
+use Rattle.dml_types.proofs.MemoryLemmas.{bytes_at_none, put_nil, has_all_at, length_bytes_at, has_all_within, read_beside}
 use Rattle.dml_desc.proofs.CheckedLemmas.{checked_step_is}
 use Rattle.dml_desc.specs.Checked.{checked_step, IsChecked, DualcastLimits, PairLimits}
 use Rattle.dml_desc.proofs.CheckedLemmas.{apart_ends, limits_of}
 use Rattle.dml_effect.specs.Joined.{copied_record}
 use Rattle.dml_effect.proofs.WholeLemmas.{move_source, move_target, dualcast_source, dualcast_target, dualcast_second, copied_count, whole_move, whole_dualcast, answer_of_move, answer_of_dualcast}
 use Rattle.dml_scan.specs.Found.{done_count}
-use Rattle.dml_scan.proofs.ReachLemmas.{done_found}
+use Rattle.dml_image.proofs.RunLemmas.{present_toward_is}
+use Rattle.dml_scan.proofs.ReachLemmas.{done_found, found_all, move_done as scanned}
 
 put_none : (memory : Memory) (address : ℕ) (bytes : List ℕ) → bytes ≡ [] → put memory address bytes ≡ memory
 put_none memory address bytes none = ap (put memory address) none ∙ put_nil memory address
@@ -142,6 +144,38 @@ module _ (memory : Memory) (job given : Job) (direction : Direction) (found : Fo
         below : (d : Direction) → first ≡ lowest_done d given.size answer.completed → first < given.size
         below Forward at = omega (arith, straight_within)
         below Backward at = omega (arith, straight_within)
+
+-- a move of which all is present is done whole
+all_toward : (direction : Direction) (memory : Memory) (address n : ℕ) → has_all memory address n ≡ true → n ≡ present_toward direction memory address n
+all_toward Forward memory address n all =
+    present_toward_is Forward memory address n n (omega arith) (λ i low. has_all_at memory address n i all low) (λ low. absurd (omega arith))
+all_toward Backward memory address n all =
+    present_toward_is Backward memory address n n (omega arith) (λ i low. has_all_at memory address n (n - 1 - i) all (omega arith)) (λ low. absurd (omega arith))
+
+all_found : (memory : Memory) (job : Job) (n : ℕ) → has_all memory job.source n ≡ true → has_all memory job.target n ≡ true → All ≡ scan_found Move memory job 0 n
+all_found memory job n at_source at_target =
+    let way = operation_direction Move job in
+    let from : present_toward way memory (job.source + 0) (n - 0) ≡ n = ap₂ (present_toward way memory) (omega arith) (omega arith) ∙ sym (all_toward way memory job.source n at_source) in
+    let to : present_toward way memory (job.target + 0) (n - 0) ≡ n = ap₂ (present_toward way memory) (omega arith) (omega arith) ∙ sym (all_toward way memory job.target n at_target) in
+    found_all Move memory job 0 n (scanned memory job 0 n ∙ omega (arith, from, to))
+
+module _ (memory : Memory) (job given : Job) (direction : Direction) (answer : Record) (same : given ≡ job) (checked : IsChecked job) (operation : op_of job ≡ Some Move) (way : direction ≡ operation_direction Move job) (at_source : has_all memory given.source given.size ≡ true) (at_target : has_all memory given.target given.size ≡ true) (told : answer ≡ copied_record given.size (result_of direction) All) where
+  found_whole : All ≡ scan_found Move memory job 0 given.size
+  found_whole =
+      all_found memory job given.size (ap (λ (j : Job). has_all memory j.source given.size) (sym same) ∙ at_source) (ap (λ (j : Job). has_all memory j.target given.size) (sym same) ∙ at_target)
+
+  pub whole_answer : answer ≡ (checked_step memory job).1
+  whole_answer = straight_answer memory job given direction All answer same checked operation way found_whole told
+
+  pub whole_image : put memory given.target (bytes_at memory given.source given.size) ≡ (checked_step memory job).0
+  whole_image =
+      let size : answer.completed ≡ given.size = ap (λ (r : Record). r.completed) told in
+      let moved = straight_image memory job given direction All answer same checked operation way found_whole told 0 (lowest direction answer.completed size) in
+      ap₂ (put memory) (omega arith) (ap₂ (bytes_at memory) (omega arith) (sym size)) ∙ moved
+    where
+      lowest : (d : Direction) (done : ℕ) → done ≡ given.size → 0 ≡ lowest_done d given.size done
+      lowest Forward done is = refl
+      lowest Backward done is = omega (arith, is)
 
 -- and a dualcast
 module _ (memory : Memory) (job given : Job) (found : Found) (answer : Record) (same : given ≡ job) (checked : IsChecked job) (operation : op_of job ≡ Some Dualcast) (is : found ≡ scan_found Dualcast memory job 0 given.size) (told : answer ≡ copied_record given.size 0 found) where

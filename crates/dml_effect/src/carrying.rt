@@ -69,8 +69,8 @@ pub fn submit_straight_to(image: &mut Image, job: &Job, staging: u32) -> Record
     }
 }
 
-/// Whether a job that is carried out as one chunk takes staging: it is a create or an apply that is not refused, and has
-/// bytes to stage. Any other job goes straight within the image, or is refused.
+/// Whether a job that is carried out as one chunk takes staging: it is a create or an apply that is not refused, and
+/// has bytes to stage. Any other job goes straight within the image, or is refused.
 #[inline(always)]
 pub fn takes_staging(job: &Job, staging: u32) -> bool
     ensures { IsTrue result ↔ TakesStaging job.now staging }
@@ -124,8 +124,8 @@ fn carry_out_other(image: &mut Image, arena: &mut Arena, job: &Checked) -> Recor
     }
 }
 
-/// Carries out a create or an apply as one chunk, staged in the arena. It stands apart, so that a job that goes straight
-/// has none of its frame.
+/// Carries out a create or an apply as one chunk, staged in the arena. It stands apart, so that a job that goes
+/// straight has none of its frame.
 #[inline(never)]
 fn carry_out_staged(image: &mut Image, arena: &mut Arena, job: &Checked) -> Record
     requires operation { IsDelta job.now }
@@ -190,8 +190,28 @@ fn carry_out_effect(image: &mut Image, job: &Checked) -> Record
 
 /// Carries out a move within the image, with no stage.
 #[inline(always)]
-#[tactic(auto, using(crate::proofs::StraightLemmas::straight_places))]
 fn move_straight(image: &mut Image, job: &Checked) -> Record
+    requires operation { op_of job.now ≡ Some Move }
+    ensures image { image.new ≡ (checked_step image.old job.now).0 }
+    ensures answer { result ≡ (checked_step image.old job.now).1 }
+{
+    let direction = work_direction(job);
+    let &Job {
+        source,
+        target,
+        size,
+        ..
+    } = job.job();
+    if image.move_in_page(source, target, size) {
+        return copied_record(size, direction, Found::All);
+    }
+    by_fields(move_scanned(image, job))
+}
+
+/// Carries out a move that meets a fault, or goes over a page's edge: first it is looked how far it comes.
+#[inline(always)]
+#[tactic(auto, using(crate::proofs::StraightLemmas::straight_places))]
+fn move_scanned(image: &mut Image, job: &Checked) -> Record
     requires operation { op_of job.now ≡ Some Move }
     ensures image { image.new ≡ (checked_step image.old job.now).0 }
     ensures answer { result ≡ (checked_step image.old job.now).1 }

@@ -1,5 +1,5 @@
 -- Which pages and bytes of a caller's are a memory.
-use Rattle.std.proofs.Common.{◌≡◌, ℕ, ◌*◌, ◌/◌, ◌%◌, ◌<◌, ◌≤◌, Bool, List, [], ◌∷◌, Option, None, true, false, ap, length, replicate, slice_index, slice_index_or, sym, ◌∙◌, arith, ⊎_elim}
+use Rattle.std.proofs.Common.{◌≡◌, ℕ, ◌*◌, ◌/◌, ◌%◌, ◌<◌, ◌≤◌, Bool, List, Option, None, true, false, length, replicate, slice_index, slice_index_or, sym, ◌∙◌, arith, ⊎_elim}
 use Rattle.std.proofs.lemmas.List.{get_or_past, get_or-replicate, length-replicate}
 use Rattle.std.proofs.lemmas.Bool.{cases_lt, false≢true}
 use Rattle.dml_types.specs.Memory.{Memory, IsMemory, InOnePiece, memory_of, on_loan}

@@ -1,6 +1,8 @@
 -- Bytes copied inside an image, a part at a time, in the order in which no byte is overwritten before it is read.
-use Rattle.std.proofs.Common.{◌≡◌, ℕ, zero, suc, ◌+◌, ◌-◌, ◌<◌, ◌≤◌, List, ◌++◌, length, slice_range, true, rules, refl, sym, ◌∙◌, ap, ap₂, arith, inl, inr, ◌⊎◌, ⊎_elim}
+use Rattle.std.proofs.Common.{◌≡◌, ℕ, zero, suc, ◌+◌, ◌-◌, ◌<◌, ◌≤◌, List, ◌++◌, length, slice_range, Bool, true, false, ◌&&◌, ◌%◌, subst, rules, refl, sym, ◌∙◌, ap, ap₂, arith, inl, inr, ◌⊎◌, ⊎_elim}
 use Rattle.std.proofs.lemmas.List.{places, same_lists}
+use Rattle.std.proofs.lemmas.Bool.{and_parts}
+use Rattle.dml_image.proofs.RunLemmas.{has_all_of_page}
 use Rattle.dml_types.specs.Memory.{Memory, IsMemory, has, has_all, bytes_at, put}
 use Rattle.dml_types.proofs.MemoryLemmas.{bytes_at_none, has_all_at, has_all_from, has_all_within, length_bytes_at, put_append, put_comm, put_keeps, put_nil, read_beside}
 
@@ -99,6 +101,19 @@ pub kept_after_move : (inside now after : Memory) (source target n : ℕ) → in
 kept_after_move inside now after source target n is good at_source at_target done =
     let all : (address : ℕ) → has_all now address n ≡ true → has_all inside address n ≡ true = λ address here. ap (λ (m : Memory). has_all m address n) is ∙ here in
     up_kept inside after source target n n good (all source at_source) (all target at_target) done (omega arith)
+
+-- a move from page to page, where it was made
+pub both_in_page : (memory : Memory) (source target n : ℕ) → source % 4096 + n ≤ 4096 → target % 4096 + n ≤ 4096 → true ≡ (has memory source && has memory target) → (has_all memory source n ≡ true) × (has_all memory target n ≡ true)
+both_in_page memory source target n in_source in_target present =
+    let here = and_parts (has memory source) (has memory target) (sym present) in
+    (has_all_of_page memory source n in_source here.0, has_all_of_page memory target n in_target here.1)
+
+pub kept_in_page : (inside now after : Memory) (source target n : ℕ) (moved : Bool) → inside ≡ now → IsMemory inside → source % 4096 + n ≤ 4096 → target % 4096 + n ≤ 4096 → moved ≡ (has inside source && has inside target) → (moved ≡ true → after ≡ put inside target (bytes_at inside source n)) → (moved ≡ false → after ≡ inside) → IsMemory after
+kept_in_page inside now after source target n true is good in_source in_target present done kept =
+    let all = both_in_page inside source target n in_source in_target present in
+    kept_after_move inside inside after source target n refl good all.0 all.1 (done refl)
+kept_in_page inside now after source target n false is good in_source in_target present done kept =
+    subst IsMemory (sym (kept refl)) good
 
 -- a byte of a range is present
 pub byte_of_range : (memory : Memory) (address n k : ℕ) → has_all memory address n ≡ true → address ≤ k → k < address + n → has memory k ≡ true

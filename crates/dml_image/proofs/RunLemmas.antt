@@ -1,7 +1,8 @@
 -- Runs of present bytes, page by page.
 use Rattle.std.proofs.Common.{◌≡◌, ℕ, ◌+◌, ◌-◌, ◌/◌, ◌%◌, ◌<◌, ◌≤◌, min, Bool, true, false, not, ◌&&◌, get_or, ap, sym, ◌∙◌, arith, ⊎_elim}
 use Rattle.std.proofs.lemmas.Bool.{cases_lt, not-false, not-true, and_from, and_left, and_right}
-use Rattle.dml_types.specs.Memory.{first, Memory, has, present_toward, worked_offset}
+use Rattle.dml_types.specs.Memory.{first, Memory, has, has_all, present_toward, worked_offset}
+use Rattle.dml_types.proofs.MemoryLemmas.{has_all_from}
 use Rattle.dml_types.specs.declared.operations.Direction.{Direction}
 use Rattle.dml_types.specs.declared.operations.Direction.TheVariants.{Forward, Backward}
 use Rattle.dml_types.proofs.FirstLemmas.{first_le, first_is, fails_before, passes_at}
@@ -16,6 +17,11 @@ pub has_below : (memory : Memory) (address other : ℕ) → has memory address �
 has_below memory address other here below within =
     let same : other / 4096 ≡ address / 4096 = omega arith in
     ap (λ page. get_or memory.present page false) same ∙ here
+
+-- a range in a page that is present is present
+pub has_all_of_page : (memory : Memory) (address n : ℕ) → address % 4096 + n ≤ 4096 → has memory address ≡ true → has_all memory address n ≡ true
+has_all_of_page memory address n within here =
+    has_all_from memory address n (λ i low. has_above memory address (address + i) here (omega arith) (omega arith))
 
 pub present_toward_is : (direction : Direction) (memory : Memory) (address n k : ℕ) → k ≤ n → ((i : ℕ) → i < k → has memory (address + worked_offset direction n i) ≡ true) → (k < n → has memory (address + worked_offset direction n k) ≡ false) → k ≡ present_toward direction memory address n
 present_toward_is direction memory address n k within before here =

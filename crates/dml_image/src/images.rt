@@ -12,6 +12,7 @@ use crate::ranges::rest_of_page;
 use crate::runs::{present_downwards, present_in_page, present_upwards};
 use crate::segmented::Segments;
 use crate::segments::Segment;
+use crate::slices::is_one_copy;
 use crate::tables::Table;
 use crate::{MAX_PAGES, PAGE_SIZE};
 use dml_types::Direction;
@@ -358,6 +359,27 @@ impl Image<'_> {
         ensures memory { IsMemory self.new }
     {
         self.pages.move_within(source, target, len);
+    }
+
+    /// Copies `len` bytes from the address `source` on to those from `target` on, where that is one copy: each of the
+    /// two ranges lies in one page, which is present, and they share no byte, or are at most [`SHORT`](crate::SHORT)
+    /// bytes long. Answers whether it is; where it is not, nothing is changed.
+    pub fn move_in_page(&mut self, source: u64, target: u64, len: u32) -> bool
+        ensures source { IsTrue result → IsTrue (has_all self.old source len) }
+        ensures target { IsTrue result → IsTrue (has_all self.old target len) }
+        ensures bytes { IsTrue result → self.new ≡ put self.old target (bytes_at self.old source len) }
+        ensures unchanged { result ≡ false → self.new ≡ self.old }
+        ensures memory { IsMemory self.new }
+    {
+        let _ = &self.pages; // what is looked at is an image
+        let bytes = len as usize;
+        if bytes == 0 || !is_one_copy(source, target, bytes) {
+            return false;
+        }
+        if rest_of_page(source) < bytes || rest_of_page(target) < bytes {
+            return false;
+        }
+        self.pages.copy_in_page(source, target, bytes)
     }
 
     /// How many of `len` bytes from this address on come before the first absent one.

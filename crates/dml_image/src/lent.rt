@@ -1,4 +1,4 @@
-ghost use Rattle.std.specs.Prelude.{◌≡◌, ◌≢◌, ◌+◌, ◌-◌, ◌%◌, ◌<◌, ◌≤◌, ◌↔◌, false, Some, min, length, IsErr, IsOk, IsSome, IsTrue, OnErr, OnOk};
+ghost use Rattle.std.specs.Prelude.{◌≡◌, ◌≢◌, ◌+◌, ◌-◌, ◌%◌, ◌<◌, ◌≤◌, ◌↔◌, false, Some, min, length, IsErr, IsOk, IsSome, IsTrue, OnErr, OnOk, ◌&&◌};
 ghost use Rattle.dml_types.specs.Memory.{IsMemory, has, has_all, bytes_at, put, puts_made};
 ghost use Rattle.dml_types.specs.Bytewise.{pattern_bytes};
 ghost use Rattle.dml_image.specs.Blocks.{are_present, block_puts};
@@ -195,5 +195,24 @@ impl<'a> Lent<'a> {
         ensures { loan_memory self.new ≡ put (loan_memory self.old) to (bytes_at (loan_memory self.old) from len) }
     {
         copy_at(self.content, from as usize, to as usize, len);
+    }
+
+    /// Copies `len` bytes of one page to one page at once, where both are present. Returns whether they are.
+    #[tactic(auto, using(crate::proofs::RunLemmas::has_all_of_page))]
+    pub(crate) fn copy_in_page(&mut self, from: u64, to: u64, len: usize) -> bool
+        requires memory { IsMemory (loan_memory self.old) }
+        requires some { 0 < len }
+        requires within { (from % 4096 + len ≤ 4096) × (to % 4096 + len ≤ 4096) }
+        requires apart { IsOneCopy from to len }
+        ensures present { result ≡ (has (loan_memory self.old) from && has (loan_memory self.old) to) }
+        ensures copied { IsTrue result
+            → loan_memory self.new ≡ put (loan_memory self.old) to (bytes_at (loan_memory self.old) from len) }
+        ensures kept { result ≡ false → loan_memory self.new ≡ loan_memory self.old }
+    {
+        if !self.has(from) || !self.has(to) {
+            return false;
+        }
+        self.copy_part(from, to, len);
+        true
     }
 }

@@ -1,7 +1,7 @@
 //! Moves of bytes inside an image, whatever ranges overlap, with no stage and no allocation.
-ghost use Rattle.std.specs.Prelude.{◌≡◌, ◌+◌, ◌-◌, ◌<◌, ◌≤◌, ◌⊎◌, IsTrue};
-ghost use Rattle.dml_types.specs.Memory.{IsMemory, has_all, bytes_at, put};
-ghost use Rattle.dml_image.specs.Copied.{IsCopyIn};
+ghost use Rattle.std.specs.Prelude.{◌≡◌, ◌+◌, ◌-◌, ◌<◌, ◌≤◌, ◌⊎◌, IsTrue, ◌&&◌, ◌%◌, false};
+ghost use Rattle.dml_types.specs.Memory.{IsMemory, has_all, bytes_at, put, has};
+ghost use Rattle.dml_image.specs.Copied.{IsCopyIn, IsOneCopy};
 ghost use Rattle.dml_image.specs.Kept.{kept_by};
 
 use crate::images::Pages;
@@ -157,6 +157,26 @@ impl Pages<'_> {
             Pages::Own(table) => table.copy_part(from, to, len),
             Pages::Lent(lent) => lent.copy_part(from, to, len),
             Pages::Segments(_) => unreachable!(),
+        }
+    }
+
+    /// Copies `len` bytes of one page to one page at once, where both are present. Returns whether they are.
+    // It stands apart, so that what tests the ranges is small enough to be put into its caller.
+    #[inline(never)]
+    pub fn copy_in_page(&mut self, source: u64, target: u64, len: usize) -> bool
+        requires memory { IsMemory (kept_by self.old) }
+        requires some { 0 < len }
+        requires within { (source % 4096 + len ≤ 4096) × (target % 4096 + len ≤ 4096) }
+        requires apart { IsOneCopy source target len }
+        ensures present { result ≡ (has (kept_by self.old) source && has (kept_by self.old) target) }
+        ensures copied { IsTrue result
+            → kept_by self.new ≡ put (kept_by self.old) target (bytes_at (kept_by self.old) source len) }
+        ensures kept { result ≡ false → kept_by self.new ≡ kept_by self.old }
+    {
+        match self {
+            Pages::Own(table) => table.copy_in_page(source, target, len),
+            Pages::Lent(lent) => lent.copy_in_page(source, target, len),
+            Pages::Segments(segments) => segments.copy_in_page(source, target, len),
         }
     }
 }

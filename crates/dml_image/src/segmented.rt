@@ -1,10 +1,11 @@
 //! Memory in segments: what an image does over them.
-ghost use Rattle.std.specs.Prelude.{◌≡◌, ◌+◌, ◌-◌, ◌/◌, ◌%◌, ◌<◌, ◌≤◌, ◌⊎◌, false, min, length, take, IsErr, IsOk, IsTrue, OnErr, OnOk};
+ghost use Rattle.std.specs.Prelude.{◌≡◌, ◌+◌, ◌-◌, ◌/◌, ◌%◌, ◌<◌, ◌≤◌, ◌⊎◌, false, min, length, take, IsErr, IsOk, IsTrue, OnErr, OnOk, ◌&&◌};
 ghost use Rattle.dml_types.specs.Memory.{IsMemory, has, has_all, bytes_at, is_own, put, puts_made};
 ghost use Rattle.dml_types.specs.Bytewise.{pattern_bytes};
 ghost use Rattle.dml_image.specs.Blocks.{are_present, block_puts, block_puts_from};
 ghost use Rattle.dml_image.specs.Brought.{brought, has_page};
 ghost use Rattle.dml_image.specs.Pieces.{AreInOrder, pieces_memory, pieces_of};
+ghost use Rattle.dml_image.specs.Copied.{IsOneCopy};
 
 use crate::PAGE_SIZE;
 use crate::blocks::{ENTRY, entry_block, put_inside};
@@ -282,6 +283,33 @@ impl Segments<'_> {
             count,
         );
         count
+    }
+
+    /// Copies `len` bytes of one page to one page at once, where both are present. Returns whether they are.
+    #[inline(never)]
+    pub fn copy_in_page(&mut self, from: u64, to: u64, len: usize) -> bool
+        requires within { (from % 4096 + len ≤ 4096) × (to % 4096 + len ≤ 4096) }
+        requires apart { IsOneCopy from to len }
+        ensures present { result ≡ (has self.old from && has self.old to) }
+        ensures copied { IsTrue result → self.new ≡ put self.old to (bytes_at self.old from len) }
+        ensures kept { result ≡ false → self.new ≡ self.old }
+    {
+        let Some(source) = find(self.list.as_slice(), from) else {
+            return false;
+        };
+        let Some(target) = find(self.list.as_slice(), to) else {
+            return false;
+        };
+        let list = self.list.as_mut_slice();
+        copy_between(
+            list,
+            source.segment,
+            source.place,
+            target.segment,
+            target.place,
+            len,
+        );
+        true
     }
 
     /// Copies bytes before one address to those before another, as many as go at once and as the segments of both have

@@ -63,6 +63,14 @@ pub fn at_once(from: u64, to: u64, most: usize) -> usize
     most.min(from.abs_diff(to).max(SHORT as u64) as usize)
 }
 
+/// Whether so many bytes go from one address on to another at once.
+#[inline(always)]
+pub fn is_one_copy(from: u64, to: u64, len: usize) -> bool
+    ensures { IsTrue result → IsOneCopy from to len }
+{
+    len <= SHORT || from.abs_diff(to) >= len as u64
+}
+
 /// Repeats the 8 bytes of a pattern, low byte first, over `len` bytes of a slice.
 #[tactic(auto, using(crate::proofs::SliceLemmas::put_mid_overwrite))]
 pub fn fill_at(target: &mut [u8], place: usize, len: usize, pattern: u64)

@@ -1,4 +1,4 @@
-ghost use Rattle.std.specs.Prelude.{◌≡◌, ◌+◌, ◌-◌, ◌/◌, ◌%◌, ◌<◌, ◌≤◌, None, true, false, min, length, IfOk, OnErr, OnOk, IsOk, IsTrue};
+ghost use Rattle.std.specs.Prelude.{◌≡◌, ◌+◌, ◌-◌, ◌/◌, ◌%◌, ◌<◌, ◌≤◌, None, true, false, ◌&&◌, min, length, IfOk, OnErr, OnOk, IsOk, IsTrue};
 ghost use Rattle.dml_types.specs.Memory.{has, bytes_at, is_in_segments, is_own, put, puts_made};
 ghost use Rattle.dml_types.specs.Bytewise.{pattern_bytes};
 ghost use Rattle.dml_image.specs.Blocks.{block_puts_from};
@@ -178,5 +178,20 @@ impl Table {
                 None => unreachable!(),
             }
         }
+    }
+
+    /// Copies `len` bytes of one page to one page at once, where both are present. Returns whether they are.
+    pub fn copy_in_page(&mut self, from: u64, to: u64, len: usize) -> bool
+        requires within { (from % 4096 + len ≤ 4096) × (to % 4096 + len ≤ 4096) }
+        requires apart { IsOneCopy from to len }
+        ensures present { result ≡ (has self.old from && has self.old to) }
+        ensures copied { IsTrue result → self.new ≡ put self.old to (bytes_at self.old from len) }
+        ensures kept { result ≡ false → self.new ≡ self.old }
+    {
+        if !self.has(from) || !self.has(to) {
+            return false;
+        }
+        self.copy_part(from, to, len);
+        true
     }
 }

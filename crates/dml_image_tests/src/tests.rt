@@ -1,4 +1,5 @@
 mod holes;
+mod in_page;
 mod segments;
 
 ghost use Rattle.std.specs.Prelude.{◌≡◌};

@@ -1,0 +1,72 @@
+//! Moves that are one copy, from page to page: which go, and what they leave.
+
+use super::{image_with, moved, some_bytes};
+use dml_image::{Image, Lent, Segment, are_segments};
+use dml_types::Direction;
+use std::process::Abort;
+use std::test::Fail;
+
+/// Source, target and length, and whether the move goes, in three pages that are present and a fourth that is absent.
+const ROWS: [(u64, u64, u32, bool); 21] = [
+    (0, 4096, 4096, true),
+    (8192, 0, 4096, true),
+    (4096, 4096, 4096, false), // more bytes than are held, over themselves
+    (10, 20, 8, true),
+    (20, 10, 8, true),
+    (100, 100, 64, true),
+    (0, 255, 256, true),
+    (255, 0, 256, true),
+    (0, 256, 257, false),
+    (256, 0, 257, false),
+    (0, 257, 257, true),
+    (4095, 8191, 1, true),
+    (4095, 0, 2, false), // over an edge
+    (0, 4095, 2, false),
+    (1, 4096, 4096, false),
+    (12_288, 0, 8, false), // absent
+    (0, 12_288, 8, false),
+    (12_287, 12_288, 1, false),
+    (0, 1 << 44, 8, false), // past the last page
+    (u64::MAX, 0, 1, false),
+    (0, 0, 0, false),
+];
+
+/// Tries a row, and checks the bytes of the first three pages.
+fn expect_row(rt: &impl Abort, image: &mut Image, row: (u64, u64, u32, bool)) {
+    let (source, target, len, goes) = row;
+    let before = some_bytes();
+    assert!(rt; image.first_absent(0, 12_288, Direction::Forward).is_none());
+    image.write(0, &before);
+    assert_eq!(rt; image.move_in_page(source, target, len), goes, "{row:?}");
+    let wanted = if goes {
+        moved(rt, &before, (source, target, len))
+    } else {
+        before
+    };
+    let mut after = [0; 12_288];
+    assert!(rt; image.first_absent(0, 12_288, Direction::Forward).is_none());
+    image.read_into(0, &mut after);
+    assert!(rt; after == wanted, "{row:?}");
+}
+
+#[test]
+fn moves_from_page_to_page(rt: HostRuntime) -> Result<(), Fail> {
+    let mut own = image_with(rt.alloc(), 4, &[0, 1, 2])?;
+    let mut content = [0; 16_384];
+    let mut lent = Lent::new(&[true, true, true, false], &mut content);
+    assert!(rt; lent.is_memory());
+    let mut over = lent.take();
+    let mut bytes = [0; 12_288];
+    let (low, high) = bytes.split_at_mut(4096);
+    let mut segments = Vec::new(rt.alloc());
+    segments.push(Segment::new(0, low))?;
+    segments.push(Segment::new(1, high))?;
+    assert!(rt; are_segments(&segments));
+    let mut pieces = Image::over_segments(segments);
+    for row in ROWS {
+        expect_row(&rt, &mut own, row);
+        expect_row(&rt, &mut over, row);
+        expect_row(&rt, &mut pieces, row);
+    }
+    Ok(())
+}

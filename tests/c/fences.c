@@ -1,15 +1,19 @@
 /*
  * Batches with fences and a list with one, through kazovuni.h: on an engine's own image, over memory in one piece and
- * over a region, each of one page of zeros. What a row's jobs have to answer, and the first bytes that they leave,
- * stand in the row.
+ * over a region, each of one page of zeros, and on the last page of 5 GiB in one piece, which are reserved and touched
+ * there alone. What a row's jobs have to answer, and the first bytes that they leave, stand in the row.
  */
+#define _DEFAULT_SOURCE
 #include "kazovuni.h"
 
 #include <stdio.h>
 #include <string.h>
+#include <sys/mman.h>
 
 enum { PAGE = KAZOVUNI_PAGE_BYTES, MOST_JOBS = 4, MOST_LEFT = 72 };
-enum place { ON_IMAGE, IN_ONE_PIECE, OVER_A_REGION, PLACES };
+enum place { ON_IMAGE, IN_ONE_PIECE, OVER_A_REGION, AT_THE_END, PLACES };
+
+#define FIVE_GIB (UINT64_C(5) << 30)
 
 #define FENCE KAZOVUNI_FLAG_FENCE
 #define FILL(number, address, length)                                                                                  \
@@ -64,6 +68,13 @@ static const row rows[] = {
 };
 
 static int failed;
+static uint8_t *five_gib;
+
+/* Where a row's page begins there. */
+static uint64_t begin_of(enum place place)
+{
+    return place == AT_THE_END ? FIVE_GIB - PAGE : 0;
+}
 
 static void expect(bool holds, const row *row, enum place place, const char *what)
 {
@@ -74,9 +85,12 @@ static void expect(bool holds, const row *row, enum place place, const char *wha
 }
 
 /* The descriptor of a job; of an opcode that is not carried out it is put in by hand. */
-static bool describe(const kazovuni_job *job, uint8_t descriptor[64])
+static bool describe(const kazovuni_job *job, enum place place, uint8_t descriptor[64])
 {
     kazovuni_job other = *job;
+    other.target += begin_of(place);
+    if (job->opcode == KAZOVUNI_OP_MOVE || job->opcode == KAZOVUNI_OP_COMPARE)
+        other.source += begin_of(place);
     if (job->opcode == STRANGER)
         other.opcode = KAZOVUNI_OP_NO_OP;
     if (!kazovuni_encode(&other, descriptor))
@@ -99,6 +113,8 @@ static uint8_t submit(
     uint8_t *records, uint8_t batch[32])
 {
     kazovuni_region table[] = {{0, page, PAGE}};
+    uint8_t *bytes = place == AT_THE_END ? five_gib : page;
+    size_t length = begin_of(place) + PAGE;
     size_t count = (size_t)row->count;
     bool is_list = row->status == 0;
     switch (place) {
@@ -106,8 +122,9 @@ static uint8_t submit(
         return is_list ? kazovuni_submit_list(engine, descriptors, count, records, count)
                        : kazovuni_submit_batch(engine, descriptors, count, records, count, batch);
     case IN_ONE_PIECE:
-        return is_list ? kazovuni_submit_list_in(engine, page, PAGE, descriptors, count, records, count)
-                       : kazovuni_submit_batch_in(engine, page, PAGE, descriptors, count, records, count, batch);
+    case AT_THE_END:
+        return is_list ? kazovuni_submit_list_in(engine, bytes, length, descriptors, count, records, count)
+                       : kazovuni_submit_batch_in(engine, bytes, length, descriptors, count, records, count, batch);
     default:
         return is_list ? kazovuni_submit_list_at(engine, table, 1, descriptors, count, records, count)
                        : kazovuni_submit_batch_at(engine, table, 1, descriptors, count, records, count, batch);
@@ -116,20 +133,23 @@ static uint8_t submit(
 
 static void try_row(const row *row, enum place place, kazovuni_engine *engine)
 {
-    static uint8_t page[PAGE];
+    static uint8_t own[PAGE];
+    uint8_t *page = place == AT_THE_END ? five_gib + begin_of(place) : own;
     uint8_t descriptors[MOST_JOBS][64], records[MOST_JOBS][32], batch[32];
-    memset(page, 0, sizeof page);
+    memset(page, 0, PAGE);
     memset(records, 0xcc, sizeof records);
     memset(batch, 0xcc, sizeof batch);
     if (place == ON_IMAGE)
         expect(kazovuni_bring(engine, 0, page) == KAZOVUNI_OK, row, place, "the page is brought");
     for (int i = 0; i < row->count; i++)
-        expect(describe(&row->jobs[i], descriptors[i]), row, place, "a descriptor");
+        expect(describe(&row->jobs[i], place, descriptors[i]), row, place, "a descriptor");
     expect(submit(row, place, engine, page, descriptors[0], records[0], batch) == KAZOVUNI_OK, row, place, "the code");
-    for (int i = 0; i < row->count; i++)
+    for (int i = 0; i < row->count; i++) {
+        uint64_t fault = row->records[i].fault == 0 ? 0 : row->records[i].fault + begin_of(place);
         expect(
-            has_fields(records[i], row->records[i].status, row->records[i].completed, row->records[i].fault), row,
-            place, "a job's record");
+            has_fields(records[i], row->records[i].status, row->records[i].completed, fault), row, place,
+            "a job's record");
+    }
     if (row->status == 0)
         expect(batch[0] == 0xcc && batch[31] == 0xcc, row, place, "a list has no record of its own");
     else
@@ -144,10 +164,17 @@ int main(void)
     kazovuni_engine engine = {0};
     if (kazovuni_create(&engine, 1, 4096) != KAZOVUNI_OK)
         return 2;
+    void *room = mmap(NULL, FIVE_GIB, PROT_READ | PROT_WRITE, MAP_PRIVATE | MAP_ANONYMOUS | MAP_NORESERVE, -1, 0);
+    five_gib = room == MAP_FAILED ? NULL : room;
+    if (five_gib == NULL)
+        puts("fences: the system reserves no 5 GiB: the rows in a piece of that size are left out");
     for (size_t i = 0; i < sizeof rows / sizeof rows[0]; i++)
         for (enum place place = 0; place < PLACES; place++)
-            try_row(&rows[i], place, &engine);
+            if (place != AT_THE_END || five_gib != NULL)
+                try_row(&rows[i], place, &engine);
     kazovuni_free(&engine);
+    if (five_gib != NULL)
+        munmap(five_gib, FIVE_GIB);
     if (!failed)
         puts("fences: passed");
     return failed;

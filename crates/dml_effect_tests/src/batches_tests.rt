@@ -13,8 +13,8 @@ use std::alloc::Global;
 use std::process::Abort;
 use std::test::Fail;
 
-/// Jobs on a page of zeros, what they answer, the batch's own status, how many jobs of it are carried out, and the first
-/// bytes that it leaves.
+/// Jobs on a page of zeros, what they answer, the batch's own status, how many jobs of it are carried out, and the
+/// first bytes that it leaves.
 #[derive(Clone, Copy)]
 struct Row<'a> {
     jobs: &'a [Job],
@@ -116,9 +116,11 @@ impl Row<'_> {
         );
     }
 
-    /// Expects the bytes of an image.
+    /// Expects the bytes of an image of one page.
     fn expect_image(&self, rt: &impl Abort, call: &str, image: &Image) {
-        assert!(rt; shows(image, 0, self.left), "{call}");
+        let mut want = [0; 4096];
+        write_over(rt, &mut want, 0, self.left);
+        assert!(rt; shows(image, 0, &want), "{call}");
     }
 
     /// Expects the bytes of a page.
@@ -234,7 +236,7 @@ impl Row<'_> {
         Ok(())
     }
 
-    /// As a list of descriptors: on an image of its own, over a caller's page, and over that as a segment.
+    /// As a list of descriptors, on an image of its own.
     #[tactic(auto, using(dml_effect::proofs::BatchLemmas::room_of_limit))]
     fn as_list_of_bytes(
         &self,

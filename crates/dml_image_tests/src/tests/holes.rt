@@ -311,3 +311,20 @@ fn refused_take(rt: HostRuntime) {
     drop(two);
     assert!(rt; low == [1; 8192] && high == [brought; 4096]);
 }
+
+/// Where there is memory for a list of them, two segments are an image, and come back.
+#[test]
+fn two_segments_come_back(rt: HostRuntime) -> Result<(), Fail> {
+    let (mut low, mut high) = ([1; 8192], [2; 4096]);
+    let mut two = two(&mut low, &mut high);
+    assert!(rt; two.is_memory());
+    let mut image = match two.take(rt.alloc()) {
+        Ok(image) => image,
+        Err(_) => return Err("no memory".into()),
+    };
+    expect_bring(&rt, &mut image, 3, 7, Ok(()));
+    two.put(image);
+    drop(two);
+    assert!(rt; low == [1; 8192] && high == [7; 4096]);
+    Ok(())
+}

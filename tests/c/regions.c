@@ -336,6 +336,59 @@ static void try_memory_first(kazovuni_engine *engine)
     EXPECT(records[0][0] == 0xcc && batch[0] == 0xcc);
 }
 
+/* What stands in the memory that the jobs go over. */
+static void look(int place, kazovuni_engine *engine, uint8_t bytes[2 * PAGE])
+{
+    memcpy(bytes, pages, 2 * PAGE);
+    if (place == ON_IMAGE)
+        EXPECT(kazovuni_read(engine, 0, bytes, 2 * PAGE) == KAZOVUNI_OK);
+}
+
+/* A list, in which a fence is refused; batches with a fence behind jobs that succeeded, and behind one that failed. */
+static void try_fences(int place, kazovuni_engine *engine)
+{
+    const kazovuni_job jobs[] = {
+        {.opcode = KAZOVUNI_OP_FILL, .source = 0x0101010101010101, .target = 0, .size = 16},
+        {.opcode = KAZOVUNI_OP_MOVE, .source = 2 * PAGE, .target = 64, .size = 8}, /* meets a page fault */
+        {.opcode = KAZOVUNI_OP_MOVE, .flags = KAZOVUNI_FLAG_FENCE, .source = 0, .target = PAGE, .size = 16},
+        {.opcode = KAZOVUNI_OP_FILL, .source = 0x0202020202020202, .target = 0, .size = 8},
+    };
+    uint8_t descriptors[4][64], records[4][32], batch[32], bytes[2 * PAGE];
+    for (int i = 0; i < 4; i++)
+        EXPECT(kazovuni_encode(&jobs[i], descriptors[i]));
+    memset(pages, 0, sizeof pages);
+    if (place == ON_IMAGE)
+        EXPECT(kazovuni_bring(engine, 0, pages) == KAZOVUNI_OK && kazovuni_bring(engine, 1, pages) == KAZOVUNI_OK);
+    /* the fence is not behind the job that fails: all are carried out, and the batch has failed */
+    memcpy(descriptors[3], descriptors[1], 64);
+    EXPECT(submit_batch(place, engine, descriptors[2], 2, records[2], 2, batch) == KAZOVUNI_OK);
+    expect_record(batch, KAZOVUNI_STATUS_BATCH_FAILED, 0, 2, 0, 0, __LINE__);
+    expect_record(records[2], KAZOVUNI_STATUS_SUCCESS, 0, 16, 0, 0, __LINE__);
+    expect_record(records[3], KAZOVUNI_STATUS_READ_FAULT, 0, 0, 2 * PAGE, 0, __LINE__);
+    /* it is behind it: the two jobs from the fence on are abandoned */
+    EXPECT(kazovuni_encode(&jobs[3], descriptors[3]));
+    memset(records, 0xcc, sizeof records);
+    EXPECT(submit_batch(place, engine, descriptors, 4, records, 4, batch) == KAZOVUNI_OK);
+    expect_record(batch, KAZOVUNI_STATUS_BATCH_FAILED, 0, 2, 0, 0, __LINE__);
+    expect_record(records[0], KAZOVUNI_STATUS_SUCCESS, 0, 16, 0, 0, __LINE__);
+    expect_record(records[1], KAZOVUNI_STATUS_READ_FAULT, 0, 0, 2 * PAGE, 0, __LINE__);
+    expect_record(records[2], KAZOVUNI_STATUS_ABANDONED, 0, 0, 0, 0, __LINE__);
+    expect_record(records[3], KAZOVUNI_STATUS_ABANDONED, 0, 0, 0, 0, __LINE__);
+    look(place, engine, bytes);
+    EXPECT(bytes[0] == 1 && bytes[15] == 1 && bytes[16] == 0 && bytes[PAGE] == 0);
+    /* all succeed */
+    memcpy(descriptors[1], descriptors[0], 64);
+    EXPECT(submit_batch(place, engine, descriptors, 4, records, 4, batch) == KAZOVUNI_OK);
+    expect_record(batch, KAZOVUNI_STATUS_SUCCESS, 0, 4, 0, 0, __LINE__);
+    expect_record(records[2], KAZOVUNI_STATUS_SUCCESS, 0, 16, 0, 0, __LINE__);
+    look(place, engine, bytes);
+    EXPECT(bytes[0] == 2 && bytes[8] == 1 && bytes[PAGE] == 1 && bytes[PAGE + 15] == 1 && bytes[PAGE + 16] == 0);
+    /* in a list the fence is an invalid flag, and the jobs behind it are carried out */
+    EXPECT(submit_list(place, engine, descriptors, 4, records, 4) == KAZOVUNI_OK);
+    expect_record(records[2], KAZOVUNI_STATUS_BAD_FLAGS, 0, 0, 0, 0, __LINE__);
+    expect_record(records[3], KAZOVUNI_STATUS_SUCCESS, 0, 8, 0, 0, __LINE__);
+}
+
 /* An engine for its staging alone, and jobs over pages in one piece with it. */
 static void try_staging(void)
 {
@@ -486,8 +539,10 @@ int main(void)
     kazovuni_free(&engine);
     if (kazovuni_create(&engine, 2, 8000) != KAZOVUNI_OK)
         return 2;
-    for (int place = 0; place < PLACES; place++)
+    for (int place = 0; place < PLACES; place++) {
         try_counts(place, &engine);
+        try_fences(place, &engine);
+    }
     try_memory_first(&engine);
     kazovuni_free(&engine);
     try_staging();

@@ -4,15 +4,18 @@
 # inside Rattle (`submit_over` on the caller's pages, `submit_to` on an image's own); and moves of pages anywhere in 1
 # GiB in one piece over memmove at the same places, by bench/c_whole.c. Jobs with the staging of an engine beside the
 # same ones with their own from malloc, jobs over eight regions beside one, and a batch of moves of a page beside the
-# list of them that dml_bench hands to an engine of one worker, by bench/c_regions.c. Then the jobs straight over
-# buffers, by bench/c_buffers.c, beside the same ones by kazovuni_submit_pointers, with their bars as ratios: of the
-# operation's own call (`buffers`) and of kazovuni_execute (`execute`), which checks the job twice.
+# list of them that dml_bench hands to an engine of one worker, without a bar, by bench/c_regions.c. Then the jobs
+# straight over buffers, by bench/c_buffers.c, beside the same ones by kazovuni_submit_pointers, with their bars as
+# ratios: of the operation's own call (`buffers`) and of kazovuni_execute (`execute`), which checks the job twice.
 #
-# Usage: bench/c_calls.sh [ROUNDS [OLDER]]   15 rounds, where nothing else is said.
+# Usage: bench/c_calls.sh [ROUNDS [OLDER [BENCH]]]   15 rounds, where nothing else is said.
 # OLDER is the prefix of an older library, or an older checkout, whose own tools/install_library.sh is run then. The
 # calls of bench/c_calls.c and the jobs of bench/c_buffers.c by kazovuni_submit_pointers (that program built with these
 # alone), which both libraries have, go by turns on the two, and each may take 1.03 of its time on the older one at
 # most; how far memmove and the rows `libc`, which are neither's, are from 1 shows what is chance.
+# BENCH is the older program dml_bench, or that of OLDER where it is a checkout in which dml_bench is built. It goes by
+# turns too, and the batch of moves may take 1.02 of the list of them on its engine: of list order before there were
+# batches.
 #
 # Wants rt, ar, a C compiler as $CC or cc, with $CFLAGS or -O2, and the program dml_bench built (rt run in
 # crates/dml_bench). Each round runs all programs, every second round in the opposite order, and a difference or a ratio
@@ -22,6 +25,8 @@ here=$(cd "$(dirname "$0")" && pwd)
 rounds=${1:-15}
 older=${2:-}
 proved=$here/../crates/dml_bench/out/dml_bench
+listed=${3:-}
+[ -n "$listed" ] || [ ! -x "$older/crates/dml_bench/out/dml_bench" ] || listed=$older/crates/dml_bench/out/dml_bench
 if [ ! -x "$proved" ]; then
     echo "bench/c_calls.sh: $proved is not built: run 'rt run' in crates/dml_bench" >&2
     exit 2
@@ -56,20 +61,31 @@ if [ -n "$older" ]; then
     programs='c_calls older c_whole c_regions dml_bench c_buffers now_buffers older_buffers'
     backwards='older_buffers now_buffers c_buffers dml_bench c_regions c_whole older c_calls'
 fi
+if [ -n "$listed" ]; then
+    [ -x "$listed" ] || { echo "bench/c_calls.sh: $listed is no program" >&2; exit 2; }
+    programs="$programs older_bench" backwards="older_bench $backwards"
+fi
+
+# listed_moves ROUND NAME: the time of each of 1,024 moves of a page in a list, of the rows of dml_bench
+listed_moves() {
+    awk -v round="$1" -v name="$2" \
+        '$1 == "list_page_moves" && $2 == 1 { printf "%d %s 4096 %.2f\n", round, name, $3 / 1024 }' "$work/rows"
+}
 
 # one ROUND PROGRAM: writes "ROUND NAME BYTES NANOSECONDS" for each row of a program; those of the older library get a
 # name of their own, and so do those of the program that is beside it.
 one() {
     case $2 in
         dml_bench) "$proved" 8 2>"$work/rows" >"$work/out" || exit 2 ;;
+        older_bench) "$listed" 8 2>"$work/rows" >"$work/out" || exit 2 ;;
         *) "$work/$2" >"$work/rows" || exit 2 ;;
     esac
     case $2 in
         dml_bench)
             sed -n "s/^\(over_move\|own_move\) /$1 &/p" "$work/rows"
-            awk -v round="$1" '$1 == "list_page_moves" && $2 == 1 { printf "%d %s 4096 %.2f\n", round, $1, $3 / 1024 }' \
-                "$work/rows"
+            listed_moves "$1" list_page_moves
             ;;
+        older_bench) listed_moves "$1" older_list_page_moves ;;
         older | older_buffers) sed "s/^/$1 older_/" "$work/rows" ;;
         now_buffers) sed "s/^/$1 now_/" "$work/rows" ;;
         *) sed "s/^/$1 /" "$work/rows" ;;
@@ -87,7 +103,7 @@ while [ "$round" -le "$rounds" ]; do
     round=$((round + 1))
 done
 
-awk -v busy="$busy" -v older="${older:+1}" '
+awk -v busy="$busy" -v older="${older:+1}" -v listed="${listed:+1}" '
     BEGIN { split("buffers execute", ways, " "); split("pointers libc", kept, " ") }
     function sort(list, count,    i, j, t) {
         for (i = 2; i <= count; i++)
@@ -190,8 +206,10 @@ awk -v busy="$busy" -v older="${older:+1}" '
         for (bytes = 64; bytes <= 4096; bytes *= 64)
             bar("move of " bytes " bytes over eight regions, over the same over one", \
                 over("move_at_eight", "move_at_one", bytes), 40)
-        ratio_bar("batch of 1,024 moves of a page, to a list of them on an engine of one worker", \
-            ratio("moves_batch", "list_page_moves", 4096), 1.02)
+        text = "batch of 1,024 moves of a page, to a list of them on an engine"
+        printf("%-72s %6.3f\n", text, ratio("moves_batch", "list_page_moves", 4096))
+        if (listed)
+            ratio_bar(text " before", ratio("moves_batch", "older_list_page_moves", 4096), 1.02)
         for (n = 1; older && n <= rows; n++) {
             split(row[n], part, " ")
             if (part[1] ~ /^kazovuni_/ && (1, "older_" part[1], part[2]) in times)

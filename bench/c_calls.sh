@@ -13,9 +13,8 @@
 # calls of bench/c_calls.c and the jobs of bench/c_buffers.c by kazovuni_submit_pointers (that program built with these
 # alone), which both libraries have, go by turns on the two, and each may take 1.03 of its time on the older one at
 # most; how far memmove and the rows `libc`, which are neither's, are from 1 shows what is chance.
-# BENCH is the older program dml_bench, or that of OLDER where it is a checkout in which dml_bench is built. It goes by
-# turns too, and the batch of moves may take 1.02 of the list of them on its engine: of list order before there were
-# batches.
+# BENCH is the program dml_bench as it was before there were batches. It goes by turns too, and the batch of moves may
+# take 1.02 of the list of them on its engine.
 #
 # Wants rt, ar, a C compiler as $CC or cc, with $CFLAGS or -O2, and the program dml_bench built (rt run in
 # crates/dml_bench). Each round runs all programs, every second round in the opposite order, and a difference or a ratio
@@ -26,7 +25,6 @@ rounds=${1:-15}
 older=${2:-}
 proved=$here/../crates/dml_bench/out/dml_bench
 listed=${3:-}
-[ -n "$listed" ] || [ ! -x "$older/crates/dml_bench/out/dml_bench" ] || listed=$older/crates/dml_bench/out/dml_bench
 if [ ! -x "$proved" ]; then
     echo "bench/c_calls.sh: $proved is not built: run 'rt run' in crates/dml_bench" >&2
     exit 2
@@ -208,7 +206,7 @@ awk -v busy="$busy" -v older="${older:+1}" -v listed="${listed:+1}" '
                 over("move_at_eight", "move_at_one", bytes), 40)
         text = "batch of 1,024 moves of a page, to a list of them on an engine"
         printf("%-72s %6.3f\n", text, ratio("moves_batch", "list_page_moves", 4096))
-        if (listed)
+        if (listed && (1, "older_list_page_moves", 4096) in times)
             ratio_bar(text " before", ratio("moves_batch", "older_list_page_moves", 4096), 1.02)
         for (n = 1; older && n <= rows; n++) {
             split(row[n], part, " ")

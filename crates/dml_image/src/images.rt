@@ -3,6 +3,7 @@ ghost use Rattle.dml_types.specs.Memory.{IsMemory, has, has_all, byte_at, bytes_
 ghost use Rattle.dml_types.specs.Bytewise.{pattern_bytes};
 ghost use Rattle.dml_image.specs.Blocks.{are_present, block_puts};
 ghost use Rattle.dml_image.specs.Brought.{all_absent, brought, evicted, has_page};
+ghost use Rattle.dml_image.specs.Copied.{IsOneCopy};
 ghost use Rattle.dml_image.specs.Kept.{kept_by, loan_memory};
 ghost use Rattle.dml_image.specs.Pieces.{AreSegments, pieces_memory, pieces_of};
 
@@ -368,6 +369,9 @@ impl Image<'_> {
         ensures source { IsTrue result → IsTrue (has_all self.old source len) }
         ensures target { IsTrue result → IsTrue (has_all self.old target len) }
         ensures bytes { IsTrue result → self.new ≡ put self.old target (bytes_at self.old source len) }
+        ensures goes { 0 < len → source % 4096 + len ≤ 4096 → target % 4096 + len ≤ 4096
+            → IsOneCopy source target len → IsTrue (has self.old source) → IsTrue (has self.old target)
+            → IsTrue result }
         ensures unchanged { result ≡ false → self.new ≡ self.old }
         ensures memory { IsMemory self.new }
     {

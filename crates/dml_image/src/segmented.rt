@@ -10,7 +10,7 @@ ghost use Rattle.dml_image.specs.Copied.{IsOneCopy};
 use crate::PAGE_SIZE;
 use crate::blocks::{ENTRY, entry_block, put_inside};
 use crate::ranges::rest_of_page;
-use crate::segments::{Segment, copy_between, find, spot_of};
+use crate::segments::{Segment, copy_between, find, find_rarely, spot_of};
 use crate::slices::{WORD_SIZE, at_once, fill_at, write_at};
 use dml_types::block_number;
 use std::alloc::AllocError;
@@ -69,6 +69,8 @@ impl Segments<'_> {
     }
 
     /// Writes these bytes over a page that is present; one that is in no segment has no room here.
+    // They are copied here and handed to no call, so that those of a new page of an image's own are made in their place.
+    #[inline(always)]
     pub fn bring(&mut self, page: usize, bytes: &[u8; 4096]) -> Result<(), AllocError>
         requires memory { IsMemory self.old }
         requires page { page < length self.old.present }
@@ -77,11 +79,10 @@ impl Segments<'_> {
         ensures again { IsTrue (has_page self.old page) → IsOk result }
         ensures hole { has_page self.old page ≡ false → IsErr result }
     {
-        let addr = (PAGE_SIZE * page) as u64;
-        if !self.has(addr) {
+        let Some(spot) = find_rarely(self.list.as_slice(), (PAGE_SIZE * page) as u64) else {
             return Err(AllocError);
-        }
-        self.write(addr, bytes);
+        };
+        write_at(self.list[spot.segment].content, spot.place, bytes);
         Ok(())
     }
 

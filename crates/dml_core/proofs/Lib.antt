@@ -10,6 +10,7 @@ pub mod PlanFacts
 pub mod StepFacts
 pub mod ReplayLemmas
 pub mod CountLemmas
+pub mod OpenLemmas
 pub mod GatherLemmas
 pub mod RoundLemmas
 pub mod JoinFacts

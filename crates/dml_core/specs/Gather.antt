@@ -1,8 +1,9 @@
 -- Submits and fetches in a row, with one plan behind the last of them: the lists that they make longer, and the
 -- world that they leave.
-use Rattle.std.specs.Prelude.{◌≡◌, ℕ, ◌-◌, ◌<◌, ◌≤◌, Bool, true, false, ◌&&◌, ◌||◌, IfSome, List, [], ◌∷◌, ◌++◌, Option, None, length, is_some, if◌then◌else◌, nat_lt, slice_get, slice_index_or, slice_set, take}
+use Rattle.std.specs.Prelude.{◌≡◌, ℕ, ◌-◌, ◌<◌, ◌≤◌, All, Bool, true, false, ◌&&◌, ◌||◌, IfSome, List, [], ◌∷◌, ◌++◌, Option, filter, length, is_some, if◌then◌else◌, nat_lt, slice_get, slice_index, slice_index_or, slice_set, take}
+use Rattle.std.specs.List.{range_with_len}
 use Rattle.dml_core.specs.Types.{Job, Fetched, Step, Submit, Fetch}
-use Rattle.dml_core.specs.Plan.{open_places, plan_of}
+use Rattle.dml_core.specs.Plan.{is_open, open_places, plan_of}
 use Rattle.dml_core.specs.World.{World, is_allowed, is_empty, new_entry, no_hand, part_of, set_out}
 
 -- what the clients sent, and what was fetched
@@ -20,9 +21,15 @@ lists_of w = lists w.sent w.fetched
 abbrev pub next_of : List (List Job) → List Fetched → ℕ → Option Job
 next_of sent fetched client = slice_get (slice_index_or sent client []) (length (part_of client fetched))
 
--- where a client's count is kept, so many of its jobs were fetched
-pub record AreParts (parts : List (Option ℕ)) (fetched : List Fetched) : Type 0 where
-  pub each : (client : ℕ) → IfSome (slice_index_or parts client None) (λ count. count ≡ length (part_of client fetched))
+-- all of so many clients are counted, and so many jobs were fetched of each client that is
+pub record AreParts (parts : List ℕ) (clients : ℕ) (fetched : List Fetched) : Type 0 where
+  pub known : clients ≤ length parts
+  pub each : (client : ℕ) → client < length parts → slice_index parts client ≡ length (part_of client fetched)
+
+-- places of the fetched list, of which the open ones are all that are open below a place
+pub record HoldOpen (places : List ℕ) (fetched : List Fetched) (below : ℕ) : Type 0 where
+  pub inside : All (λ i. i < length fetched) places
+  pub open_ones : filter (is_open fetched) places ≡ filter (is_open fetched) (range_with_len 0 below)
 
 abbrev pub is_fetch : Step → Bool
 is_fetch (Fetch client) = true

@@ -1,17 +1,17 @@
 //! Submits and fetches in a row, with one plan behind the last of them.
 ghost use Rattle.std.specs.Prelude.{◌≡◌, ◌⊎◌, ℕ, ◌||◌, ◌&&◌, ◌+◌, ◌-◌, ◌≤◌, ◌<◌, IfErr, IfOk, IfSome, OnSome, Some, drop, false, is_some, length, nat_lt, not, slice_get, slice_index_or, slice_set, take, true, []};
 ghost use Rattle.dml_core.specs.Plan.{open_places};
-ghost use Rattle.dml_core.specs.World.{Reaches, World, part_of};
+ghost use Rattle.dml_core.specs.World.{Reaches, World};
 ghost use Rattle.dml_core.specs.Replay.{StopsAt};
 ghost use Rattle.dml_core.specs.Types.{Fetch};
 ghost use Rattle.dml_core.specs.Gather.{AreGathered, AreParts, EndsWithLastFetch, FetchesAt, IsRefused, Lists, NoneFetches, fetch_follows, gathered, grown, is_idle, lists, may_fetch, may_join, more_fetched, more_sent, next_of, shorter, ungrown};
 ghost use Rattle.dml_core.specs.Gather as word;
 
-use crate::counts::{count_one, first_count, next_counted};
+use crate::counts::{count_one, next_counted};
 use crate::errors::StepFault;
 use crate::lists::SentJobs;
 use crate::rooms::Rooms;
-use crate::stepping::{MAX_OPEN, Next, Outset, Refusal, one_if, set_out};
+use crate::stepping::{MAX_OPEN, Outset, Refusal, one_if, set_out};
 use crate::values::{Fetched, Step};
 use crate::worlds::World;
 use dml_types::Job;
@@ -96,19 +96,18 @@ impl World {
         };
         self.forget_committed();
         let most = steps.len().min(MOST_STEPS);
-        self.gather_row(alloc, client, &next, &steps[..most])
+        self.gather_row(alloc, next.open_jobs, &steps[..most])
     }
 
-    /// Takes submits and fetches, as far as they can be taken, up to the last fetch. Of the client of the first it is
-    /// known what is next. Only the plan behind the last fetch is made, since each fetch plans all open jobs anew; by
-    /// then the lists hold no more than they do behind that fetch. Where the allocator has no memory left for it, the
-    /// steps are taken back, and the room that the lists grew by.
-    fn gather_row(&mut self, alloc: Global, client: u32, next: &Next, steps: &[Step]) -> Turn
+    /// Takes submits and fetches, as far as they can be taken, up to the last fetch. So many of the fetched jobs are
+    /// open. Only the plan behind the last fetch is made, since each fetch plans all open jobs anew; by then the lists
+    /// hold no more than they do behind that fetch. Where the allocator has no memory left for it, the steps are taken
+    /// back, and the room that the lists grew by.
+    fn gather_row(&mut self, alloc: Global, open_jobs: usize, steps: &[Step]) -> Turn
         requires some { 0 < length steps.now }
         requires fetch { FetchesAt steps.now 0 }
         requires idle { is_idle self.old ≡ true }
-        requires part { next.now.part ≡ length (part_of client self.old.fetched) }
-        requires open_jobs { next.now.open_jobs ≡ length (open_places self.old.fetched) }
+        requires open_jobs { open_jobs ≡ length (open_places self.old.fetched) }
         ensures within { result.taken + result.alone ≤ length steps.now }
         ensures onward { result.is_refused ≡ false → 0 < result.taken + result.alone }
         ensures reached { Reaches self.old (take result.taken steps.now) self.new }
@@ -117,24 +116,19 @@ impl World {
         ensures tried { result.taken ≡ 0 → 0 < result.tried
             → EndsWithLastFetch (take result.tried steps.now) result.alone }
     {
-        let mut parts = first_count(client, next.part);
+        let (from, parts) = (self.fetched.len(), self.parts);
         let before = Rooms::of(&self.sent, &self.fetched);
         let mut rooms = before;
         let row = push_steps(
             &mut self.sent,
             &mut self.fetched,
-            next.open_jobs,
-            &mut parts,
+            open_jobs,
+            &mut self.parts,
             &mut rooms,
             steps,
         );
         if row.count == 0 {
-            return Turn {
-                taken: 0,
-                alone: 1,
-                tried: one_if(row.wants_memory),
-                is_refused: false,
-            };
+            return Turn::first_alone(row.wants_memory);
         }
         let end = end_with_fetch(
             &mut self.sent,
@@ -142,7 +136,7 @@ impl World {
             &rooms,
             &steps[..row.count],
         );
-        match set_out(alloc, self.fetched.as_slice(), &self.settings) {
+        match set_out(alloc, &mut self.places, &self.fetched, from, &self.settings) {
             Ok(Outset { waves, tasks }) => {
                 self.waves = waves;
                 self.committed = 0;
@@ -153,6 +147,7 @@ impl World {
             Err(_) => {
                 take_back(&mut self.sent, &mut self.fetched, &steps[..end], 0);
                 before.give_back(&mut self.sent, &mut self.fetched);
+                self.parts = parts;
                 Turn::without_plan(&steps[..end])
             }
         }
@@ -199,6 +194,21 @@ impl Turn {
             alone: 0,
             tried: 0,
             is_refused: true,
+        }
+    }
+
+    /// No step was taken. The first is to be taken by itself, and it may have been tried in vain.
+    fn first_alone(is_tried: bool) -> Turn
+        ensures taken { result.taken ≡ 0 }
+        ensures alone { result.alone ≡ 1 }
+        ensures tried { result.tried ≤ 1 }
+        ensures is_refused { result.is_refused ≡ false }
+    {
+        Turn {
+            taken: 0,
+            alone: 1,
+            tried: one_if(is_tried),
+            is_refused: false,
         }
     }
 
@@ -290,17 +300,17 @@ fn fetch_from(clients: usize, steps: &[Step], from: usize) -> usize
 
 /// Makes the lists of an idle world longer by the steps, which begin with a fetch, up to the first that cannot be
 /// taken, or that no fetch follows. So many of the fetched jobs are open, and so many each client's; each fetch counts
-/// one more, so they are counted once at most. Where submits follow a fetch, the room that the lists have is noted.
+/// one more. Where submits follow a fetch, the room that the lists have is noted.
 fn push_steps(
     sent: &mut Vec<SentJobs>,
     fetched: &mut Vec<Fetched>,
     open_jobs: usize,
-    parts: &mut [Option<usize>],
+    parts: &mut [usize],
     rooms: &mut Rooms,
     steps: &[Step],
 ) -> Row
     requires open_jobs { open_jobs ≡ length (open_places fetched.old.items) }
-    requires parts { AreParts parts.old fetched.old.items }
+    requires parts { AreParts parts.old (length sent.old.items) fetched.old.items }
     requires fetch { FetchesAt steps.now 0 }
     ensures within { result.count ≤ length steps.now }
     ensures stops { result.count ≡ length steps.now → (result.wants_memory || result.is_refused) ≡ false }
@@ -313,6 +323,7 @@ fn push_steps(
         → FetchesAt steps.now (result.count - 1) }
     ensures gathered { AreGathered (lists sent.old.items fetched.old.items) (take result.count steps.now)
         (lists sent.new.items fetched.new.items) }
+    ensures parts { AreParts parts.new (length sent.new.items) fetched.new.items }
     ensures few { 0 < result.count → length (open_places fetched.new.items) ≤ 1024 }
     ensures fixed { result.count ≡ 0 → fetched.new.items ≡ fetched.old.items }
 {
@@ -352,15 +363,14 @@ fn next_to_join(
     sent: &[SentJobs],
     fetched: &[Fetched],
     open_jobs: usize,
-    parts: &mut [Option<usize>],
+    parts: &[usize],
     client: u32,
 ) -> Option<Job>
     requires open_jobs { open_jobs ≡ length (open_places fetched.now) }
-    requires parts { AreParts parts.old fetched.now }
+    requires parts { AreParts parts.now (length sent.now) fetched.now }
     ensures may { is_some result ≡ may_fetch sent.now fetched.now client }
     ensures next { IfSome result (λ job. next_of sent.now fetched.now client ≡ Some job) }
     ensures few { OnSome result (length (open_places fetched.now) < 1024) }
-    ensures parts { AreParts parts.new fetched.now }
 {
     if open_jobs >= MAX_OPEN {
         return None;
@@ -380,11 +390,11 @@ fn may_push(
     sent: &[SentJobs],
     fetched: &[Fetched],
     open_jobs: usize,
-    parts: &mut [Option<usize>],
+    parts: &[usize],
     step: &Step,
 ) -> bool
     requires open_jobs { open_jobs ≡ length (open_places fetched.now) }
-    requires parts { AreParts parts.old fetched.now }
+    requires parts { AreParts parts.now (length sent.now) fetched.now }
     ensures { result ≡ may_join (lists sent.now fetched.now) step.now }
 {
     match *step {
@@ -400,13 +410,13 @@ fn push_step(
     sent: &mut Vec<SentJobs>,
     fetched: &mut Vec<Fetched>,
     open_jobs: &mut usize,
-    parts: &mut [Option<usize>],
+    parts: &mut [usize],
     step: &Step,
 ) -> bool
     requires open_jobs { open_jobs.old ≡ length (open_places fetched.old.items) }
-    requires parts { AreParts parts.old fetched.old.items }
+    requires parts { AreParts parts.old (length sent.old.items) fetched.old.items }
     ensures open_jobs { open_jobs.new ≡ length (open_places fetched.new.items) }
-    ensures parts { AreParts parts.new fetched.new.items }
+    ensures parts { AreParts parts.new (length sent.new.items) fetched.new.items }
     ensures taken { result ≡ true → may_join (lists sent.old.items fetched.old.items) step.now ≡ true }
     ensures more { result ≡ true → lists sent.new.items fetched.new.items
         ≡ grown (lists sent.old.items fetched.old.items) step.now }
@@ -424,6 +434,7 @@ fn push_step(
 
 /// Puts a job behind those that a client sent, and answers whether it could.
 fn push_sent(sent: &mut Vec<SentJobs>, client: u32, job: Job) -> bool
+    ensures clients { length sent.new.items ≡ length sent.old.items }
     ensures known { result ≡ true → nat_lt client (length sent.old.items) ≡ true }
     ensures more { result ≡ true → sent.new.items ≡ more_sent sent.old.items client job }
     ensures same { result ≡ false → sent.new.items ≡ sent.old.items }
@@ -445,17 +456,17 @@ fn push_fetched(
     sent: &[SentJobs],
     fetched: &mut Vec<Fetched>,
     open_jobs: &mut usize,
-    parts: &mut [Option<usize>],
+    parts: &mut [usize],
     client: u32,
 ) -> bool
     requires open_jobs { open_jobs.old ≡ length (open_places fetched.old.items) }
-    requires parts { AreParts parts.old fetched.old.items }
+    requires parts { AreParts parts.old (length sent.now) fetched.old.items }
     ensures may { result ≡ true → may_fetch sent.now fetched.old.items client ≡ true }
     ensures more { result ≡ true → fetched.new.items ≡ more_fetched sent.now fetched.old.items client }
     ensures same { result ≡ false → fetched.new.items ≡ fetched.old.items }
     ensures few { result ≡ true → length (open_places fetched.new.items) ≤ 1024 }
     ensures open_jobs { open_jobs.new ≡ length (open_places fetched.new.items) }
-    ensures parts { AreParts parts.new fetched.new.items }
+    ensures parts { AreParts parts.new (length sent.now) fetched.new.items }
 {
     let next = next_to_join(sent, fetched.as_slice(), *open_jobs, parts, client);
     let Some(job) = next else {

@@ -4,6 +4,7 @@ ghost use Rattle.dml_types.specs.Limits.{IsValid};
 ghost use Rattle.dml_core.specs.World.{Reaches, new_world, sent_by};
 ghost use Rattle.dml_core.specs.Replay.{StopsAt};
 
+use crate::counts::COUNTED;
 use crate::errors::{StepFault, WorldError};
 use crate::lists::{Places, SentJobs};
 use crate::stepping::Refusal;
@@ -33,11 +34,16 @@ pub struct World {
     pub(crate) taken: usize,
     pub(crate) hands: Vec<Option<Task>>,
     pub(crate) finished: Vec<Task>,
+    /// How many jobs were fetched of each client.
+    pub(crate) parts: [usize; COUNTED],
+    /// The places of the jobs that the last plan was made of. All that are not committed are among them.
+    pub(crate) places: Vec<usize>,
 }
 
 impl Model for World {
     ghost use Rattle.std.specs.Prelude.{◌≡◌, ◌<◌, ◌≤◌, All, drop, length, map};
     ghost use Rattle.dml_types.specs.Limits.{IsValid};
+    ghost use Rattle.dml_core.specs.Gather.{AreParts, HoldOpen};
     ghost use Rattle.dml_core.specs.World.{kept_task};
     ghost use Rattle.dml_core.specs.World as state;
 
@@ -56,7 +62,9 @@ impl Model for World {
 
     ghost invariant = { λ w. IsValid w.settings × (w.arena.size ≡ w.settings.staging)
         × (w.committed ≤ length w.waves.items) × (w.taken ≤ length w.tasks.items)
-        × All (All (λ i. i < length w.fetched.items)) w.waves.items };
+        × All (All (λ i. i < length w.fetched.items)) w.waves.items
+        × AreParts w.parts (length w.sent.items) w.fetched.items
+        × HoldOpen w.places.items w.fetched.items (length w.fetched.items) };
 }
 
 /// What a world takes memory for before its first step.
@@ -155,6 +163,8 @@ impl World {
                 taken: 0,
                 hands,
                 finished: Vec::new(alloc),
+                parts: [0; COUNTED],
+                places: Vec::new(alloc),
             }),
             Err(error) => Err((image, error)),
         }

@@ -7,7 +7,7 @@ abbrev pub invariant-loop-i : goal.invariant-loop-i
 invariant-loop-i l = record {
   all : AreGathered (lists l.initial.sent.items l.initial.fetched.items) (take l.i l.steps) (lists l.sent.items l.fetched.items);
   counted : l.open_jobs ≡ length (open_places l.fetched.items);
-  parts : AreParts l.parts l.fetched.items;
+  parts : AreParts l.parts (length l.sent.items) l.fetched.items;
   onward : l.i ≤ l.end;
   within : l.end ≤ length l.steps;
   last : 0 < l.end → FetchesAt l.steps (l.end - 1);

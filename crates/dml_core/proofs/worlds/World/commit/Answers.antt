@@ -1,9 +1,11 @@
-use Rattle.std.proofs.Common.{◌≡◌, ◌<◌, ◌+◌, List, ℕ, [], length, get_or, map, drop, set, ap, ◌∙◌, arith}
+use Rattle.std.proofs.Common.{◌≡◌, ◌<◌, ◌+◌, List, ℕ, [], length, get_or, map, drop, rules, set, ap, ◌∙◌, arith}
 use Rattle.std.proofs.lemmas.List.{drop-set-lt, get_or_read}
 use Rattle.dml_core.specs.Types.{Fetched, Task, Commit}
 use Rattle.dml_core.specs.Plan.{jobs_of, tasks_of}
 use Rattle.dml_core.specs.World.{World, after, kept_task}
-use Rattle.dml_core.proofs.StepFacts.{commit_view, world}
+use Rattle.dml_core.proofs.CountLemmas.{parts_after}
+use Rattle.dml_core.proofs.OpenLemmas.{held_after}
+use Rattle.dml_core.proofs.StepFacts.{commit_view, forgotten_inside, world}
 use Rattle.dml_core.proofs.worlds.World.commit.Goals as goal
 
 pub returns-clause-ok : goal.returns-clause-ok
@@ -27,3 +29,17 @@ returns-clause-ok c =
     c.carry_out_wave.ensures.done own tasks in
     ap (λ (left : List (List ℕ)). world s.settings image s.sent.items fetched left c.in-Ok.tasks.items s.hands.items (map (kept_task fetched image) c.clear.new.self.items)) forgotten
     ∙ (cleared ∙ (made ∙ ap (λ (w : World). after w Commit) c.self.view_is))
+
+pub invariant_of-self : goal.invariant_of-self
+invariant_of-self c =
+    let s = c.self.inside in
+    let wave = c.as_slice-4.result.now in
+    let done = c.carry_out_wave.ensures.done in (
+      search rules,
+      search rules,
+      search rules,
+      search rules,
+      forgotten_inside s.waves.items s.committed (length s.fetched.items) (length c.carry_out_wave.new.fetched.items) c.forget.new.self c.forget.ensures c.carry_out_wave.ensures.count c.self.invariant.4,
+      parts_after s.parts (length s.sent.items) s.settings.staging wave s.image c.carry_out_wave.new.image s.fetched.items c.carry_out_wave.new.fetched.items done c.self.invariant.5,
+      held_after s.places.items s.settings.staging wave s.image c.carry_out_wave.new.image s.fetched.items c.carry_out_wave.new.fetched.items done c.self.invariant.6,
+    )

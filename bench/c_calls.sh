@@ -3,18 +3,19 @@
 # of the calls' times, and the bars of calls from C: a move of 4 KiB over memmove, and each call over the same one
 # inside Rattle (`submit_over` on the caller's pages, `submit_to` on an image's own); and moves of pages anywhere in 1
 # GiB in one piece over memmove at the same places, by bench/c_whole.c. Jobs with the staging of an engine beside the
-# same ones with their own from malloc, jobs over eight regions beside one, and a batch of moves of a page beside the
-# list of them that dml_bench hands to an engine of one worker, without a bar, by bench/c_regions.c. Then the jobs
-# straight over buffers, by bench/c_buffers.c, beside the same ones by kazovuni_submit_pointers, with their bars as
-# ratios: of the operation's own call (`buffers`) and of kazovuni_execute (`execute`), which checks the job twice.
+# same ones with their own from malloc, moves, fills, compares and creates over eight regions beside one, and a batch of
+# moves of a page, in one piece, on an image and over eight regions, beside the list of them that dml_bench hands to an
+# engine of one worker, without a bar, by bench/c_regions.c. Then the jobs straight over buffers, by bench/c_buffers.c,
+# beside the same ones by kazovuni_submit_pointers, with their bars as ratios: of the operation's own call (`buffers`)
+# and of kazovuni_execute (`execute`), which checks the job twice.
 #
 # Usage: bench/c_calls.sh [ROUNDS [OLDER [BENCH]]]   15 rounds, where nothing else is said.
 # OLDER is the prefix of an older library, or an older checkout, whose own tools/install_library.sh is run then. The
 # calls of bench/c_calls.c and the jobs of bench/c_buffers.c by kazovuni_submit_pointers (that program built with these
 # alone), which both libraries have, go by turns on the two, and each may take 1.03 of its time on the older one at
 # most; how far memmove and the rows `libc`, which are neither's, are from 1 shows what is chance.
-# BENCH is the program dml_bench as it was before there were batches. It goes by turns too, and the batch of moves may
-# take 1.02 of the list of them on its engine.
+# BENCH is the program dml_bench as it was before there were batches. It goes by turns too, and the batch of moves, in
+# one piece and on an image, may take 1.02 of the list of them on its engine.
 #
 # Wants rt, ar, a C compiler as $CC or cc, with $CFLAGS or -O2, and the program dml_bench built (rt run in
 # crates/dml_bench). Each round runs all programs, every second round in the opposite order, and a difference or a ratio
@@ -102,7 +103,12 @@ while [ "$round" -le "$rounds" ]; do
 done
 
 awk -v busy="$busy" -v older="${older:+1}" -v listed="${listed:+1}" '
-    BEGIN { split("buffers execute", ways, " "); split("pointers libc", kept, " ") }
+    BEGIN {
+        split("buffers execute", ways, " "); split("pointers libc", kept, " ")
+        regionals = split("move fill compare create", regional, " ")
+        places = split("moves_batch moves_batch_on_image moves_batch_at", place, " ")
+        split("in one piece,on an image,over eight regions", place_names, ",")
+    }
     function sort(list, count,    i, j, t) {
         for (i = 2; i <= count; i++)
             for (j = i; j > 1 && list[j - 1] > list[j]; j--) {
@@ -201,13 +207,16 @@ awk -v busy="$busy" -v older="${older:+1}" -v listed="${listed:+1}" '
             ratio("create_in", "create_whole", 4096), 0.85)
         ratio_bar("apply of 20 entries with the staging of an engine, to the same", \
             ratio("apply_in", "apply_whole", 4096), 0.75)
-        for (bytes = 64; bytes <= 4096; bytes *= 64)
-            bar("move of " bytes " bytes over eight regions, over the same over one", \
-                over("move_at_eight", "move_at_one", bytes), 40)
-        text = "batch of 1,024 moves of a page, to a list of them on an engine"
-        printf("%-72s %6.3f\n", text, ratio("moves_batch", "list_page_moves", 4096))
-        if (listed && (1, "older_list_page_moves", 4096) in times)
-            ratio_bar(text " before", ratio("moves_batch", "older_list_page_moves", 4096), 1.02)
+        for (n = 1; n <= regionals; n++)
+            for (bytes = 64; bytes <= 4096; bytes *= 64)
+                bar(regional[n] " of " bytes " bytes over eight regions, over the same over one", \
+                    over(regional[n] "_at_eight", regional[n] "_at_one", bytes), 40)
+        for (n = 1; n <= places; n++) {
+            text = "batch of 1,024 moves of a page " place_names[n] ", to a list on an engine"
+            printf("%-72s %6.3f\n", text, ratio(place[n], "list_page_moves", 4096))
+            if (n < places && listed && (1, "older_list_page_moves", 4096) in times)
+                ratio_bar(text " before", ratio(place[n], "older_list_page_moves", 4096), 1.02)
+        }
         for (n = 1; older && n <= rows; n++) {
             split(row[n], part, " ")
             if (part[1] ~ /^kazovuni_/ && (1, "older_" part[1], part[2]) in times)

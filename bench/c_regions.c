@@ -1,8 +1,9 @@
 /*
  * The time of jobs with the staging of an engine, beside the same ones by kazovuni_submit_whole, which takes its own
  * from malloc; of a job over eight regions beside the same one over a single region; and of a batch of moves of a page
- * beside a list of them. Rows of a name, a number of bytes and the nanoseconds of one job, the median of rounds in
- * which the two go by turns. bench/c_calls.sh builds and runs it.
+ * beside a list of them, over one piece, on an image of an engine's own, and over eight regions. Rows of a name, a
+ * number of bytes and the nanoseconds of one job, the median of rounds in which two go by turns. bench/c_calls.sh
+ * builds and runs it.
  */
 #include "kazovuni.h"
 #include "timing.h"
@@ -11,7 +12,7 @@ enum { PAGE = KAZOVUNI_PAGE_BYTES, PAGES = 2048, SIZE = PAGES * PAGE, ROUNDS = 4
 
 static uint8_t *bytes;
 static uint8_t descriptor[64], record[32], descriptors[MOVES][64], records[MOVES][32], batch[32];
-static kazovuni_engine engine;
+static kazovuni_engine engine, image;
 static kazovuni_region one[1], eight[8];
 
 static uint8_t whole(void)
@@ -39,9 +40,25 @@ static uint8_t list(void)
     return kazovuni_submit_list_in(&engine, bytes, SIZE, descriptors, MOVES, records, MOVES);
 }
 
+/* What a batch answers: its code, or one where its own record is no success. */
+static uint8_t succeeded(uint8_t code)
+{
+    return batch[0] == KAZOVUNI_STATUS_SUCCESS ? code : UINT8_MAX;
+}
+
 static uint8_t batch_in(void)
 {
-    return kazovuni_submit_batch_in(&engine, bytes, SIZE, descriptors, MOVES, records, MOVES, batch);
+    return succeeded(kazovuni_submit_batch_in(&engine, bytes, SIZE, descriptors, MOVES, records, MOVES, batch));
+}
+
+static uint8_t batch_on_image(void)
+{
+    return succeeded(kazovuni_submit_batch(&image, descriptors, MOVES, records, MOVES, batch));
+}
+
+static uint8_t batch_at(void)
+{
+    return succeeded(kazovuni_submit_batch_at(&engine, eight, 8, descriptors, MOVES, records, MOVES, batch));
 }
 
 static void give_up(const char *what)
@@ -89,6 +106,51 @@ static void describe(kazovuni_job job)
         give_up("a descriptor");
 }
 
+static void print_regions(const char *name, kazovuni_job job)
+{
+    describe(job);
+    print_rows(name, job.size, "at_one", at_one, "at_eight", at_eight, CALLS, 1);
+}
+
+/* Jobs of 64 bytes and of a page from the first region to the last, and a create's record in the middle. */
+static void print_all_regions(void)
+{
+    print_regions("move", (kazovuni_job){.opcode = KAZOVUNI_OP_MOVE, .source = 64, .target = SIZE - PAGE, .size = 64});
+    print_regions("move", (kazovuni_job){.opcode = KAZOVUNI_OP_MOVE, .target = SIZE - PAGE, .size = PAGE});
+    /* of zeros, as its target has them, so that the compares go to their end */
+    print_regions("fill", (kazovuni_job){.opcode = KAZOVUNI_OP_FILL, .target = SIZE - PAGE, .size = 64});
+    print_regions("fill", (kazovuni_job){.opcode = KAZOVUNI_OP_FILL, .target = SIZE - PAGE, .size = PAGE});
+    print_regions("compare", (kazovuni_job){.opcode = KAZOVUNI_OP_COMPARE, .target = SIZE - PAGE, .size = 64});
+    print_regions("compare", (kazovuni_job){.opcode = KAZOVUNI_OP_COMPARE, .target = SIZE - PAGE, .size = PAGE});
+    /* in which one block differs, and 20 do */
+    for (size_t i = 0; i < 20; i++)
+        bytes[SIZE - 2 * PAGE + i * 200] = 1;
+    kazovuni_job create = {.opcode = KAZOVUNI_OP_CREATE_DELTA, .target = SIZE - 2 * PAGE, .extra = SIZE / 2};
+    create.size = 64, create.delta_size = 80;
+    print_regions("create", create);
+    create.size = PAGE, create.delta_size = 5120;
+    print_regions("create", create);
+}
+
+/* A batch of moves, each of a page to the one beside it, as dml_bench moves them in its list_page_moves. */
+static void print_moves(void)
+{
+    for (uint64_t i = 0; i < MOVES; i++) {
+        kazovuni_job move = {
+            .opcode = KAZOVUNI_OP_MOVE, .source = 2 * i * PAGE, .target = (2 * i + 1) * PAGE, .size = PAGE};
+        if (!kazovuni_encode(&move, descriptors[i]))
+            give_up("a descriptor");
+    }
+    if (kazovuni_create(&image, PAGES, MEBIBYTE) != KAZOVUNI_OK)
+        give_up("no engine");
+    for (uint32_t i = 0; i < PAGES; i++)
+        if (kazovuni_bring(&image, i, bytes + (size_t)i * PAGE) != KAZOVUNI_OK)
+            give_up("a page");
+    print_rows("moves", PAGE, "list", list, "batch", batch_in, 4, MOVES);
+    print_rows("moves", PAGE, "batch_on_image", batch_on_image, "batch_at", batch_at, 4, MOVES);
+    kazovuni_free(&image);
+}
+
 int main(void)
 {
     bytes = calloc(PAGES, PAGE);
@@ -107,21 +169,9 @@ int main(void)
     describe((kazovuni_job){.opcode = KAZOVUNI_OP_APPLY_DELTA, .source = 2 * PAGE, .target = PAGE, .size = PAGE,
                             .delta_size = 200});
     print_rows("apply", PAGE, "whole", whole, "in", in, CALLS, 1);
-
-    describe((kazovuni_job){.opcode = KAZOVUNI_OP_MOVE, .source = 64, .target = SIZE - PAGE, .size = 64});
-    print_rows("move", 64, "at_one", at_one, "at_eight", at_eight, CALLS, 1);
-    describe((kazovuni_job){.opcode = KAZOVUNI_OP_MOVE, .source = 0, .target = SIZE - PAGE, .size = PAGE});
-    print_rows("move", PAGE, "at_one", at_one, "at_eight", at_eight, CALLS, 1);
-
-    /* each page to the one beside it, as dml_bench moves them in its list_page_moves */
-    for (uint64_t i = 0; i < MOVES; i++) {
-        kazovuni_job move = {
-            .opcode = KAZOVUNI_OP_MOVE, .source = 2 * i * PAGE, .target = (2 * i + 1) * PAGE, .size = PAGE};
-        if (!kazovuni_encode(&move, descriptors[i]))
-            give_up("a descriptor");
-    }
-    print_rows("moves", PAGE, "list", list, "batch", batch_in, 4, MOVES);
+    print_all_regions();
+    print_moves();
     kazovuni_free(&engine);
     free(bytes);
-    return batch[0] == KAZOVUNI_STATUS_SUCCESS && records[MOVES - 1][0] == KAZOVUNI_STATUS_SUCCESS ? 0 : 2;
+    return records[MOVES - 1][0] == KAZOVUNI_STATUS_SUCCESS ? 0 : 2;
 }

@@ -121,7 +121,8 @@ awk '
             "submit_create_sixteenth:524288 words_equal:524288 words_sixteenth:524288 apply_entries:32768 " \
             "submit_apply_entries:32768 tasks_wave:8192 tasks_alone:8192 each_page_moves:1 " \
             "over_move:64 over_move:4096 own_move:64 own_move:4096 " \
-            "piece_has_ps:16777216 piece_present_ps:16777216 piece_move:64 piece_move:4096 piece_move:1048576 " \
+            "addresses_ps:16777216 piece_has_ps:16777216 piece_present_ps:16777216 piece_move:64 piece_move:4096 " \
+            "piece_move:1048576 " \
             "piece_edge:4096 piece_fill:4096 one_segment_has_ps:16777216 one_segment_present_ps:16777216 " \
             "one_segment_move:64 one_segment_move:4096 one_segment_move:1048576 one_segment_edge:4096 " \
             "one_segment_fill:4096 eight_segments_has_ps:16777216 eight_segments_present_ps:16777216 " \

@@ -76,7 +76,8 @@ enum {
     KAZOVUNI_BAD_ADDRESS = 15,     /* a region's address is no multiple of 4,096 */
     KAZOVUNI_REGION_PAST = 16,     /* a region ends above 2^44 - 4,096 */
     KAZOVUNI_NOT_RISING = 17,      /* a region begins before the one in front of it ends */
-    KAZOVUNI_TOO_MANY_JOBS = 18    /* a batch has 2^32 jobs or more */
+    KAZOVUNI_TOO_MANY_JOBS = 18,   /* a batch has 2^32 jobs or more */
+    KAZOVUNI_NULL_REGION = 19      /* a region's pointer is NULL, and its length is not 0 */
 };
 
 /* Opcodes: those of the operations that there are, and a batch's, which no single descriptor may have. */
@@ -388,10 +389,13 @@ uint8_t kazovuni_submit_batch_in(
  * touch, and a job may go over from one to the next; a page in none of them is absent. They may lie anywhere in the
  * process, in any order, but share no byte with each other, which no test sees, nor with the table, descriptors or
  * records. Each pointer is valid for its length. The table is as it was once the call returns. KAZOVUNI_NO_ENGINE;
- * KAZOVUNI_NO_REGIONS, KAZOVUNI_TOO_MANY_REGIONS, and region by region KAZOVUNI_BAD_LENGTH, KAZOVUNI_BAD_ADDRESS,
- * KAZOVUNI_REGION_PAST, KAZOVUNI_NOT_RISING; of the second and third KAZOVUNI_NOT_AS_MANY, of the third
- * KAZOVUNI_TOO_MANY_JOBS; tested in this order, before anything is done. The room for the table is the engine's own, so
- * no memory is asked for; KAZOVUNI_NO_MEMORY would answer that it is gone.
+ * KAZOVUNI_NO_REGIONS, KAZOVUNI_TOO_MANY_REGIONS, KAZOVUNI_NULL_REGION, and region by region KAZOVUNI_BAD_LENGTH,
+ * KAZOVUNI_BAD_ADDRESS, KAZOVUNI_REGION_PAST, KAZOVUNI_NOT_RISING; of the second and third KAZOVUNI_NOT_AS_MANY, of the
+ * third KAZOVUNI_TOO_MANY_JOBS; tested in this order, before anything is done. The room for the table is the engine's
+ * own, so no memory is asked for; KAZOVUNI_NO_MEMORY would answer that it is gone.
+ *
+ * For NULL this header looks itself: behind these names stand its own functions, below, which call the library's. Who
+ * calls the library's, from another language, passes no such region.
  */
 uint8_t kazovuni_submit_at(
     kazovuni_engine *engine, kazovuni_region *regions, size_t count, const void *descriptor, void *record);
@@ -403,6 +407,55 @@ uint8_t kazovuni_submit_list_at(
 uint8_t kazovuni_submit_batch_at(
     kazovuni_engine *engine, kazovuni_region *regions, size_t count, const void *descriptors, size_t jobs,
     void *records, size_t answers, void *batch_record);
+
+/* Whether a table that is not too long has a region whose pointer is NULL where its length is not 0. */
+KAZOVUNI_INLINE bool kazovuni_has_null_region(const kazovuni_region *regions, size_t count)
+{
+    if (count > KAZOVUNI_MOST_REGIONS)
+        return false;
+    for (size_t i = 0; i < count; i++)
+        if (regions[i].bytes == NULL && regions[i].length != 0)
+            return true;
+    return false;
+}
+
+/* The code of a table with such a region, where the call with an empty table answers this one. */
+KAZOVUNI_INLINE uint8_t kazovuni_null_region_code(uint8_t code)
+{
+    return code == KAZOVUNI_NO_REGIONS ? KAZOVUNI_CAST(uint8_t, KAZOVUNI_NULL_REGION) : code;
+}
+
+KAZOVUNI_INLINE uint8_t kazovuni_checked_submit_at(
+    kazovuni_engine *engine, kazovuni_region *regions, size_t count, const void *descriptor, void *record)
+{
+    if (kazovuni_has_null_region(regions, count))
+        return kazovuni_null_region_code(kazovuni_submit_at(engine, regions, 0, descriptor, record));
+    return kazovuni_submit_at(engine, regions, count, descriptor, record);
+}
+
+KAZOVUNI_INLINE uint8_t kazovuni_checked_submit_list_at(
+    kazovuni_engine *engine, kazovuni_region *regions, size_t count, const void *descriptors, size_t jobs,
+    void *records, size_t answers)
+{
+    if (kazovuni_has_null_region(regions, count))
+        return kazovuni_null_region_code(
+            kazovuni_submit_list_at(engine, regions, 0, descriptors, jobs, records, answers));
+    return kazovuni_submit_list_at(engine, regions, count, descriptors, jobs, records, answers);
+}
+
+KAZOVUNI_INLINE uint8_t kazovuni_checked_submit_batch_at(
+    kazovuni_engine *engine, kazovuni_region *regions, size_t count, const void *descriptors, size_t jobs,
+    void *records, size_t answers, void *batch_record)
+{
+    if (kazovuni_has_null_region(regions, count))
+        return kazovuni_null_region_code(
+            kazovuni_submit_batch_at(engine, regions, 0, descriptors, jobs, records, answers, batch_record));
+    return kazovuni_submit_batch_at(engine, regions, count, descriptors, jobs, records, answers, batch_record);
+}
+
+#define kazovuni_submit_at kazovuni_checked_submit_at
+#define kazovuni_submit_list_at kazovuni_checked_submit_list_at
+#define kazovuni_submit_batch_at kazovuni_checked_submit_batch_at
 
 /* What stands in a descriptor at a place: a number, an address, and the pointer that it is. x86-64 has them so too. */
 KAZOVUNI_INLINE uint32_t kazovuni_number_at(const uint8_t *place)

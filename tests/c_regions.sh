@@ -1,11 +1,13 @@
 #!/bin/sh
 # Jobs over regions of memory, and what else an engine is for beside its own image, through the C library as both of the
 # kit's compilers make it: the names of the header beside those of linux/idxd.h (tests/c/names.c); each code, the order
-# of the codes, and worked rows (regions.c), those of batches and fences among them (fences.c); random jobs over random
-# regions beside the same ones on an engine's own pages (regions_random.c): all of these as gcc and clang compile them,
-# under the address, leak and undefined-behaviour sanitizers. And threads with engines of their own over pages that
-# stand side by side, and with one engine that goes round (regions_threads.c), under helgrind and drd, each of which has
-# to report two planted races: one handle in two threads with no lock, and one page in two tables. `check` calls it.
+# of the codes, and worked rows (regions.c), those of batches and fences among them (fences.c, batches.c); random jobs,
+# lists and batches over random regions beside the same ones on an engine's own pages (regions_random.c): all of these
+# as gcc and clang compile them, under the address, leak and undefined-behaviour sanitizers. And threads with engines of
+# their own over pages that stand side by side, and with one engine that goes round (regions_threads.c), under helgrind
+# and drd, each of which has to report two planted races: one handle in two threads with no lock, and one page in two
+# tables. An atomic, by which it goes round too, these two do not know: the thread sanitizer looks at that, as far as it
+# is told of memory, and has to report the same round by an atomic that orders nothing. `check` calls it.
 #
 # Usage, from anywhere: sh tests/c_regions.sh [SEED [COUNT]]   seed 1 and 100,000 random jobs where nothing else is said
 # Wants rt, gcc or clang with its sanitizers, and valgrind; where one of these is not there, a line says so.
@@ -18,6 +20,7 @@ seed=${1:-1}
 count=${2:-100000}
 strict='-std=c11 -Wall -Wextra -Werror -pedantic -Wno-missing-field-initializers -gdwarf-4'
 sanitized="-O1 -fsanitize=address,undefined -fno-sanitize-recover=all"
+ordered="-O1 -fsanitize=thread"
 
 complain() {
     printf 'c_regions: %s\n' "$*" >&2
@@ -31,12 +34,12 @@ has() {
     return 1
 }
 
-# sanitizes COMPILER: whether it is there, and its sanitizers with it
+# sanitizes COMPILER WORD..: whether it is there, and its sanitizers of these words with it
 sanitizes() {
     has "$1" || return
     echo 'int main(void) { return 0; }' >"$work/none.c"
-    "$1" $sanitized -o "$work/none" "$work/none.c" 2>/dev/null && "$work/none" 2>/dev/null && return
-    echo "c_regions: $1 has no sanitizers here: what it would build or run is left out"
+    "$@" -o "$work/none" "$work/none.c" 2>/dev/null && "$work/none" 2>/dev/null && return
+    echo "c_regions: $* has no sanitizers here: what it would build or run is left out"
     return 1
 }
 
@@ -73,21 +76,36 @@ reports() {
     done
 }
 
+# orders: a round by an atomic, and one by an atomic that orders nothing, which is reported
+orders() {
+    passes "the thread sanitizer over an atomic $by" "$work/regions_threads" 40 atomic
+    "$work/regions_threads" 40 relaxed >"$work/out" 2>&1
+    status=$?
+    [ "$status" = 66 ] || complain "no report of an atomic that orders nothing $by: status $status"
+}
+
 for kit in llvm rattle; do
     passes "the library of $kit" tools/install_library.sh "$work/$kit" --backend "$kit" || exit 1
 done
 tried=
 for compiler in gcc clang; do
-    sanitizes "$compiler" || continue
+    sanitizes "$compiler" $sanitized || continue
     tried="$tried $compiler"
     for kit in llvm rattle; do
         by="by $compiler on the library of $kit"
         compiled names "$compiler" $sanitized
         compiled regions "$compiler" $sanitized && passes "rows $by" "$work/regions" && left_out
         compiled fences "$compiler" $sanitized && passes "fences $by" "$work/fences" && left_out
+        compiled batches "$compiler" $sanitized && passes "batches $by" "$work/batches"
         compiled regions_random "$compiler" $sanitized &&
             passes "random jobs $by" "$work/regions_random" "$count" "$seed"
-        compiled regions_threads "$compiler" $sanitized && passes "threads $by" "$work/regions_threads" 200
+        compiled regions_threads "$compiler" $sanitized && passes "threads $by" "$work/regions_threads" 200 &&
+            passes "threads by an atomic $by" "$work/regions_threads" 200 atomic
+    done
+    sanitizes "$compiler" $ordered || continue
+    for kit in llvm rattle; do
+        by="by $compiler on the library of $kit"
+        compiled regions_threads "$compiler" $ordered && orders
     done
 done
 [ -n "$tried" ] || { complain "neither gcc nor clang is here with its sanitizers"; exit 1; }

@@ -1,18 +1,19 @@
 #!/bin/sh
-# Counts the threads that `dmljob run`, a list of an engine, lists and batches over lent memory and a round of a portal
-# start, by tests/started.c: no gate is given there, and no answer and no contract tells how many workers a list or a
-# batch had. Where the system has no thread left, the answers are the same. Works on the program and on the tests of
-# dml_engine and dml_portal that the gate leaves in crates/NAME/out; `check` calls it. Needs the GNU C library, timeout,
-# and a C compiler (CC, or cc).
+# Counts the threads that `dmljob run`, a list of an engine, lists and batches over lent memory, a round of a portal and
+# the guide's monitor start, by tests/started.c: no gate is given there, and no answer and no contract tells how many
+# workers a list or a batch had. Where the system has no thread left, the answers are the same. Works on the programs
+# and on the tests of dml_engine and dml_portal that the gate leaves in crates/NAME/out; `check` calls it. Needs the GNU
+# C library, timeout, and a C compiler (CC, or cc).
 cd "$(dirname "$0")/.." || exit 2
 work=$(mktemp -d) || exit 2
 trap 'rm -rf "$work"' EXIT
 dmljob=crates/dmljob/out/dmljob
 engines=crates/dml_engine_tests/out/dml_engine_tests_tests
 portals=crates/dml_portal_tests/out/dml_portal_tests_tests
+guest=crates/example_guest/out/example_guest
 chunk=65536
 failed=0
-for program in "$dmljob" "$engines" "$portals"; do
+for program in "$dmljob" "$engines" "$portals" "$guest"; do
     [ -x "$program" ] || { echo "starts: $program is missing: run rt ci first" >&2; exit 1; }
 done
 "${CC:-cc}" -O2 -Wall -Wextra -Werror -shared -fPIC -o "$work/started.so" tests/started.c -ldl || exit 1
@@ -108,6 +109,18 @@ test_of() {
     fi
 }
 
+# guest_starts WANTED: the guide's monitor starts so many threads, and prints what it is to
+guest_starts() {
+    rm -f "$work/log"
+    timeout 60 env STARTED_LOG="$work/log" LD_PRELOAD="$work/started.so" "$guest" >"$work/out" 2>&1 </dev/null
+    status=$?
+    started=$(threads)
+    if [ "$status" -ne 0 ] || [ "$started" != "$1" ] || ! cmp "$work/out" crates/example_guest/stdout >&2; then
+        echo "starts: example_guest: status $status, $started threads started, not $1" >&2
+        failed=1
+    fi
+}
+
 # limited MOST WORKERS JOBS WITH WHAT: the jobs of the file `jobs` start so many threads where the system has no more,
 # and are answered byte for byte as they are where it has: so many end with success, so many of them with a difference
 limited() {
@@ -161,6 +174,10 @@ test_of 30 "$engines" tests::lists::large_compares
 # are started.
 test_of 4 "$engines" tests::pieces::list_on_workers_over_one_piece
 test_of 4 "$engines" tests::pieces::batch_on_workers_over_one_piece
+# A list over segments: see there what each of its waves shares.
+test_of 2 "$engines" tests::segments::list_on_workers_over_eight_segments
+# A monitor's batch over two segments: the two compares before its fence share 1,998,848 bytes, which pay for two.
+guest_starts 1
 # Each wave of a list is judged by itself: the fills between the compares share nothing, and those behind them pay again.
 twice >"$work/jobs"
 expect 6 4 1048576 8 'four compares, fills into their sources, and four compares' <"$work/jobs"

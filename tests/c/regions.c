@@ -90,17 +90,27 @@ static uint8_t submit_at(kazovuni_engine *engine, kazovuni_job job, uint8_t reco
     return code;
 }
 
-/* The code of a table with a no-op; where the table is refused, the record stays as it was. */
+/*
+ * The code of a table with a no-op, as a job, as a list and as a batch of one, which answer the same; where the table
+ * is refused, no record is written, and the numbers of descriptors and records are not looked at.
+ */
 static uint8_t code_of(kazovuni_engine *engine, kazovuni_region *regions, size_t count)
 {
-    static const uint8_t descriptor[64] = {0};
-    uint8_t record[32];
-    memset(record, 0xcc, sizeof record);
-    uint8_t code = kazovuni_submit_at(engine, regions, count, descriptor, record);
-    if (code == KAZOVUNI_OK)
-        EXPECT(record[0] == KAZOVUNI_STATUS_SUCCESS);
-    else
-        EXPECT(record[0] == 0xcc && record[31] == 0xcc);
+    static const uint8_t descriptor[1][64] = {{0}};
+    uint8_t records[3][32], batch[32];
+    memset(records, 0xcc, sizeof records);
+    memset(batch, 0xcc, sizeof batch);
+    uint8_t code = kazovuni_submit_at(engine, regions, count, descriptor, records[0]);
+    EXPECT(kazovuni_submit_list_at(engine, regions, count, descriptor, 1, records[1], 1) == code);
+    EXPECT(kazovuni_submit_batch_at(engine, regions, count, descriptor, 1, records[2], 1, batch) == code);
+    bool is_refused = code != KAZOVUNI_OK;
+    for (int i = 0; i < 3; i++)
+        EXPECT(is_refused ? records[i][0] == 0xcc && records[i][31] == 0xcc : records[i][0] == KAZOVUNI_STATUS_SUCCESS);
+    EXPECT(is_refused ? batch[0] == 0xcc && batch[31] == 0xcc : batch[0] == KAZOVUNI_STATUS_SUCCESS);
+    if (is_refused) {
+        EXPECT(kazovuni_submit_list_at(engine, regions, count, descriptor, 1, records, 0) == code);
+        EXPECT(kazovuni_submit_batch_at(engine, regions, count, descriptor, 1, records, 0, batch) == code);
+    }
     return code;
 }
 
@@ -172,6 +182,79 @@ static void try_two_regions(kazovuni_engine *engine)
     }
 }
 
+/*
+ * A region whose pointer is NULL and whose length is not 0, in each place of a table: looked for behind the handle and
+ * the number of regions, and before any other rule of any region.
+ */
+static void try_null_regions(kazovuni_engine *engine)
+{
+    kazovuni_engine none = {0};
+    kazovuni_region many[KAZOVUNI_MOST_REGIONS + 1];
+    uint8_t descriptors[2][64] = {{0}}, records[1][32] = {{0xcc}}, batch[32] = {0xcc};
+    for (int i = 0; i <= KAZOVUNI_MOST_REGIONS; i++)
+        many[i] = (kazovuni_region){1, page, 1};
+    for (int i = 0; i < KAZOVUNI_MOST_REGIONS; i++) {
+        many[i] = (kazovuni_region){1, NULL, 1};
+        EXPECT(code_of(engine, many, KAZOVUNI_MOST_REGIONS) == KAZOVUNI_NULL_REGION);
+        EXPECT(code_of(engine, many, (size_t)i + 1) == KAZOVUNI_NULL_REGION);
+        EXPECT(code_of(engine, many, (size_t)i) == (i == 0 ? KAZOVUNI_NO_REGIONS : KAZOVUNI_BAD_LENGTH));
+        EXPECT(many[i].address == 1 && many[i].bytes == NULL && many[i].length == 1);
+        many[i] = (kazovuni_region){1, page, 1};
+    }
+    many[1] = (kazovuni_region){PAGE, NULL, PAGE};
+    EXPECT(code_of(&none, many, 2) == KAZOVUNI_NO_ENGINE);
+    EXPECT(code_of(engine, many, KAZOVUNI_MOST_REGIONS + 1) == KAZOVUNI_TOO_MANY_REGIONS);
+    /* before the counts of a list and of a batch */
+    EXPECT(kazovuni_submit_list_at(&none, many, 2, descriptors, 2, records, 1) == KAZOVUNI_NO_ENGINE);
+    EXPECT(kazovuni_submit_batch_at(&none, many, 2, descriptors, 2, records, 1, batch) == KAZOVUNI_NO_ENGINE);
+    EXPECT(kazovuni_submit_list_at(engine, many, 2, descriptors, 2, records, 1) == KAZOVUNI_NULL_REGION);
+    EXPECT(kazovuni_submit_batch_at(engine, many, 2, descriptors, 2, records, 1, batch) == KAZOVUNI_NULL_REGION);
+    EXPECT(kazovuni_submit_list_at(engine, many, 2, descriptors, 1, records, 1) == KAZOVUNI_NULL_REGION);
+    EXPECT(kazovuni_submit_batch_at(engine, many, 2, descriptors, 1, records, 1, batch) == KAZOVUNI_NULL_REGION);
+    EXPECT(records[0][0] == 0xcc && batch[0] == 0xcc);
+    /* of no byte: the rule on lengths */
+    many[1] = (kazovuni_region){PAGE, NULL, 0};
+    many[0] = (kazovuni_region){0, page, PAGE};
+    EXPECT(code_of(engine, many, 2) == KAZOVUNI_BAD_LENGTH);
+}
+
+/*
+ * A NULL in each place of a table whose other regions are sound, and jobs that would fill both of these: none of their
+ * bytes is changed, no record is written, and the table is as it was. With a pointer in its place the jobs fill them.
+ */
+static void try_null_beside_sound(kazovuni_engine *engine)
+{
+    static uint8_t sound[3][PAGE];
+    uint8_t descriptors[2][64], records[2][32], batch[32];
+    kazovuni_region regions[3];
+    memset(sound, 0x5a, sizeof sound);
+    memset(records, 0xcc, sizeof records);
+    memset(batch, 0xcc, sizeof batch);
+    for (int null = 0; null < 3; null++) {
+        for (int i = 0, job = 0; i < 3; i++) {
+            uint64_t address = (uint64_t)i * 2 * PAGE;
+            kazovuni_job fill = {.opcode = KAZOVUNI_OP_FILL, .target = address, .size = PAGE};
+            regions[i] = (kazovuni_region){address, i == null ? NULL : sound[i], PAGE};
+            if (i != null)
+                EXPECT(kazovuni_encode(&fill, descriptors[job++]));
+        }
+        EXPECT(kazovuni_submit_at(engine, regions, 3, descriptors[0], records[0]) == KAZOVUNI_NULL_REGION);
+        EXPECT(kazovuni_submit_at(engine, regions, 3, descriptors[1], records[0]) == KAZOVUNI_NULL_REGION);
+        EXPECT(kazovuni_submit_list_at(engine, regions, 3, descriptors, 2, records, 2) == KAZOVUNI_NULL_REGION);
+        EXPECT(kazovuni_submit_batch_at(engine, regions, 3, descriptors, 2, records, 2, batch) == KAZOVUNI_NULL_REGION);
+        EXPECT(records[0][0] == 0xcc && records[1][31] == 0xcc && batch[0] == 0xcc && batch[31] == 0xcc);
+        for (int i = 0; i < 3 * PAGE; i++)
+            EXPECT(sound[i / PAGE][i % PAGE] == 0x5a);
+        for (int i = 0; i < 3; i++)
+            EXPECT(regions[i].address == (uint64_t)i * 2 * PAGE && regions[i].length == PAGE &&
+                   regions[i].bytes == (i == null ? NULL : sound[i]));
+    }
+    regions[2].bytes = sound[2];
+    EXPECT(kazovuni_submit_batch_at(engine, regions, 3, descriptors, 2, records, 2, batch) == KAZOVUNI_OK);
+    for (int i = 0; i < 3 * PAGE; i++)
+        EXPECT(sound[i / PAGE][i % PAGE] == (i < 2 * PAGE ? 0 : 0x5a));
+}
+
 /* What a table is refused for; none of its bytes is changed. */
 static void try_tables(kazovuni_engine *engine)
 {
@@ -179,6 +262,8 @@ static void try_tables(kazovuni_engine *engine)
     try_numbers(engine);
     try_one_region(engine);
     try_two_regions(engine);
+    try_null_regions(engine);
+    try_null_beside_sound(engine);
     for (size_t i = 0; i < sizeof page; i++)
         EXPECT(page[i] == 0x5a);
 }
@@ -322,11 +407,17 @@ static void try_counts(int place, kazovuni_engine *engine)
     expect_record(batch, KAZOVUNI_STATUS_SUCCESS, 0, 0, 0, 0, __LINE__);
 }
 
-/* Memory and codes are tested before the counts. */
+/* The handle is looked at before the memory, and the memory before the counts. */
 static void try_memory_first(kazovuni_engine *engine)
 {
     uint8_t descriptors[2][64] = {{0}}, records[1][32] = {{0xcc}}, batch[32] = {0xcc};
     kazovuni_region wrong = {1, pages, PAGE};
+    kazovuni_engine none = {0};
+    EXPECT(kazovuni_submit_in(&none, pages, 1, descriptors, records) == KAZOVUNI_NO_ENGINE);
+    EXPECT(kazovuni_submit_list_in(&none, pages, 1, descriptors, 2, records, 1) == KAZOVUNI_NO_ENGINE);
+    EXPECT(kazovuni_submit_batch_in(&none, pages, 1, descriptors, 2, records, 1, batch) == KAZOVUNI_NO_ENGINE);
+    EXPECT(kazovuni_submit_list_in(&none, NULL, 0, descriptors, 1, records, 1) == KAZOVUNI_NO_ENGINE);
+    EXPECT(kazovuni_submit_batch_in(&none, NULL, 0, descriptors, 1, records, 1, batch) == KAZOVUNI_NO_ENGINE);
     EXPECT(kazovuni_submit_list_in(engine, pages, 1, descriptors, 2, records, 1) == KAZOVUNI_NOT_PAGES);
     EXPECT(kazovuni_submit_batch_in(engine, pages, 1, descriptors, 2, records, 1, batch) == KAZOVUNI_NOT_PAGES);
     EXPECT(kazovuni_submit_list_at(engine, NULL, 0, descriptors, 2, records, 1) == KAZOVUNI_NO_REGIONS);

@@ -1,6 +1,8 @@
 /*
  * Random jobs over random regions by kazovuni_submit_at, beside the same jobs by kazovuni_submit on an image of an
- * engine's own, whose pages are present where a region has them: the same records, and the same bytes in the end.
+ * engine's own, whose pages are present where a region has them: the same records, and the same bytes in the end. A
+ * third of the calls are kazovuni_submit_list_at beside kazovuni_submit_list, and kazovuni_submit_batch_at beside
+ * kazovuni_submit_batch, of none to eight jobs, some of them with the fence.
  *
  * Usage: regions_random [JOBS [SEED]]
  */
@@ -10,8 +12,8 @@
 #include <stdlib.h>
 #include <string.h>
 
-enum { PAGE = KAZOVUNI_PAGE_BYTES, PAGES = 16, SIZE = PAGES * PAGE, STAGING = 8000, JOBS_OF_A_TABLE = 512 };
-enum { JOBS_BETWEEN_LOOKS = 8 };
+enum { PAGE = KAZOVUNI_PAGE_BYTES, PAGES = 16, SIZE = PAGES * PAGE, STAGING = 8000 };
+enum { CALLS_OF_A_TABLE = 256, CALLS_BETWEEN_LOOKS = 4, MOST_TOGETHER = 8 };
 
 static uint64_t state;
 
@@ -31,7 +33,7 @@ static uint64_t below(uint64_t most)
 static kazovuni_engine image, staging;
 static kazovuni_region table[PAGES];
 static size_t regions;
-static unsigned long accepted, refused, faults, crossings;
+static unsigned long accepted, refused, faults, crossings, abandoned, lists, batches;
 
 static void give_up(const char *what, unsigned long job)
 {
@@ -135,54 +137,104 @@ static bool crosses(const kazovuni_range *range)
     return false;
 }
 
-static void try_job(unsigned long n)
+/* What a record says of its job. */
+static void count(const uint8_t descriptor[64], const uint8_t record[32])
 {
-    uint8_t descriptor[64], record[32], wanted[32];
-    kazovuni_region before[PAGES];
     kazovuni_range ranges[3];
-    make_job(descriptor);
-    memcpy(before, table, sizeof before);
-    memset(record, 0xcc, sizeof record);
-    memset(wanted, 0x33, sizeof wanted);
-    if (kazovuni_submit(&image, descriptor, wanted) != KAZOVUNI_OK ||
-        kazovuni_submit_at(&staging, table, regions, descriptor, record) != KAZOVUNI_OK)
-        give_up("the code", n);
-    if (memcmp(record, wanted, 32) != 0)
-        give_up("the record", n);
-    if (memcmp(before, table, sizeof before) != 0)
-        give_up("the table", n);
-    uint32_t count = kazovuni_ranges(descriptor, ranges);
+    uint32_t most = kazovuni_ranges(descriptor, ranges);
+    bool is_abandoned = record[0] == KAZOVUNI_STATUS_ABANDONED;
     bool is_fault = (record[0] & 0x7f) == KAZOVUNI_STATUS_READ_FAULT;
     bool is_refused = !is_fault && record[0] >= KAZOVUNI_STATUS_BAD_OPCODE;
+    abandoned += is_abandoned;
     refused += is_refused;
     faults += is_fault;
-    accepted += !is_refused;
-    for (uint32_t i = 0; i < count; i++)
-        crossings += !is_refused && crosses(&ranges[i]);
+    accepted += !is_refused && !is_abandoned;
+    for (uint32_t i = 0; i < most; i++)
+        crossings += !is_refused && !is_abandoned && crosses(&ranges[i]);
 }
 
-int main(int count, char **words)
+/* The jobs of one call, by each of the two ways; the records that each has written, and those of the batches. */
+static uint8_t descriptors[MOST_TOGETHER][64], records[2][MOST_TOGETHER][32], own[2][32];
+enum { ALONE, LIST, BATCH };
+
+static bool is_answered(int form, size_t jobs)
 {
-    unsigned long jobs = count > 1 ? strtoul(words[1], NULL, 10) : 100000;
-    state = count > 2 ? strtoull(words[2], NULL, 10) : 7;
+    switch (form) {
+    case ALONE:
+        return kazovuni_submit(&image, descriptors[0], records[0][0]) == KAZOVUNI_OK &&
+               kazovuni_submit_at(&staging, table, regions, descriptors[0], records[1][0]) == KAZOVUNI_OK;
+    case LIST:
+        return kazovuni_submit_list(&image, descriptors[0], jobs, records[0][0], jobs) == KAZOVUNI_OK &&
+               kazovuni_submit_list_at(&staging, table, regions, descriptors, jobs, records[1], jobs) == KAZOVUNI_OK;
+    default:
+        return kazovuni_submit_batch(&image, descriptors, jobs, records[0], jobs, own[0]) == KAZOVUNI_OK &&
+               kazovuni_submit_batch_at(&staging, table, regions, descriptors, jobs, records[1], jobs, own[1]) ==
+                   KAZOVUNI_OK;
+    }
+}
+
+/* One call, of some jobs that are yet to come; answers how many. */
+static unsigned long try_call(unsigned long n, unsigned long left)
+{
+    int form = below(3) != 0 ? ALONE : below(2) == 0 ? LIST : BATCH;
+    size_t jobs = form == ALONE ? 1 : below(MOST_TOGETHER + 1);
+    kazovuni_region before[PAGES];
+    jobs = jobs < left ? jobs : left;
+    for (size_t i = 0; i < jobs; i++) {
+        make_job(descriptors[i]);
+        if (form != ALONE && below(4) == 0)
+            descriptors[i][4] |= KAZOVUNI_FLAG_FENCE;
+    }
+    memcpy(before, table, sizeof before);
+    memset(records, 0xcc, sizeof records);
+    memset(own, 0xcc, sizeof own);
+    if (!is_answered(form, jobs))
+        give_up("the code", n);
+    if (memcmp(records[0], records[1], sizeof records[0]) != 0)
+        give_up("a record", n);
+    if (memcmp(own[0], own[1], 32) != 0 || (form == BATCH) == (own[0][0] == 0xcc))
+        give_up("the batch's own record", n);
+    if (memcmp(before, table, sizeof before) != 0)
+        give_up("the table", n);
+    for (size_t i = 0; i < jobs; i++)
+        count(descriptors[i], records[1][i]);
+    for (size_t i = 0; i < MOST_TOGETHER; i++)
+        if ((records[1][i][0] == 0xcc) != (i >= jobs))
+            give_up("which records are written", n);
+    lists += form == LIST;
+    batches += form == BATCH;
+    return jobs;
+}
+
+static void print_counts(unsigned long jobs)
+{
+    printf("regions_random: %lu jobs: %lu carried out, %lu of them with a page fault, %lu refused, %lu abandoned; ",
+           jobs, accepted, faults, refused, abandoned);
+    printf("%lu lists and %lu batches; %lu ranges go over from one region into the next\n", lists, batches, crossings);
+}
+
+int main(int words_given, char **words)
+{
+    unsigned long jobs = words_given > 1 ? strtoul(words[1], NULL, 10) : 100000;
+    state = words_given > 2 ? strtoull(words[2], NULL, 10) : 7;
     state = state * UINT64_C(0x9e3779b97f4a7c15) + 1;
     if (kazovuni_create_staging(&staging, STAGING) != KAZOVUNI_OK)
         return 2;
-    for (unsigned long n = 0; n < jobs; n++) {
-        if (n % JOBS_OF_A_TABLE == 0)
+    for (unsigned long n = 0, calls = 0; n < jobs; calls++) {
+        if (calls % CALLS_OF_A_TABLE == 0)
             make_table();
-        if (n % JOBS_BETWEEN_LOOKS == 0)
-            plant_entries();
-        try_job(n);
-        if (n % JOBS_BETWEEN_LOOKS == JOBS_BETWEEN_LOOKS - 1 || n + 1 == jobs)
+        if (calls % CALLS_BETWEEN_LOOKS == 0) {
             look(n);
+            plant_entries();
+        }
+        n += try_call(n, jobs - n);
     }
+    look(jobs);
     for (size_t i = 0; i < regions; i++)
         free(table[i].bytes);
     kazovuni_free(&image);
     kazovuni_free(&staging);
-    printf("regions_random: %lu jobs: %lu carried out, %lu of them with a page fault, %lu refused; ", jobs, accepted,
-           faults, refused);
-    printf("%lu ranges go over from one region into the next\n", crossings);
-    return accepted < jobs / 4 || refused < jobs / 20 || faults < jobs / 20 || crossings < jobs / 20;
+    print_counts(jobs);
+    return accepted < jobs / 4 || refused < jobs / 20 || faults < jobs / 20 || crossings < jobs / 20 ||
+           abandoned < jobs / 50 || lists < jobs / 20 || batches < jobs / 20;
 }

@@ -1,16 +1,19 @@
 /*
  * Four threads at once, each with an engine of its own and a table of pages of one allocation, whose pages stand side
  * by side with those of the others; then one engine that goes round: a thread is handed it by its start and gives it
- * back by its end, or takes it by a lock, and one that did not make it frees it and makes it anew. valgrind's helgrind
- * and drd watch it (tests/c_regions.sh).
+ * back by its end, takes it by a lock, or waits for its turn at an atomic, and one that did not make it frees it and
+ * makes it anew. valgrind's helgrind and drd watch it, and the thread sanitizer (tests/c_regions.sh).
  *
- * Usage: regions_threads ROUNDS [handle | region]   handle: two threads have one handle with no lock between them;
- * region: two of them have the same page. Each of the two has to be reported.
+ * Usage: regions_threads ROUNDS [handle | region | atomic | relaxed]   handle: two threads have one handle with no lock
+ * between them; region: two of them have the same page; relaxed: the atomic orders nothing. Each of these has to be
+ * reported. atomic: the round by the atomic alone, which helgrind and drd do not know, and so are not shown.
  */
 #define _GNU_SOURCE
 #include "kazovuni.h"
 
 #include <pthread.h>
+#include <sched.h>
+#include <stdatomic.h>
 #include <stdio.h>
 #include <stdlib.h>
 #include <string.h>
@@ -88,6 +91,38 @@ static void *work_by_turns(void *argument)
     return NULL;
 }
 
+/*
+ * Whose turn it is, counted on by each thread behind its last call; the next one sees it before its first. The handle
+ * that goes round is no atomic, nor are the pages of a table that goes with it.
+ */
+static atomic_ulong turn;
+static bool has_relaxed_race;
+static kazovuni_region *shared_table;
+
+static unsigned long turn_now(void)
+{
+    return has_relaxed_race ? atomic_load_explicit(&turn, memory_order_relaxed) : atomic_load(&turn);
+}
+
+static void *work_by_an_atomic(void *argument)
+{
+    part *part = argument;
+    for (unsigned long mine = part->number; mine < rounds * THREADS; mine += THREADS) {
+        while (turn_now() != mine)
+            sched_yield();
+        if (mine % (THREADS * 3 + 1) == 0) {
+            kazovuni_free(&shared);
+            part->wrong += kazovuni_create_staging(&shared, STAGING) != KAZOVUNI_OK;
+        }
+        part->wrong += !work_once(&shared, shared_table, mine);
+        if (has_relaxed_race)
+            atomic_store_explicit(&turn, mine + 1, memory_order_relaxed);
+        else
+            atomic_store(&turn, mine + 1);
+    }
+    return NULL;
+}
+
 /* Starts a thread for each part, and waits for all. */
 static unsigned long run(void *(*work)(void *), part parts[], unsigned count)
 {
@@ -125,13 +160,38 @@ static void *let_go(void *argument)
     return NULL;
 }
 
+/* Each of the rounds but the one by an atomic. */
+static unsigned long run_apart_and_by_turns(part parts[THREADS])
+{
+    unsigned long wrong = run(work_apart, parts, THREADS);
+    wrong += run(make, parts, 1);
+    wrong += run(use, parts, 1);
+    wrong += run(let_go, parts, 1);
+    if (kazovuni_create_staging(&shared, STAGING) != KAZOVUNI_OK)
+        exit(2);
+    wrong += run(work_by_turns, parts, has_handle_race ? 2 : THREADS);
+    kazovuni_free(&shared);
+    return wrong;
+}
+
+static unsigned long run_by_an_atomic(part parts[THREADS])
+{
+    if (kazovuni_create_staging(&shared, STAGING) != KAZOVUNI_OK)
+        exit(2);
+    shared_table = parts[0].table;
+    unsigned long wrong = run(work_by_an_atomic, parts, THREADS);
+    kazovuni_free(&shared);
+    return wrong;
+}
+
 int main(int count, char **words)
 {
     part parts[THREADS];
-    unsigned long wrong = 0;
+    const char *way = count > 2 ? words[2] : "";
     rounds = count > 1 ? strtoul(words[1], NULL, 10) : 100;
-    has_handle_race = count > 2 && strcmp(words[2], "handle") == 0;
-    has_region_race = count > 2 && strcmp(words[2], "region") == 0;
+    has_handle_race = strcmp(way, "handle") == 0;
+    has_region_race = strcmp(way, "region") == 0;
+    has_relaxed_race = strcmp(way, "relaxed") == 0;
     pages = aligned_alloc(64, (size_t)PAGE * REGIONS * THREADS);
     if (!pages)
         return 2;
@@ -140,16 +200,10 @@ int main(int count, char **words)
         parts[i] = (part){.number = i};
         make_table(&parts[i], has_region_race && i == 1 ? 0 : i);
     }
-    wrong += run(work_apart, parts, THREADS);
-    wrong += run(make, parts, 1);
-    wrong += run(use, parts, 1);
-    wrong += run(let_go, parts, 1);
-    if (kazovuni_create_staging(&shared, STAGING) != KAZOVUNI_OK)
-        return 2;
-    wrong += run(work_by_turns, parts, has_handle_race ? 2 : THREADS);
-    kazovuni_free(&shared);
+    bool is_atomic = has_relaxed_race || strcmp(way, "atomic") == 0;
+    unsigned long wrong = is_atomic ? run_by_an_atomic(parts) : run_apart_and_by_turns(parts);
     free(pages);
-    bool has_race = has_handle_race || has_region_race;
+    bool has_race = has_handle_race || has_region_race || has_relaxed_race;
     printf("regions_threads: %d threads, %lu rounds, %s\n", THREADS, rounds,
            has_race ? "with a race" : wrong == 0 ? "all as alone" : "and some are wrong");
     return has_race || wrong == 0 ? 0 : 1;

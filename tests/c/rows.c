@@ -1,7 +1,8 @@
 /*
  * Worked rows through kazovuni.h: over the caller's own pages by offsets, by the caller's own pointers and as a list of
- * one; over the same in one piece of any size, alone and as a list of one; and over an image behind a handle, alone and
- * as a list of one. What the record and every byte have to be stands in the table.
+ * one; over the same in one piece of any size, with the staging of an engine there, and over a region for each page,
+ * alone and as a list of one; and over an image behind a handle, alone and as a list of one. What the record and every
+ * byte have to be stands in the table.
  */
 #include "kazovuni.h"
 
@@ -148,10 +149,22 @@ static void expect(uint8_t record[32], const row *row, uint64_t base)
     put(record + 16, row->delta_size, 4);
 }
 
-enum form { BY_OFFSETS, AS_A_LIST, BY_POINTERS, IN_ONE_PIECE, AS_A_LIST_IN_ONE_PIECE, BY_HANDLE, AS_A_LIST_BY_HANDLE };
+enum form {
+    BY_OFFSETS,
+    AS_A_LIST,
+    BY_POINTERS,
+    IN_ONE_PIECE,
+    AS_A_LIST_IN_ONE_PIECE,
+    WITH_STAGING,
+    AS_A_LIST_WITH_STAGING,
+    OVER_REGIONS,
+    AS_A_LIST_OVER_REGIONS,
+    BY_HANDLE,
+    AS_A_LIST_BY_HANDLE
+};
 static const char *const form_names[] = {
-    "by offsets", "as a list", "by pointers", "in one piece", "as a list in one piece", "by a handle",
-    "as a list by a handle"};
+    "by offsets", "as a list", "by pointers", "in one piece", "as a list in one piece", "with staging",
+    "as a list with staging", "over regions", "as a list over regions", "by a handle", "as a list by a handle"};
 
 /* An engine with these bytes as its pages; the program ends where there is none. */
 static void open_over(kazovuni_engine *engine, const uint8_t *bytes, size_t pages)
@@ -180,11 +193,58 @@ static uint8_t submit_by_handle(
     return answer;
 }
 
+/* The same job over one piece, or over a region for each page, with the staging of an engine. */
+static uint8_t submit_staged(
+    uint8_t *bytes, size_t length, enum form form, uint8_t (*descriptor)[64], uint8_t (*records)[32])
+{
+    kazovuni_engine engine = {0};
+    kazovuni_region regions[2];
+    size_t count = length / KAZOVUNI_PAGE_BYTES;
+    uint8_t answer;
+    if (count > 2 || kazovuni_create_staging(&engine, STAGING) != KAZOVUNI_OK)
+        exit(2);
+    for (size_t i = 0; i < count; i++)
+        regions[i] = (kazovuni_region){
+            i * KAZOVUNI_PAGE_BYTES, bytes + i * KAZOVUNI_PAGE_BYTES, KAZOVUNI_PAGE_BYTES};
+    if (form == WITH_STAGING)
+        answer = kazovuni_submit_in(&engine, bytes, length, descriptor, records);
+    else if (form == AS_A_LIST_WITH_STAGING)
+        answer = kazovuni_submit_list_in(&engine, bytes, length, descriptor, 1, records, 1);
+    else if (form == OVER_REGIONS)
+        answer = kazovuni_submit_at(&engine, regions, count, descriptor, records);
+    else
+        answer = kazovuni_submit_list_at(&engine, regions, count, descriptor, 1, records, 1);
+    kazovuni_free(&engine);
+    return answer;
+}
+
+static uint8_t submit(
+    uint8_t *bytes, size_t length, enum form form, uint8_t (*descriptor)[64], uint8_t (*records)[32])
+{
+    switch (form) {
+    case BY_OFFSETS:
+        return kazovuni_submit_over(bytes, length, descriptor[0], STAGING, records[0]);
+    case AS_A_LIST:
+        return kazovuni_submit_list_over(bytes, length, descriptor[0], 1, STAGING, records[0], 1);
+    case BY_POINTERS:
+        return kazovuni_submit_pointers((uintptr_t)bytes, bytes, length, descriptor[0], STAGING, records[0]);
+    case IN_ONE_PIECE:
+        return kazovuni_submit_whole(bytes, length, descriptor[0], STAGING, records[0]);
+    case AS_A_LIST_IN_ONE_PIECE:
+        return kazovuni_submit_list_whole(bytes, length, descriptor[0], 1, STAGING, records[0], 1);
+    case BY_HANDLE:
+    case AS_A_LIST_BY_HANDLE:
+        return submit_by_handle(bytes, length, form, descriptor, records);
+    default:
+        return submit_staged(bytes, length, form, descriptor, records);
+    }
+}
+
 static void try_row(const row *row, enum form form)
 {
     size_t length = row->pages * KAZOVUNI_PAGE_BYTES;
     uint8_t *bytes = calloc(1, length), *after = calloc(1, length);
-    uint8_t descriptor[1][64], records[1][32], wanted[32], answer;
+    uint8_t descriptor[1][64], records[1][32], wanted[32];
     uint64_t base = form == BY_POINTERS ? (uint64_t)(uintptr_t)bytes : 0;
     if (!bytes || !after)
         exit(2);
@@ -195,26 +255,7 @@ static void try_row(const row *row, enum form form)
     describe(descriptor[0], &row->job, base);
     expect(wanted, row, base);
     memset(records, 0xcc, sizeof records);
-    switch (form) {
-    case BY_OFFSETS:
-        answer = kazovuni_submit_over(bytes, length, descriptor[0], STAGING, records[0]);
-        break;
-    case AS_A_LIST:
-        answer = kazovuni_submit_list_over(bytes, length, descriptor[0], 1, STAGING, records[0], 1);
-        break;
-    case BY_POINTERS:
-        answer = kazovuni_submit_pointers(base, bytes, length, descriptor[0], STAGING, records[0]);
-        break;
-    case IN_ONE_PIECE:
-        answer = kazovuni_submit_whole(bytes, length, descriptor[0], STAGING, records[0]);
-        break;
-    case AS_A_LIST_IN_ONE_PIECE:
-        answer = kazovuni_submit_list_whole(bytes, length, descriptor[0], 1, STAGING, records[0], 1);
-        break;
-    default:
-        answer = submit_by_handle(bytes, length, form, descriptor, records);
-    }
-    if (answer != KAZOVUNI_OK)
+    if (submit(bytes, length, form, descriptor, records) != KAZOVUNI_OK)
         complain(row->name, form_names[form], "the answer");
     if (memcmp(records[0], wanted, 32) != 0)
         complain(row->name, form_names[form], "the record");

@@ -1,8 +1,9 @@
 /*
- * The worked rows of tests/c/table.rows through kazovuni.h: over pages of an engine's own, job by job and as lists of
- * jobs; over lent memory, job by job, as lists, and by pointers; and in one piece, job by job and as lists. Behind each
- * call the records and every byte have to be the row's. Lent memory has all of its pages present, so there a row is run
- * whose present pages are its first ones; the pages before and behind them are not mapped.
+ * The worked rows of tests/c/table.rows through kazovuni.h: over pages of an engine's own, and over regions, job by job
+ * and as lists of jobs; over lent memory, job by job, as lists, and by pointers; and in one piece, job by job and as
+ * lists, also with the staging of an engine. Behind each call the records and every byte have to be the row's. The
+ * regions are its pages that are present, and no other page is mapped. Lent memory has all of its pages present, so
+ * there a row is run whose present pages are its first ones; the pages before and behind them are not mapped.
  *
  * A piece has the row's pages alone, or lies before them too, up to the far end of 5 GiB, or up to the line of 4 GiB,
  * which then runs through the row: by a page at a time, and by 8 bytes at a time where the row meets no page fault and
@@ -115,11 +116,29 @@ static void read_lines(const char *name)
 
 /* ---- a memory in one of the forms, and what it has to hold */
 
-enum form { OWN, OWN_LIST, LENT, LENT_LIST, POINTERS, WHOLE, WHOLE_LIST, FAR, FAR_LIST, LINE, LINE_LIST, FORMS };
+enum form {
+    OWN,
+    OWN_LIST,
+    REGIONS,
+    REGIONS_LIST,
+    LENT,
+    LENT_LIST,
+    POINTERS,
+    WHOLE,
+    WHOLE_LIST,
+    STAGED,
+    STAGED_LIST,
+    FAR,
+    FAR_LIST,
+    LINE,
+    LINE_LIST,
+    FORMS
+};
 static const char *const form_names[FORMS] = {
-    "on own pages", "as a list on own pages", "over lent memory", "as a list over lent memory", "by pointers",
-    "in one piece", "as a list in one piece", "at the end of 5 GiB", "as a list at the end of 5 GiB",
-    "over the line of 4 GiB", "as a list over the line of 4 GiB"};
+    "on own pages", "as a list on own pages", "over regions", "as a list over regions", "over lent memory",
+    "as a list over lent memory", "by pointers", "in one piece", "as a list in one piece",
+    "in one piece with staging", "as a list in one piece with staging", "at the end of 5 GiB",
+    "as a list at the end of 5 GiB", "over the line of 4 GiB", "as a list over the line of 4 GiB"};
 
 /* Where a row lies in its piece: how many bytes stand before it, and how many the piece has at least. */
 typedef struct place {
@@ -140,7 +159,19 @@ typedef struct memory {
 
 static bool is_list(enum form form)
 {
-    return form == OWN_LIST || form == LENT_LIST || form == WHOLE_LIST || form == FAR_LIST || form == LINE_LIST;
+    return form == OWN_LIST || form == REGIONS_LIST || form == LENT_LIST || form == WHOLE_LIST ||
+           form == STAGED_LIST || form == FAR_LIST || form == LINE_LIST;
+}
+
+static bool is_in_regions(enum form form)
+{
+    return form == REGIONS || form == REGIONS_LIST;
+}
+
+/* Whether a form has the staging of an engine, and memory of the caller's. */
+static bool is_staged(enum form form)
+{
+    return is_in_regions(form) || form == STAGED || form == STAGED_LIST;
 }
 
 /* Reserves so many bytes, of which the first are mapped; NULL where the system gives none. */
@@ -183,7 +214,8 @@ static void open_memory(memory *memory, const line *line, enum form form, place 
     if (!memory->piece || !memory->wanted)
         give_up(line->number, "no memory");
     memory->lent = memory->piece + place.from;
-    if (form <= OWN_LIST && kazovuni_create(&memory->engine, memory->pages, memory->staging) != KAZOVUNI_OK)
+    if ((form <= OWN_LIST && kazovuni_create(&memory->engine, memory->pages, memory->staging) != KAZOVUNI_OK) ||
+        (is_staged(form) && kazovuni_create_staging(&memory->engine, memory->staging) != KAZOVUNI_OK))
         complain(line->number, form_names[form], "no engine");
 }
 
@@ -240,9 +272,20 @@ static bool is_clear_below(const memory *memory)
     return true;
 }
 
+/* Whether each page that is present has the wanted bytes; no other one is mapped. */
+static bool has_wanted_pages(const memory *memory)
+{
+    for (size_t page = 0; page < memory->pages; page++)
+        if (memory->present[page] && memcmp(memory->lent + page * PAGE, memory->wanted + page * PAGE, PAGE) != 0)
+            return false;
+    return true;
+}
+
 /* Whether every byte is the wanted one, and every other page absent. */
 static bool is_as_wanted(memory *memory)
 {
+    if (is_in_regions(memory->form))
+        return has_wanted_pages(memory);
     if (memory->form > OWN_LIST)
         return memcmp(memory->lent, memory->wanted, memory->length) == 0 && is_clear_below(memory);
     for (size_t page = 0; page < memory->pages; page++) {
@@ -299,6 +342,48 @@ static void lay_at(uint64_t base, bool is_pointer, uint8_t descriptor[64], uint8
         move_address(record + 8, base, is_pointer);
 }
 
+/*
+ * The regions of the pages that are present, of one page and then of more by turns, and behind them one far above, so
+ * that there is one where no page is; answers how many.
+ */
+static size_t make_table(memory *memory, kazovuni_region table[KAZOVUNI_MOST_REGIONS])
+{
+    static uint8_t far_above[PAGE];
+    size_t count = 0;
+    for (size_t page = 0; page < memory->pages; page++) {
+        if (!memory->present[page])
+            continue;
+        if (page > 0 && memory->present[page - 1] && (count % 2 == 0 || count == KAZOVUNI_MOST_REGIONS - 1))
+            table[count - 1].length += PAGE;
+        else if (count < KAZOVUNI_MOST_REGIONS - 1)
+            table[count++] = (kazovuni_region){page * PAGE, memory->lent + page * PAGE, PAGE};
+        else
+            give_up(page, "too many regions");
+    }
+    table[count] = (kazovuni_region){UINT64_C(1) << 43, far_above, PAGE};
+    return count + 1;
+}
+
+/* The calls with the staging of an engine, over one piece and over regions. */
+static uint8_t submit_staged(memory *memory, jobs *jobs)
+{
+    kazovuni_region table[KAZOVUNI_MOST_REGIONS];
+    const uint8_t *descriptors = jobs->descriptors[0];
+    uint8_t *records = jobs->records[0];
+    size_t count = jobs->count, regions = is_in_regions(memory->form) ? make_table(memory, table) : 0;
+    switch (memory->form) {
+    case STAGED:
+        return kazovuni_submit_in(&memory->engine, memory->piece, piece_length(memory), descriptors, records);
+    case STAGED_LIST:
+        return kazovuni_submit_list_in(
+            &memory->engine, memory->piece, piece_length(memory), descriptors, count, records, count);
+    case REGIONS:
+        return kazovuni_submit_at(&memory->engine, table, regions, descriptors, records);
+    default:
+        return kazovuni_submit_list_at(&memory->engine, table, regions, descriptors, count, records, count);
+    }
+}
+
 static uint8_t submit(memory *memory, jobs *jobs)
 {
     const uint8_t *descriptors = jobs->descriptors[0];
@@ -307,6 +392,8 @@ static uint8_t submit(memory *memory, jobs *jobs)
     uint64_t base = is_pointer ? (uintptr_t)memory->lent : memory->place.from;
     for (size_t i = 0; i < jobs->count; i++)
         lay_at(base, is_pointer, jobs->descriptors[i], jobs->wanted[i]);
+    if (is_staged(memory->form))
+        return submit_staged(memory, jobs);
     switch (memory->form) {
     case OWN:
         return kazovuni_submit(&memory->engine, descriptors, records);
@@ -483,8 +570,8 @@ int main(int count, char **arguments)
     }
     if (failed)
         return 1;
-    printf("table: %zu rows of %zu jobs on own pages, %zu of the rows over lent memory and in one piece\n", rows, jobs,
-           lent);
+    printf("table: %zu rows of %zu jobs on own pages and over regions, ", rows, jobs);
+    printf("%zu of the rows over lent memory and in one piece\n", lent);
     if (is_roomy)
         printf("table: these at the end of 5 GiB, and %zu times over the line of 4 GiB\n", times);
     else

@@ -148,7 +148,71 @@ static uint8_t submit_staged(int form, kazovuni_engine *engine, uint8_t bytes[PA
     }
 }
 
-/* An engine for its staging alone; the calls that have it ask for nothing, over the longest table neither. */
+/* A job of each kind that needs staging, and of those that need none, with what each has to answer. */
+enum { STAGED_JOBS = 8 };
+static const kazovuni_job staged_jobs[STAGED_JOBS] = {
+    {.opcode = KAZOVUNI_OP_CREATE_DELTA, .target = 64, .size = 32, .extra = 128, .delta_size = 20},
+    {.opcode = KAZOVUNI_OP_APPLY_DELTA, .source = 128, .target = 256, .size = 32, .delta_size = 20},
+    {.opcode = KAZOVUNI_OP_DUALCAST, .source = 64, .target = 512, .size = 40, .extra = PAGE + 512},
+    {.opcode = KAZOVUNI_OP_COMPARE, .source = 64, .target = PAGE + 512, .size = 40},
+    {.opcode = KAZOVUNI_OP_MOVE, .source = 64, .target = PAGE - 8, .size = 32},
+    {.opcode = KAZOVUNI_OP_MOVE, .source = PAGE - 8, .target = PAGE, .size = 32}, /* over itself */
+    {.opcode = KAZOVUNI_OP_COMPARE_PATTERN, .source = 1024, .size = 64},
+    {.opcode = KAZOVUNI_OP_FILL, .source = 7, .target = PAGE - 64, .size = 128},
+};
+static const kazovuni_record staged_records[STAGED_JOBS] = {
+    {.status = 0x01, .result = 1, .completed = 32, .delta_size = 20},
+    {.status = 0x01, .completed = 20},
+    {.status = 0x01, .completed = 40},
+    {.status = 0x01, .completed = 40},
+    {.status = 0x01, .completed = 32},
+    {.status = 0x01, .result = 1, .completed = 32},
+    {.status = 0x01, .completed = 64},
+    {.status = 0x01, .completed = 128},
+};
+
+static void expect_staged(uint8_t records[STAGED_JOBS][32])
+{
+    uint8_t wanted[32];
+    for (int i = 0; i < STAGED_JOBS; i++) {
+        expect("encode", kazovuni_record_encode(&staged_records[i], wanted));
+        expect("the record of a job with staging", memcmp(records[i], wanted, 32) == 0);
+    }
+    memset(records, 0xcc, STAGED_JOBS * 32);
+}
+
+/* These jobs over one piece and over two regions, one by one, as a list and as a batch. */
+static void walk_staged_jobs(kazovuni_engine *engine)
+{
+    static uint8_t bytes[2 * PAGE];
+    kazovuni_region table[2] = {{0, bytes, PAGE}, {PAGE, bytes + PAGE, PAGE}};
+    uint8_t jobs[STAGED_JOBS][64], records[STAGED_JOBS][32], batch[32];
+    memset(bytes, 0, sizeof bytes);
+    memcpy(bytes + 72, at_72, 8);
+    memcpy(bytes + 88, at_88, 8);
+    for (int i = 0; i < STAGED_JOBS; i++)
+        expect("encode", kazovuni_encode(&staged_jobs[i], jobs[i]));
+    for (int i = 0; i < STAGED_JOBS; i++)
+        expect_done("in", kazovuni_submit_in(engine, bytes, 2 * PAGE, jobs[i], records[i]));
+    expect_staged(records);
+    for (int i = 0; i < STAGED_JOBS; i++)
+        expect_done("at", kazovuni_submit_at(engine, table, 2, jobs[i], records[i]));
+    expect_staged(records);
+    expect_done("list_in", kazovuni_submit_list_in(engine, bytes, 2 * PAGE, jobs, STAGED_JOBS, records, STAGED_JOBS));
+    expect_staged(records);
+    expect_done("list_at", kazovuni_submit_list_at(engine, table, 2, jobs, STAGED_JOBS, records, STAGED_JOBS));
+    expect_staged(records);
+    jobs[STAGED_JOBS - 1][4] = KAZOVUNI_FLAG_FENCE;
+    expect_done(
+        "batch_in", kazovuni_submit_batch_in(engine, bytes, 2 * PAGE, jobs, STAGED_JOBS, records, STAGED_JOBS, batch));
+    expect_staged(records);
+    expect("the batch's own record", batch[0] == 0x01 && batch[4] == STAGED_JOBS);
+    expect_done("batch_at", kazovuni_submit_batch_at(engine, table, 2, jobs, STAGED_JOBS, records, STAGED_JOBS, batch));
+    expect_staged(records);
+    expect("the batch's own record", batch[0] == 0x01 && batch[4] == STAGED_JOBS);
+}
+
+/* An engine for its staging alone; the calls that have it ask for nothing, over the longest table and of any job. */
 static void walk_staged(const uint8_t page[PAGE])
 {
     static uint8_t bytes[PAGE], pages[KAZOVUNI_MOST_REGIONS][PAGE];
@@ -174,6 +238,7 @@ static void walk_staged(const uint8_t page[PAGE])
                     kazovuni_submit_at(&engine, table, KAZOVUNI_MOST_REGIONS, fill, records[0]));
         expect("its record", records[0][0] == 0x01);
     }
+    walk_staged_jobs(&engine);
     expect("a call with staging asks for memory", growths == before && blocks == held);
     kazovuni_free(&engine);
     expect("free", blocks == 0 && !is_met);

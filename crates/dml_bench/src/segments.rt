@@ -11,6 +11,9 @@ use std::time::{Duration, Instant};
 
 const MEBIBYTE: u32 = 1_048_576;
 
+/// How many looks are timed.
+const LOOKS: u32 = 1 << 24;
+
 /// Where an address of a segment is that looks and moves begin at: each of the eight has a mebibyte, and behind it is a
 /// hole of as many bytes.
 fn start(segment: u32) -> u64 {
@@ -60,6 +63,17 @@ fn place(look: u32) -> u64
     start(mixed >> 29).wrapping_add(u64::from(mixed >> 13 & 0x3fff) * 64) & 0xff_ffff
 }
 
+/// Makes the addresses of so many looks one after another, mixes them, and does not look. Answers how many there were, if
+/// anything is left of them.
+#[inline(never)]
+fn addresses_of(looks: u32) -> u32 {
+    let mut mixed = 0u64;
+    for look in 0..looks {
+        mixed = mixed.rotate_left(1) ^ place(look);
+    }
+    if mixed == 0 { 0 } else { looks }
+}
+
 /// How many bytes are present, of those at so many places.
 #[inline(never)]
 fn present_of(image: &Image, looks: u32) -> u32 {
@@ -94,6 +108,14 @@ fn time_looks(rt: &HostRuntime, name: &str, image: &Image, looks: u32) -> io::Re
     let present = all_present_of(image, looks);
     let picoseconds = of_one(start.elapsed(rt)?, looks);
     eprintln!(rt; "{name}_present_ps {present} {picoseconds}")
+}
+
+/// Times the making of as many addresses as there are looks, which the rows of looks have in them.
+fn time_addresses(rt: &HostRuntime, looks: u32) -> io::Result<()> {
+    let start = Instant::now(rt)?;
+    let made = addresses_of(looks);
+    let picoseconds = of_one(start.elapsed(rt)?, looks);
+    eprintln!(rt; "addresses_ps {made} {picoseconds}")
 }
 
 /// The picoseconds of one look, of so many.
@@ -160,7 +182,7 @@ fn time_jobs(rt: &HostRuntime, name: &str, image: &mut Image, measures: bool) ->
 
 /// Times looks and jobs over one memory.
 fn time_over(rt: &HostRuntime, name: &str, image: &mut Image, measures: bool) -> io::Result<()> {
-    time_looks(rt, name, image, if measures { 1 << 24 } else { 1 })?;
+    time_looks(rt, name, image, if measures { LOOKS } else { 1 })?;
     time_jobs(rt, name, image, measures)
 }
 
@@ -189,6 +211,7 @@ fn time_eight(rt: &HostRuntime, content: &mut [u8], measures: bool) -> io::Resul
 /// Times looks and jobs over one piece, one segment and eight.
 pub(crate) fn time_segments(rt: &HostRuntime, measures: bool) -> io::Result<()> {
     let mut content = Vec::from_elem(rt.alloc(), 0x5a, 16 * MEBIBYTE as usize)?;
+    time_addresses(rt, if measures { LOOKS } else { 1 })?;
     time_piece(rt, content.as_mut_slice(), measures)?;
     time_one(rt, content.as_mut_slice(), measures)?;
     time_eight(rt, content.as_mut_slice(), measures)

@@ -56,3 +56,5 @@ pub const NOT_RISING: u8 = 17;
 
 /// A batch has fewer than 2^32 jobs.
 pub const TOO_MANY_JOBS: u8 = 18;
+
+// 19 is the header's own: a region's pointer is NULL, and its length is not 0.

@@ -7,6 +7,7 @@ pub mod CreateChunkLemmas
 pub mod CreateJoinLemmas
 pub mod CreatedLemmas
 pub mod EntryLemmas
+pub mod FillLemmas
 pub mod JoinLemmas
 pub mod LendingLemmas
 pub mod PageLemmas

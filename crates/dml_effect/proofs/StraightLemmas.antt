@@ -146,7 +146,7 @@ module _ (memory : Memory) (job given : Job) (direction : Direction) (found : Fo
         below Backward at = omega (arith, straight_within)
 
 -- a move of which all is present is done whole
-all_toward : (direction : Direction) (memory : Memory) (address n : ℕ) → has_all memory address n ≡ true → n ≡ present_toward direction memory address n
+pub all_toward : (direction : Direction) (memory : Memory) (address n : ℕ) → has_all memory address n ≡ true → n ≡ present_toward direction memory address n
 all_toward Forward memory address n all =
     present_toward_is Forward memory address n n (omega arith) (λ i low. has_all_at memory address n i all low) (λ low. absurd (omega arith))
 all_toward Backward memory address n all =

@@ -224,7 +224,7 @@ scanned_count op memory job direction =
 pub puts_none : (op : Op) (job : Job) (direction : Direction) (k : ℕ) (bytes : List ℕ) → k ≡ 0 → scanned_puts op job direction k bytes ≡ []
 puts_none op job direction k bytes none = ap (λ (b : Bool). cond b [] (puts_when_done op job direction k bytes)) (eq-eqb k 0 none)
 
-puts_some : (op : Op) (job : Job) (direction : Direction) (k : ℕ) (bytes : List ℕ) → 0 < k → scanned_puts op job direction k bytes ≡ puts_when_done op job direction k bytes
+pub puts_some : (op : Op) (job : Job) (direction : Direction) (k : ℕ) (bytes : List ℕ) → 0 < k → scanned_puts op job direction k bytes ≡ puts_when_done op job direction k bytes
 puts_some op job direction k bytes some = ap (λ (b : Bool). cond b [] (puts_when_done op job direction k bytes)) (apart k some)
   where
     apart : (a : ℕ) → 0 < a → eqb a 0 ≡ false

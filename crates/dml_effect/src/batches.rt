@@ -1,7 +1,7 @@
 //! Batches in list order: a fenced job waits for all jobs before it, and is carried out only where each succeeded.
 ghost use Rattle.std.specs.Prelude.{◌≡◌, ◌+◌, ◌-◌, ◌^◌, ◌<◌, ◌≤◌, ◌++◌, ◌&&◌, length, map, nat_eq, not, replicate, take};
 ghost use Rattle.dml_types.specs.declared.statuses.Status.TheVariants.{Abandoned};
-ghost use Rattle.dml_types.specs.Job.{is_fenced};
+ghost use Rattle.dml_types.specs.Job.{is_fenced, unfenced};
 ghost use Rattle.dml_types.specs.Effect.{code_of, ended};
 ghost use Rattle.dml_types.specs.Step.{batch, batch_answer, have_succeeded};
 ghost use Rattle.dml_desc.specs.Descriptor.{bytes_of_record, decoded};
@@ -27,7 +27,7 @@ pub fn submit_batch_to(
 ) -> BatchRecord
     requires few { length jobs.now < 2 ^ 32 }
     requires size { length records.old ≡ length jobs.now }
-    requires staging { HaveRoom jobs.now staging arena.old.size }
+    requires staging { HaveRoom (map unfenced jobs.now) staging arena.old.size }
     ensures image { image.new ≡ (batch image.old jobs.now staging).0 }
     ensures answer { result ≡ (batch image.old jobs.now staging).1 }
     ensures records { records.new ≡ (batch image.old jobs.now staging).2 }
@@ -48,7 +48,7 @@ pub fn carry_out_batch(
     records: &mut [Record],
 ) -> usize
     requires size { length records.old ≡ length jobs.now }
-    requires staging { HaveRoom jobs.now staging arena.old.size }
+    requires staging { HaveRoom (map unfenced jobs.now) staging arena.old.size }
     ensures carried { IsCarried image.old jobs.now staging result image.new records.new }
     ensures ends { EndsAt jobs.now result records.new }
     ensures arena { arena.new ≡ arena.old }
@@ -75,7 +75,7 @@ pub fn submit_batch_bytes_to(
 ) -> BatchRecord
     requires few { length descriptors.now < 2 ^ 32 }
     requires size { length answers.old ≡ length descriptors.now }
-    requires staging { HaveRoom (map decoded descriptors.now) staging arena.old.size }
+    requires staging { HaveRoom (map unfenced (map decoded descriptors.now)) staging arena.old.size }
     ensures image { image.new ≡ (batch image.old (map decoded descriptors.now) staging).0 }
     ensures answer { result ≡ (batch image.old (map decoded descriptors.now) staging).1 }
     ensures records { answers.new
@@ -97,7 +97,7 @@ fn carry_out_batch_bytes(
     answers: &mut [[u8; 32]],
 ) -> (usize, bool)
     requires size { length answers.old ≡ length descriptors.now }
-    requires staging { HaveRoom (map decoded descriptors.now) staging arena.old.size }
+    requires staging { HaveRoom (map unfenced (map decoded descriptors.now)) staging arena.old.size }
     ensures carried { IsCarriedInBytes image.old (map decoded descriptors.now) staging result.0
         image.new answers.new }
     ensures ends { EndsAt (map decoded descriptors.now) result.0

@@ -169,8 +169,24 @@ fn carry_out_other_straight(image: &mut Image, job: &Checked) -> Record
         Op::NoOp => ended(Status::Success, 0, 0),
         Op::Move => unreachable!(),
         Op::Dualcast => by_fields(dualcast_straight(image, job)),
+        Op::Fill => by_fields(fill_straight(image, job)),
         _ => carry_out_effect(image, job),
     }
+}
+
+/// Carries out a fill, at once where it lies in one page.
+#[inline(always)]
+fn fill_straight(image: &mut Image, job: &Checked) -> Record
+    requires operation { op_of job.now ≡ Some Fill }
+    ensures image { image.new ≡ (checked_step image.old job.now).0 }
+    ensures answer { result ≡ (checked_step image.old job.now).1 }
+{
+    let _pages = image.pages(); // says what every image keeps
+    let given = job.job();
+    if image.fill_in_page(given.target, given.size, given.source) {
+        return scanned_record(Op::Fill, given, Direction::Forward, Found::All);
+    }
+    carry_out_effect(image, job)
 }
 
 /// Carries out a fill, a compare, or an empty create or apply, apart from the jobs that have no effect to commit.

@@ -1,5 +1,6 @@
 //! Jobs over memory that a caller lends in segments.
 ghost use Rattle.std.specs.Prelude.{◌≡◌, ◌^◌, ◌<◌, ◌≤◌, IfOk, OnErr, OnOk, length, map};
+ghost use Rattle.dml_types.specs.Job.{unfenced};
 ghost use Rattle.dml_types.specs.Refusal.{need};
 ghost use Rattle.dml_types.specs.Step.{batch, memory_after, records_of, step};
 ghost use Rattle.dml_desc.specs.Descriptor.{bytes_of_record, decoded};
@@ -37,13 +38,10 @@ pub fn submit_over_segments(
     ensures answer { IfOk result (λ answer.
         answer ≡ (step (pieces_memory (pieces_of segments.old)) job.now staging).1) }
     ensures unchanged { OnErr result (segments.new ≡ segments.old) }
+    ensures segments { AreSegments (pieces_of segments.new) }
     ensures arena { arena.new ≡ arena.old }
 {
-    let Ok(mut list) = Vec::with_capacity(alloc, segments.len()) else {
-        return Err(AllocError);
-    };
-    take_out(segments, &mut list);
-    let mut image = Image::over_segments(list);
+    let mut image = lend(alloc, segments)?;
     let answer = submit_to(&mut image, arena, job, staging);
     put_back(segments, image.into_segments());
     Ok(answer)
@@ -70,13 +68,10 @@ pub fn submit_list_over_segments(
     ensures records { OnOk result (answers.new ≡ map bytes_of_record
         (records_of (pieces_memory (pieces_of segments.old)) (map decoded descriptors.now) staging)) }
     ensures unchanged { OnErr result ((segments.new ≡ segments.old) × (answers.new ≡ answers.old)) }
+    ensures segments { AreSegments (pieces_of segments.new) }
     ensures arena { arena.new ≡ arena.old }
 {
-    let Ok(mut list) = Vec::with_capacity(alloc, segments.len()) else {
-        return Err(AllocError);
-    };
-    take_out(segments, &mut list);
-    let mut image = Image::over_segments(list);
+    let mut image = lend(alloc, segments)?;
     submit_list_bytes_to(&mut image, arena, descriptors, staging, answers);
     put_back(segments, image.into_segments());
     Ok(())
@@ -98,7 +93,7 @@ pub fn submit_batch_over_segments(
     requires segments { AreSegments (pieces_of segments.old) }
     requires few { length descriptors.now < 2 ^ 32 }
     requires size { length answers.old ≡ length descriptors.now }
-    requires staging { HaveRoom (map decoded descriptors.now) staging arena.old.size }
+    requires staging { HaveRoom (map unfenced (map decoded descriptors.now)) staging arena.old.size }
     ensures memory { OnOk result (pieces_memory (pieces_of segments.new)
         ≡ (batch (pieces_memory (pieces_of segments.old)) (map decoded descriptors.now) staging).0) }
     ensures answer { IfOk result (λ answer.
@@ -106,14 +101,25 @@ pub fn submit_batch_over_segments(
     ensures records { OnOk result (answers.new ≡ map bytes_of_record
         (batch (pieces_memory (pieces_of segments.old)) (map decoded descriptors.now) staging).2) }
     ensures unchanged { OnErr result ((segments.new ≡ segments.old) × (answers.new ≡ answers.old)) }
+    ensures segments { AreSegments (pieces_of segments.new) }
     ensures arena { arena.new ≡ arena.old }
+{
+    let mut image = lend(alloc, segments)?;
+    let outcome = submit_batch_bytes_to(&mut image, arena, descriptors, staging, answers);
+    put_back(segments, image.into_segments());
+    Ok(outcome)
+}
+
+/// Segments as an image; until they are put back, they have no bytes in the slice.
+fn lend<'a>(alloc: Global, segments: &mut [Segment<'a>]) -> Result<Image<'a>, AllocError>
+    requires { AreSegments (pieces_of segments.old) }
+    ensures image { IfOk result (λ image. image ≡ pieces_memory (pieces_of segments.old)) }
+    ensures as_many { length segments.new ≡ length segments.old }
+    ensures unchanged { OnErr result (segments.new ≡ segments.old) }
 {
     let Ok(mut list) = Vec::with_capacity(alloc, segments.len()) else {
         return Err(AllocError);
     };
     take_out(segments, &mut list);
-    let mut image = Image::over_segments(list);
-    let outcome = submit_batch_bytes_to(&mut image, arena, descriptors, staging, answers);
-    put_back(segments, image.into_segments());
-    Ok(outcome)
+    Ok(Image::over_segments(list))
 }

@@ -1,5 +1,6 @@
 //! Jobs over memory that a caller lends in one piece, of any size.
 ghost use Rattle.std.specs.Prelude.{◌≡◌, ◌↔◌, ◌^◌, ◌<◌, ◌≤◌, IsTrue, length, map};
+ghost use Rattle.dml_types.specs.Job.{unfenced};
 ghost use Rattle.dml_types.specs.Refusal.{need};
 ghost use Rattle.dml_types.specs.Step.{batch, memory_after, records_of, step};
 ghost use Rattle.dml_desc.specs.Descriptor.{bytes_of_record, decoded};
@@ -90,7 +91,7 @@ pub fn submit_batch_over(
     requires pages { IsWholePages content.old }
     requires few { length descriptors.now < 2 ^ 32 }
     requires size { length answers.old ≡ length descriptors.now }
-    requires staging { HaveRoom (map decoded descriptors.now) staging arena.old.size }
+    requires staging { HaveRoom (map unfenced (map decoded descriptors.now)) staging arena.old.size }
     ensures content { content.new
         ≡ (batch (all_present content.old) (map decoded descriptors.now) staging).0.bytes }
     ensures answer { result ≡ (batch (all_present content.old) (map decoded descriptors.now) staging).1 }

@@ -115,6 +115,12 @@ kept_in_page inside now after source target n true is good in_source in_target p
 kept_in_page inside now after source target n false is good in_source in_target present done kept =
     subst IsMemory (sym (kept refl)) good
 
+-- and a fill of a page
+pub kept_after_fill : (inside now after : Memory) (target n : ℕ) (bytes : List ℕ) (filled : Bool) → inside ≡ now → IsMemory inside → target % 4096 + n ≤ 4096 → length bytes ≡ n → filled ≡ has inside target → (filled ≡ true → after ≡ put inside target bytes) → (filled ≡ false → after ≡ inside) → IsMemory after
+kept_after_fill inside now after target n bytes true is good within size present done kept =
+    kept_after inside after target target n bytes (done refl) good (has_all_of_page inside target n within (sym present)) (omega arith) (omega (arith, size))
+kept_after_fill inside now after target n bytes false is good within size present done kept = subst IsMemory (sym (kept refl)) good
+
 -- a byte of a range is present
 pub byte_of_range : (memory : Memory) (address n k : ℕ) → has_all memory address n ≡ true → address ≤ k → k < address + n → has memory k ≡ true
 byte_of_range memory address n k all low high =

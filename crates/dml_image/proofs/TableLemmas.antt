@@ -1,9 +1,10 @@
 -- A table of pages, and the bytes of all of them, one page after another.
 use Rattle.std.proofs.Common.{◌≡◌, ◌≢◌, ℕ, zero, suc, ◌+◌, ◌-◌, ◌*◌, ◌/◌, ◌%◌, ◌<◌, ◌≤◌, Bool, true, false, List, [], ◌∷◌, ◌++◌, Option, Some, None, flat_map, is_some, length, map, get_or, replicate, set, take, drop, rules, refl, sym, ◌∙◌, ap, ap₂, arith, ⊎_elim}
-use Rattle.std.proofs.lemmas.List.{places, same_lists, map-set, get_or_past, length-map, length-replicate, get_or-set_other}
+use Rattle.std.proofs.lemmas.List.{places, same_lists, map-set, get_or_past, length-map, length-replicate}
 use Rattle.std.proofs.Math.Seq.{map-set_same}
 use Rattle.std.proofs.lemmas.Bool.{cases_lt, false≢true}
 use Rattle.dml_types.specs.Memory.{Memory, has, memory_of, bytes_at, overwrite, put}
+use Rattle.dml_types.proofs.MemoryLemmas.{length_overwrite}
 use Rattle.dml_image.specs.Brought.{all_absent, brought, evicted}
 use Rattle.dml_image.specs.Table.{page_bytes, table_memory, AreWhole}
 
@@ -125,9 +126,6 @@ set_twice [] k first second = refl
 set_twice (page ∷ pages) zero first second = refl
 set_twice (page ∷ pages) (suc k) first second = ap (λ rest. page ∷ rest) (set_twice pages k first second)
 
-pub whole_after_both : (pages : List (Option (List ℕ))) (k : ℕ) (first second : Option (List ℕ)) → AreWhole pages → length (page_bytes second) ≡ 4096 → AreWhole (set (set pages k first) k second)
-whole_after_both pages k first second whole long = rw set_twice (whole_after pages k second whole long)
-
 -- the bytes that a copy reads, as a part of the page and as bytes of the memory
 bytes_read : (pages : List (Option (List ℕ))) (now : Memory) (address n : ℕ) (bytes result : List ℕ) (page : Option (List ℕ)) → table_memory pages ≡ now → AreWhole pages → has now address ≡ true → page ≡ get_or pages (address / 4096) page → page ≡ Some bytes → address % 4096 + n ≤ 4096 → result ≡ bytes → take (address % 4096 + n - address % 4096) (drop (address % 4096) result) ≡ bytes_at now address n
 bytes_read pages now address n bytes result page shown whole here at is within same =
@@ -145,10 +143,87 @@ copied_inside pages now from to n bytes after page shown whole at_from at_to sam
     copied pages now from to n bytes after _ page shown whole at_to at is within_to
     (bytes_read pages now from n bytes bytes page shown whole at_from (at ∙ ap (λ k. get_or pages k page) (sym same)) is within_from refl) done
 
-pub copied_between : (pages : List (Option (List ℕ))) (now : Memory) (from to n : ℕ) (target source result after : List ℕ) (page other held : Option (List ℕ)) → table_memory pages ≡ now → AreWhole pages → has now from ≡ true → has now to ≡ true → from / 4096 ≢ to / 4096 → page ≡ get_or pages (to / 4096) page → page ≡ Some target → other ≡ get_or (set pages (to / 4096) held) (from / 4096) other → other ≡ Some source → from % 4096 + n ≤ 4096 → to % 4096 + n ≤ 4096 → result ≡ source → after ≡ overwrite target (to % 4096) (take (from % 4096 + n - from % 4096) (drop (from % 4096) result)) → table_memory (set (set pages (to / 4096) held) (to / 4096) (Some after)) ≡ put now to (bytes_at now from n)
-copied_between pages now from to n target source result after page other held shown whole at_from at_to apart at is other_at other_is within_from within_to same done =
-    rw set_twice (copied pages now from to n target after _ page shown whole at_to at is within_to
-    (bytes_read pages now from n source result other shown whole at_from (other_at ∙ get_or-set_other pages (to / 4096) (from / 4096) held other apart) other_is within_from same) done)
+-- a list in two parts, with an element of one of them set
+set_in_back : {A : Type 0} (xs : List A) (n : ℕ) (y : A) → n < length xs → take n xs ++ set (drop n xs) 0 y ≡ set xs n y
+set_in_back [] n y low = absurd (omega arith)
+set_in_back (x ∷ xs) zero y low = refl
+set_in_back (x ∷ xs) (suc n) y low = ap (λ rest. x ∷ rest) (set_in_back xs n y (omega arith))
+
+both_parts : {A : Type 0} (xs : List A) (n : ℕ) → take n xs ++ drop n xs ≡ xs
+both_parts xs zero = refl
+both_parts [] (suc n) = refl
+both_parts (x ∷ xs) (suc n) = ap (λ rest. x ∷ rest) (both_parts xs n)
+
+set_in_front : {A : Type 0} (xs : List A) (n k : ℕ) (y : A) → k < n → n ≤ length xs → set (take n xs) k y ++ drop n xs ≡ set xs k y
+set_in_front xs zero k y low fits = absurd (omega arith)
+set_in_front [] (suc n) k y low fits = absurd (omega arith)
+set_in_front (x ∷ xs) (suc n) zero y low fits = ap (λ rest. y ∷ rest) (both_parts xs n)
+set_in_front (x ∷ xs) (suc n) (suc k) y low fits = ap (λ rest. x ∷ rest) (set_in_front xs n k y (omega arith) (omega arith))
+
+at_front : {A : Type 0} (xs : List A) (n k : ℕ) (r d : A) → k < n → n ≤ length xs → r ≡ get_or (take n xs) k r → r ≡ get_or xs k d
+at_front xs zero k r d low fits is = absurd (omega arith)
+at_front [] (suc n) k r d low fits is = absurd (omega arith)
+at_front (x ∷ xs) (suc n) zero r d low fits is = is
+at_front (x ∷ xs) (suc n) (suc k) r d low fits is = at_front xs n k r d (omega arith) (omega arith) is
+
+at_back : {A : Type 0} (xs : List A) (n : ℕ) (r d : A) → n < length xs → r ≡ get_or (drop n xs) 0 r → r ≡ get_or xs n d
+at_back [] n r d low is = absurd (omega arith)
+at_back (x ∷ xs) zero r d low is = is
+at_back (x ∷ xs) (suc n) r d low is = at_back xs n r d (omega arith) is
+
+-- a page of a table, copied over another one, where the table is cut before the page that comes later
+abbrev pub copied_page : Option (List ℕ) → Option (List ℕ) → ℕ → ℕ → ℕ → Option (List ℕ)
+copied_page source target from to n = Some (overwrite (page_bytes target) to (take (from + n - from) (drop from (page_bytes source))))
+
+pub copied_to_back : (pages front behind : List (Option (List ℕ))) (source target from to n : ℕ) (one other new : Option (List ℕ)) → source < target → target < length pages → front ≡ take target pages → behind ≡ drop target pages → one ≡ get_or front source one → other ≡ get_or behind 0 other → new ≡ copied_page one other from to n → front ++ set behind 0 new ≡ set pages target (copied_page (get_or pages source None) (get_or pages target None) from to n)
+copied_to_back pages front behind source target from to n one other new order low is_front is_behind at_one at_other done =
+    let first = at_front pages target source one None order (omega arith) (at_one ∙ ap (λ l. get_or l source one) is_front) in
+    let second = at_back pages target other None low (at_other ∙ ap (λ l. get_or l 0 other) is_behind) in
+    ap₂ (λ (f b : List (Option (List ℕ))). f ++ set b 0 new) is_front is_behind
+    ∙ (set_in_back pages target new low
+    ∙ ap (set pages target) (done ∙ ap₂ (λ x y. copied_page x y from to n) first second))
+
+pub copied_to_front : (pages front behind : List (Option (List ℕ))) (source target from to n : ℕ) (one other new : Option (List ℕ)) → target < source → source < length pages → front ≡ take source pages → behind ≡ drop source pages → one ≡ get_or behind 0 one → other ≡ get_or front target other → new ≡ copied_page one other from to n → set front target new ++ behind ≡ set pages target (copied_page (get_or pages source None) (get_or pages target None) from to n)
+copied_to_front pages front behind source target from to n one other new order low is_front is_behind at_one at_other done =
+    let first = at_back pages source one None low (at_one ∙ ap (λ l. get_or l 0 one) is_behind) in
+    let second = at_front pages source target other None order (omega arith) (at_other ∙ ap (λ l. get_or l target other) is_front) in
+    ap₂ (λ (f b : List (Option (List ℕ))). set f target new ++ b) is_front is_behind
+    ∙ (set_in_front pages source target new order (omega arith)
+    ∙ ap (set pages target) (done ∙ ap₂ (λ x y. copied_page x y from to n) first second))
+
+-- the page of a present byte
+page_of : (pages : List (Option (List ℕ))) (k : ℕ) → get_or (map is_some pages) k false ≡ true → get_or pages k None ≡ Some (page_bytes (get_or pages k None))
+page_of [] k here = absurd (false≢true here)
+page_of (None ∷ pages) zero here = absurd (false≢true here)
+page_of (Some bytes ∷ pages) zero here = refl
+page_of (page ∷ pages) (suc k) here = page_of pages k here
+
+other_default : {A : Type 0} (xs : List A) (k : ℕ) (d e : A) → k < length xs → get_or xs k d ≡ get_or xs k e
+other_default [] k d e low = absurd (omega arith)
+other_default (x ∷ xs) zero d e low = refl
+other_default (x ∷ xs) (suc k) d e low = other_default xs k d e (omega arith)
+
+pub page_here : (pages : List (Option (List ℕ))) (now : Memory) (address : ℕ) → table_memory pages ≡ now → has now address ≡ true → (address / 4096 < length pages) × (get_or pages (address / 4096) None ≡ Some (page_bytes (get_or pages (address / 4096) None)))
+page_here pages now address shown here =
+    let there : has (table_memory pages) address ≡ true = ap (λ (m : Memory). has m address) shown ∙ here in
+    (page_of_byte pages address there, page_of pages (address / 4096) there)
+
+pub copied_between : (pages : List (Option (List ℕ))) (now : Memory) (from to n : ℕ) → table_memory pages ≡ now → AreWhole pages → has now from ≡ true → has now to ≡ true → from % 4096 + n ≤ 4096 → to % 4096 + n ≤ 4096 → table_memory (set pages (to / 4096) (copied_page (get_or pages (from / 4096) None) (get_or pages (to / 4096) None) (from % 4096) (to % 4096) n)) ≡ put now to (bytes_at now from n)
+copied_between pages now from to n shown whole at_from at_to within_from within_to =
+    let source = page_here pages now from shown at_from in
+    let target = page_here pages now to shown at_to in
+    let one = get_or pages (from / 4096) None in
+    let other = get_or pages (to / 4096) None in
+    copied pages now from to n (page_bytes other) _ _ other shown whole at_to (other_default pages (to / 4096) None other target.0) target.1 within_to
+    (bytes_read pages now from n (page_bytes one) (page_bytes one) one shown whole at_from (other_default pages (from / 4096) None one source.0) source.1 within_from refl) refl
+
+pub whole_copied : (pages : List (Option (List ℕ))) (k from to n : ℕ) (source : Option (List ℕ)) → AreWhole pages → k < length pages → from + n ≤ 4096 → to + n ≤ 4096 → AreWhole (set pages k (copied_page source (get_or pages k None) from to n))
+whole_copied pages k from to n source whole low within_from within_to =
+    let full = whole_at pages k (get_or pages k None) None whole low refl in
+    let part = take (from + n - from) (drop from (page_bytes source)) in
+    let most : length part ≤ n = search (rules, places) in
+    whole_after pages k (copied_page source (get_or pages k None) from to n) whole
+    (length_overwrite (page_bytes (get_or pages k None)) to part (omega (arith, full, most)) ∙ full)
 
 -- a page that was brought
 pub page_brought : (pages : List (Option (List ℕ))) (now : Memory) (k : ℕ) (page : Option (List ℕ)) (bytes : List ℕ) → table_memory pages ≡ now → AreWhole pages → k < length now.present → page ≡ get_or pages k page → length bytes ≡ 4096 → table_memory (set (set pages k page) k (Some bytes)) ≡ brought now k bytes

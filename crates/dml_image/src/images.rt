@@ -3,7 +3,9 @@ ghost use Rattle.dml_types.specs.Memory.{IsMemory, has, has_all, byte_at, bytes_
 ghost use Rattle.dml_types.specs.Bytewise.{pattern_bytes};
 ghost use Rattle.dml_image.specs.Blocks.{are_present, block_puts};
 ghost use Rattle.dml_image.specs.Brought.{all_absent, brought, evicted, has_page};
+ghost use Rattle.dml_image.specs.Copied.{IsOneCopy};
 ghost use Rattle.dml_image.specs.Kept.{kept_by, loan_memory};
+ghost use Rattle.dml_image.specs.Present.{IsPartOfPage};
 ghost use Rattle.dml_image.specs.Pieces.{AreSegments, pieces_memory, pieces_of};
 
 use crate::errors::ImageError;
@@ -307,6 +309,21 @@ impl Image<'_> {
         }
     }
 
+    /// The same, or `None` where the byte there is absent: one choice among the kinds of memory, where
+    /// [`has`](Image::has) and [`part`](Image::part) are two.
+    #[inline(always)]
+    pub fn present_part(&self, addr: u64, len: u32) -> Option<&[u8]>
+        ensures part { MatchOption result (has self.now addr ≡ false)
+            (λ part. IsPartOfPage self.now addr len part.now) }
+        ensures memory { IsMemory self.now }
+    {
+        match &self.pages {
+            Pages::Own(table) => table.present_part(addr, len as usize),
+            Pages::Lent(lent) => lent.present_part(addr, len),
+            Pages::Segments(segments) => segments.present_part(addr, len as usize),
+        }
+    }
+
     /// Reads bytes from this address on into the whole buffer.
     pub fn read_into(&self, addr: u64, buffer: &mut [u8])
         requires { IsTrue (has_all self.now addr (length buffer.old)) }
@@ -340,6 +357,22 @@ impl Image<'_> {
         self.pages.fill(addr, len, pattern);
     }
 
+    /// The same where the range lies in one page, and that page is present. Answers whether it was done; else nothing is
+    /// changed.
+    pub fn fill_in_page(&mut self, addr: u64, len: u32, pattern: u64) -> bool
+        ensures target { IsTrue result → IsTrue (has_all self.old addr len) }
+        ensures bytes { IsTrue result → self.new ≡ put self.old addr (pattern_bytes pattern len) }
+        ensures goes { addr % 4096 + len ≤ 4096 → IsTrue (has self.old addr) → IsTrue result }
+        ensures unchanged { result ≡ false → self.new ≡ self.old }
+        ensures memory { IsMemory self.new }
+    {
+        let _ = &self.pages; // what is looked at is an image
+        if rest_of_page(addr) < len as usize {
+            return false;
+        }
+        self.pages.fill_in_page(addr, len, pattern)
+    }
+
     /// Puts the 8 bytes of each whole entry of a delta record at the block from `target` on that it numbers, in the
     /// order of the entries.
     pub fn put_blocks(&mut self, target: u64, entries: &[u8])
@@ -368,6 +401,9 @@ impl Image<'_> {
         ensures source { IsTrue result → IsTrue (has_all self.old source len) }
         ensures target { IsTrue result → IsTrue (has_all self.old target len) }
         ensures bytes { IsTrue result → self.new ≡ put self.old target (bytes_at self.old source len) }
+        ensures goes { 0 < len → source % 4096 + len ≤ 4096 → target % 4096 + len ≤ 4096
+            → IsOneCopy source target len → IsTrue (has self.old source) → IsTrue (has self.old target)
+            → IsTrue result }
         ensures unchanged { result ≡ false → self.new ≡ self.old }
         ensures memory { IsMemory self.new }
     {

@@ -1,8 +1,9 @@
-ghost use Rattle.std.specs.Prelude.{◌≡◌, ◌≢◌, ◌+◌, ◌-◌, ◌%◌, ◌<◌, ◌≤◌, ◌↔◌, false, Some, min, length, IsErr, IsOk, IsSome, IsTrue, OnErr, OnOk, ◌&&◌};
+ghost use Rattle.std.specs.Prelude.{◌≡◌, ◌≢◌, ◌+◌, ◌-◌, ◌%◌, ◌<◌, ◌≤◌, ◌↔◌, false, Some, min, length, IsErr, IsOk, IsSome, IsTrue, MatchOption, OnErr, OnOk, ◌&&◌};
 ghost use Rattle.dml_types.specs.Memory.{IsMemory, has, has_all, bytes_at, put, puts_made};
 ghost use Rattle.dml_types.specs.Bytewise.{pattern_bytes};
 ghost use Rattle.dml_image.specs.Blocks.{are_present, block_puts};
 ghost use Rattle.dml_image.specs.Copied.{IsOneCopy};
+ghost use Rattle.dml_image.specs.Present.{IsPartOfPage};
 ghost use Rattle.dml_image.specs.Kept.{lent_memory, loan_memory};
 ghost use Rattle.dml_image.specs.Brought.{brought, has_page};
 
@@ -130,6 +131,20 @@ impl<'a> Lent<'a> {
         &self.content[place..place + of_page.min(len as usize)]
     }
 
+    /// The same, or `None` where the byte there is absent.
+    #[inline(always)]
+    pub(crate) fn present_part(&self, addr: u64, len: u32) -> Option<&[u8]>
+        requires { IsMemory (loan_memory self.now) }
+        ensures { MatchOption result (has (loan_memory self.now) addr ≡ false)
+            (λ part. IsPartOfPage (loan_memory self.now) addr len part.now) }
+    {
+        if self.has(addr) {
+            Some(self.part(addr, len))
+        } else {
+            None
+        }
+    }
+
     /// Reads bytes from this address on into the whole buffer.
     #[tactic(auto, using(crate::proofs::WriteLemmas::range_within, crate::proofs::WriteLemmas::read_behind))]
     pub(crate) fn read_into(&self, addr: u64, buffer: &mut [u8])
@@ -170,6 +185,23 @@ impl<'a> Lent<'a> {
             return; // no byte there is present, so the range is empty
         }
         fill_at(self.content, place, len as usize, pattern);
+    }
+
+    /// The same within a page, where it is present. Returns whether it is.
+    #[tactic(auto, using(crate::proofs::RunLemmas::has_all_of_page))]
+    pub(crate) fn fill_in_page(&mut self, addr: u64, len: u32, pattern: u64) -> bool
+        requires memory { IsMemory (loan_memory self.old) }
+        requires within { addr % 4096 + len ≤ 4096 }
+        ensures present { result ≡ has (loan_memory self.old) addr }
+        ensures filled { IsTrue result
+            → loan_memory self.new ≡ put (loan_memory self.old) addr (pattern_bytes pattern len) }
+        ensures kept { result ≡ false → loan_memory self.new ≡ loan_memory self.old }
+    {
+        if !self.has(addr) {
+            return false;
+        }
+        self.fill(addr, len, pattern);
+        true
     }
 
     /// Puts the blocks of all whole entries of a delta record.

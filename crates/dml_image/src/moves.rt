@@ -1,6 +1,7 @@
 //! Moves of bytes inside an image, whatever ranges overlap, with no stage and no allocation.
 ghost use Rattle.std.specs.Prelude.{◌≡◌, ◌+◌, ◌-◌, ◌<◌, ◌≤◌, ◌⊎◌, IsTrue, ◌&&◌, ◌%◌, false};
 ghost use Rattle.dml_types.specs.Memory.{IsMemory, has_all, bytes_at, put, has};
+ghost use Rattle.dml_types.specs.Bytewise.{pattern_bytes};
 ghost use Rattle.dml_image.specs.Copied.{IsCopyIn, IsOneCopy};
 ghost use Rattle.dml_image.specs.Kept.{kept_by};
 
@@ -177,6 +178,25 @@ impl Pages<'_> {
             Pages::Own(table) => table.copy_in_page(source, target, len),
             Pages::Lent(lent) => lent.copy_in_page(source, target, len),
             Pages::Segments(segments) => segments.copy_in_page(source, target, len),
+        }
+    }
+
+    /// Repeats the 8 bytes of a pattern, low byte first, over `len` bytes of one page, where it is present. Returns
+    /// whether it is.
+    // It stands apart, as `copy_in_page` does.
+    #[inline(never)]
+    pub fn fill_in_page(&mut self, addr: u64, len: u32, pattern: u64) -> bool
+        requires memory { IsMemory (kept_by self.old) }
+        requires within { addr % 4096 + len ≤ 4096 }
+        ensures present { result ≡ has (kept_by self.old) addr }
+        ensures filled { IsTrue result
+            → kept_by self.new ≡ put (kept_by self.old) addr (pattern_bytes pattern len) }
+        ensures kept { result ≡ false → kept_by self.new ≡ kept_by self.old }
+    {
+        match self {
+            Pages::Own(table) => table.fill_in_page(addr, len as usize, pattern),
+            Pages::Lent(lent) => lent.fill_in_page(addr, len, pattern),
+            Pages::Segments(segments) => segments.fill_in_page(addr, len as usize, pattern),
         }
     }
 }

@@ -1,16 +1,17 @@
 //! Memory in segments: what an image does over them.
-ghost use Rattle.std.specs.Prelude.{◌≡◌, ◌+◌, ◌-◌, ◌/◌, ◌%◌, ◌<◌, ◌≤◌, ◌⊎◌, false, min, length, take, IsErr, IsOk, IsTrue, OnErr, OnOk, ◌&&◌};
+ghost use Rattle.std.specs.Prelude.{◌≡◌, ◌+◌, ◌-◌, ◌/◌, ◌%◌, ◌<◌, ◌≤◌, ◌⊎◌, false, min, length, take, IsErr, IsOk, IsTrue, MatchOption, OnErr, OnOk, ◌&&◌};
 ghost use Rattle.dml_types.specs.Memory.{IsMemory, has, has_all, bytes_at, is_own, put, puts_made};
 ghost use Rattle.dml_types.specs.Bytewise.{pattern_bytes};
 ghost use Rattle.dml_image.specs.Blocks.{are_present, block_puts, block_puts_from};
 ghost use Rattle.dml_image.specs.Brought.{brought, has_page};
 ghost use Rattle.dml_image.specs.Pieces.{AreInOrder, pieces_memory, pieces_of};
 ghost use Rattle.dml_image.specs.Copied.{IsOneCopy};
+ghost use Rattle.dml_image.specs.Present.{IsPartOfPage};
 
 use crate::PAGE_SIZE;
 use crate::blocks::{ENTRY, entry_block, put_inside};
 use crate::ranges::rest_of_page;
-use crate::segments::{Segment, copy_between, find, spot_of};
+use crate::segments::{Segment, copy_between, find, find_rarely, spot_of};
 use crate::slices::{WORD_SIZE, at_once, fill_at, write_at};
 use dml_types::block_number;
 use std::alloc::AllocError;
@@ -69,6 +70,8 @@ impl Segments<'_> {
     }
 
     /// Writes these bytes over a page that is present; one that is in no segment has no room here.
+    // A page's bytes are handed to no call, so that those of a new page of an image's own are made where they lie.
+    #[inline(always)]
     pub fn bring(&mut self, page: usize, bytes: &[u8; 4096]) -> Result<(), AllocError>
         requires memory { IsMemory self.old }
         requires page { page < length self.old.present }
@@ -77,11 +80,10 @@ impl Segments<'_> {
         ensures again { IsTrue (has_page self.old page) → IsOk result }
         ensures hole { has_page self.old page ≡ false → IsErr result }
     {
-        let addr = (PAGE_SIZE * page) as u64;
-        if !self.has(addr) {
+        let Some(spot) = find_rarely(self.list.as_slice(), (PAGE_SIZE * page) as u64) else {
             return Err(AllocError);
-        }
-        self.write(addr, bytes);
+        };
+        write_at(self.list[spot.segment].content, spot.place, bytes);
         Ok(())
     }
 
@@ -121,6 +123,19 @@ impl Segments<'_> {
         ensures length { length result.now ≡ min len (4096 - addr % 4096) }
     {
         &self.rest(addr)[..len.min(rest_of_page(addr))]
+    }
+
+    /// The same, or `None` where the byte there is absent.
+    #[cold]
+    #[inline(never)]
+    pub fn present_part(&self, addr: u64, len: usize) -> Option<&[u8]>
+        ensures { MatchOption result (has self.now addr ≡ false) (λ part. IsPartOfPage self.now addr len part.now) }
+    {
+        if self.has(addr) {
+            Some(self.part(addr, len))
+        } else {
+            None
+        }
     }
 
     /// Reads bytes from this address on into the whole buffer.
@@ -204,6 +219,24 @@ impl Segments<'_> {
                 done += over_edge;
             }
         }
+    }
+
+    /// The same within a page, where it is present. Returns whether it is.
+    #[cold]
+    #[inline(never)]
+    #[tactic(auto, using(crate::proofs::RunLemmas::has_all_of_page))]
+    pub fn fill_in_page(&mut self, addr: u64, len: usize, pattern: u64) -> bool
+        requires memory { IsMemory self.old }
+        requires within { addr % 4096 + len ≤ 4096 }
+        ensures present { result ≡ has self.old addr }
+        ensures filled { IsTrue result → self.new ≡ put self.old addr (pattern_bytes pattern len) }
+        ensures kept { result ≡ false → self.new ≡ self.old }
+    {
+        if !self.has(addr) {
+            return false;
+        }
+        self.fill(addr, len, pattern);
+        true
     }
 
     /// Puts blocks from entry `first` on into the segment of an address, and stops before the first one that is not all

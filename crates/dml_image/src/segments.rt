@@ -38,7 +38,7 @@ impl<'a> Segment<'a> {
         &*self.content
     }
 
-    /// Its bytes, to be changed; until others are put in their place, none are left here.
+    /// Its bytes, to be changed; none are left here.
     pub fn take(&mut self) -> &'a mut [u8]
         ensures bytes { result.now ≡ self.old.content.now }
         ensures same_reference { result.ghost_name ≡ self.old.content.ghost_name }
@@ -105,6 +105,17 @@ pub fn find(list: &[Segment<'_>], addr: u64) -> Option<Spot>
         place: place as usize,
         room: len - place as usize,
     })
+}
+
+/// The same by a call, for what is rare: a page that is brought.
+#[cold]
+#[inline(never)]
+pub fn find_rarely(list: &[Segment<'_>], addr: u64) -> Option<Spot>
+    requires { AreInOrder 0 (pieces_of list.now) }
+    ensures found { IfSome result (λ spot. IsAt (pieces_of list.now) spot addr) }
+    ensures outside { result ≡ None → has (pieces_memory (pieces_of list.now)) addr ≡ false }
+{
+    find(list, addr)
 }
 
 /// Where an address is that is present.

@@ -66,7 +66,7 @@ pub fn at_once(from: u64, to: u64, most: usize) -> usize
 /// Whether so many bytes go from one address on to another at once.
 #[inline(always)]
 pub fn is_one_copy(from: u64, to: u64, len: usize) -> bool
-    ensures { IsTrue result → IsOneCopy from to len }
+    ensures { IsTrue result ↔ IsOneCopy from to len }
 {
     len <= SHORT || from.abs_diff(to) >= len as u64
 }

@@ -1,9 +1,11 @@
-ghost use Rattle.std.specs.Prelude.{◌≡◌, ◌+◌, ◌-◌, ◌/◌, ◌%◌, ◌<◌, ◌≤◌, None, true, false, ◌&&◌, min, length, IfOk, OnErr, OnOk, IsOk, IsTrue};
-ghost use Rattle.dml_types.specs.Memory.{has, bytes_at, is_in_segments, is_own, put, puts_made};
+ghost use Rattle.std.specs.Prelude.{◌≡◌, ◌≢◌, ◌+◌, ◌-◌, ◌/◌, ◌%◌, ◌<◌, ◌≤◌, None, Some, true, false, ◌&&◌, min, length, IfOk, MatchOption, OnErr, OnOk, IsOk, IsSome, IsTrue, slice_index_or, slice_range, slice_set};
+ghost use Rattle.dml_types.specs.Memory.{has, bytes_at, overwrite, is_in_segments, is_own, put, puts_made};
 ghost use Rattle.dml_types.specs.Bytewise.{pattern_bytes};
 ghost use Rattle.dml_image.specs.Blocks.{block_puts_from};
 ghost use Rattle.dml_image.specs.Brought.{all_absent, brought, evicted, has_page};
 ghost use Rattle.dml_image.specs.Copied.{IsOneCopy};
+ghost use Rattle.dml_image.specs.Present.{IsPartOfPage};
+ghost use Rattle.dml_image.specs.Table.{page_bytes};
 
 use crate::PAGE_SIZE;
 use crate::pages::Page;
@@ -94,6 +96,7 @@ impl Table {
     }
 
     /// The bytes from this address on, `len` of them or as many as there are up to the end of the page.
+    #[inline(always)]
     pub fn part(&self, addr: u64, len: usize) -> &[u8]
         requires { IsTrue (has self.now addr) }
         ensures bytes { result.now ≡ bytes_at self.now addr (length result.now) }
@@ -103,6 +106,18 @@ impl Table {
         match &self.pages[addr as usize / PAGE_SIZE] {
             Some(page) => &page.bytes()[place..place + len.min(PAGE_SIZE - place)],
             None => unreachable!(),
+        }
+    }
+
+    /// The same, or `None` where the byte there is absent.
+    #[inline(always)]
+    pub fn present_part(&self, addr: u64, len: usize) -> Option<&[u8]>
+        ensures { MatchOption result (has self.now addr ≡ false) (λ part. IsPartOfPage self.now addr len part.now) }
+    {
+        if self.has(addr) {
+            Some(self.part(addr, len))
+        } else {
+            None
         }
     }
 
@@ -131,6 +146,20 @@ impl Table {
             Some(page) => page.fill(place % PAGE_SIZE, len, pattern),
             None => unreachable!(),
         }
+    }
+
+    /// The same, where the page is present. Returns whether it is.
+    pub fn fill_in_page(&mut self, addr: u64, len: usize, pattern: u64) -> bool
+        requires { addr % 4096 + len ≤ 4096 }
+        ensures present { result ≡ has self.old addr }
+        ensures filled { IsTrue result → self.new ≡ put self.old addr (pattern_bytes pattern len) }
+        ensures kept { result ≡ false → self.new ≡ self.old }
+    {
+        if !self.has(addr) {
+            return false;
+        }
+        self.fill_part(addr, len, pattern);
+        true
     }
 
     /// Puts blocks from entry `first` on into the page of an address, and stops before the first one that is not all in
@@ -166,17 +195,7 @@ impl Table {
                 None => unreachable!(),
             }
         } else {
-            // the target is taken out for the copy
-            match self.pages[to_page].take() {
-                Some(mut target) => {
-                    match &self.pages[from_page] {
-                        Some(source) => target.write(to, &source.bytes()[from..from + len]),
-                        None => unreachable!(),
-                    }
-                    self.pages[to_page] = Some(target);
-                }
-                None => unreachable!(),
-            }
+            copy_between(self.pages.as_mut_slice(), from_page, from, to_page, to, len);
         }
     }
 
@@ -193,5 +212,46 @@ impl Table {
         }
         self.copy_part(from, to, len);
         true
+    }
+}
+
+/// Copies `len` bytes of one page of a table to another one.
+fn copy_between(
+    pages: &mut [Option<Page>],
+    source: usize,
+    from: usize,
+    target: usize,
+    to: usize,
+    len: usize,
+)
+    requires apart { source ≢ target }
+    requires source { (source < length pages.old) × IsSome (slice_index_or pages.old source None) }
+    requires target { (target < length pages.old) × IsSome (slice_index_or pages.old target None) }
+    requires within { (from + len ≤ 4096) × (to + len ≤ 4096) }
+    ensures { pages.new ≡ slice_set pages.old target (Some (overwrite
+        (page_bytes (slice_index_or pages.old target None)) to
+        (slice_range (page_bytes (slice_index_or pages.old source None)) from (from + len)))) }
+{
+    if source < target {
+        let (front, behind) = pages.split_at_mut(target);
+        copy_over(&front[source], from, &mut behind[0], to, len);
+    } else {
+        let (front, behind) = pages.split_at_mut(source);
+        copy_over(&behind[0], from, &mut front[target], to, len);
+    }
+}
+
+/// Copies `len` bytes of a page over another one.
+#[inline(always)]
+fn copy_over(source: &Option<Page>, from: usize, target: &mut Option<Page>, to: usize, len: usize)
+    requires source { IsSome source.now }
+    requires target { IsSome target.old }
+    requires within { (from + len ≤ 4096) × (to + len ≤ 4096) }
+    ensures { target.new ≡ Some (overwrite (page_bytes target.old) to
+        (slice_range (page_bytes source.now) from (from + len))) }
+{
+    match (source, target) {
+        (Some(source), Some(target)) => target.write(to, &source.bytes()[from..from + len]),
+        _ => unreachable!(),
     }
 }

@@ -15,6 +15,7 @@ use Rattle.dml_types.specs.Chunk.{scan_done, scan_found, scan_offset}
 use Rattle.dml_types.proofs.FirstLemmas.{first_le, first_is}
 use Rattle.dml_types.proofs.MemoryLemmas.{has_all_from}
 use Rattle.dml_buffers.specs.Holds.{Holds}
+use Rattle.dml_image.specs.Present.{IsPartOfPage}
 use Rattle.dml_scan.specs.Parts.{IsPartWithin}
 use Rattle.dml_buffers.proofs.HoldsLemmas.{held_byte, held_present, held_sub}
 use Rattle.dml_scan.specs.Lanes.{first_difference, first_unlike}
@@ -40,6 +41,9 @@ part_of_page memory address len bytes here some is long = record {
   some = omega (arith, long);
   within = omega (arith, long);
 }
+
+pub part_shown : (memory : Memory) (address len : ℕ) (bytes : List ℕ) → 0 < len → IsPartOfPage memory address len bytes → IsPartWithin memory address len bytes
+part_shown memory address len bytes some shown = part_of_page memory address len bytes shown.present some shown.content shown.size
 
 -- the rest of a part
 pub part_drop : (memory : Memory) (address n : ℕ) (bytes : List ℕ) → n ≤ length bytes → Holds memory address bytes → Holds memory (address + n) (drop n bytes)

@@ -17,7 +17,7 @@ use dml_types::Found;
 /// The next present bytes from an address on: what is left there of a part of a page that was begun, or else what the
 /// page has from there on, at most `len` bytes. `None` where the byte there is absent.
 #[inline(always)]
-#[tactic(auto, using(crate::proofs::CompareLemmas::part_of_page))]
+#[tactic(auto, using(crate::proofs::CompareLemmas::part_shown))]
 fn next_part<'a>(image: &'a Image, rest: &'a [u8], addr: u64, len: u32) -> Option<&'a [u8]>
     requires some { 0 < len }
     requires part { Holds image.now addr rest.now }
@@ -27,10 +27,7 @@ fn next_part<'a>(image: &'a Image, rest: &'a [u8], addr: u64, len: u32) -> Optio
     if !rest.is_empty() {
         return Some(rest);
     }
-    if !image.has(addr) {
-        return None;
-    }
-    Some(image.part(addr, len))
+    image.present_part(addr, len)
 }
 
 /// How the scan of a chunk of a compare ends: at one offset an absent byte comes before a difference, and that of the

@@ -25,9 +25,9 @@ const MIB: u64 = 1_048_576;
 
 const SIZE: u32 = 1_048_576;
 
-/// The guest's jobs: three by themselves, of which the second goes on behind the first segment's last page, and four as
-/// a batch, whose third (flag 0x01) waits for the two before it.
-fn jobs() -> [Job; 7] {
+/// The guest's jobs: four by themselves, of which the second goes on behind the first segment's last page, and four as
+/// a batch, whose third (flag 0x01) waits for the two before it, which two threads share.
+fn jobs() -> [Job; 8] {
     let sixes = 0x6666_6666_6666_6666;
     let last_page = SEGMENT as u64 - 4096;
     [
@@ -36,8 +36,9 @@ fn jobs() -> [Job; 7] {
         Job::compare(HIGH, last_page, 12_288),
         Job::move_bytes(HIGH, MIB, SIZE),
         Job::compare_pattern(HIGH, sixes, SIZE),
-        Job::compare(HIGH, MIB, SIZE).with_flags(0x01),
-        Job::fill(0, HIGH, SIZE),
+        Job::compare(HIGH, MIB, SIZE),
+        Job::fill(0, HIGH, SIZE).with_flags(0x01),
+        Job::compare_pattern(HIGH, 0, SIZE),
     ]
 }
 
@@ -86,7 +87,7 @@ fn serve<'a, R: Threads + Wait + Sync + Print>(
     Ok(guest)
 }
 
-/// Carries out what is in the ring: three jobs by themselves, and four as a batch.
+/// Carries out what is in the ring: four jobs by themselves, and four as a batch.
 fn run<'a, R: Threads + Wait + Sync + Print>(
     rt: &R,
     alloc: Global,
@@ -95,12 +96,12 @@ fn run<'a, R: Threads + Wait + Sync + Print>(
 ) -> anyhow::Result<()> {
     let mut guest = guest;
     let mut spare = spare;
-    for number in 0..3 {
+    for number in 0..4 {
         let job = guest.fetch(number)?;
         guest = serve(rt, alloc, guest, job, &mut spare)?;
     }
     let mut batch = Vec::new(alloc);
-    for number in 3..7 {
+    for number in 4..8 {
         batch.push(guest.fetch(number)?)?;
     }
     let (answer, records) = guest.submit_batch(rt, alloc, &batch)?;

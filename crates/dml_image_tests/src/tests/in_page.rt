@@ -1,7 +1,8 @@
-//! Moves that are one copy, from page to page: which go, and what they leave.
+//! Moves that are one copy, from page to page, and fills within a page: which go, and what they leave; and parts of
+//! pages that are looked at.
 
 use super::{image_with, moved, some_bytes};
-use dml_image::{Image, Lent, Segment, are_segments};
+use dml_image::{Image, Lent, Segment, Whole, are_segments};
 use dml_types::Direction;
 use std::process::Abort;
 use std::test::Fail;
@@ -49,6 +50,82 @@ fn expect_row(rt: &impl Abort, image: &mut Image, row: (u64, u64, u32, bool)) {
     assert!(rt; after == wanted, "{row:?}");
 }
 
+/// Target and length of a fill, and whether it goes, in the same pages.
+const FILLS: [(u64, u32, bool); 11] = [
+    (0, 4096, true),
+    (4096, 8, true),
+    (100, 13, true),
+    (8191, 1, true),
+    (8191, 2, false), // over an edge
+    (1, 4096, false),
+    (4096, 0, true),
+    (12_288, 8, false), // absent
+    (12_288, 0, false),
+    (1 << 44, 8, false), // past the last page
+    (u64::MAX, 1, false),
+];
+
+/// Tries a fill, and checks the bytes of the first three pages.
+fn expect_fill(rt: &impl Abort, image: &mut Image, row: (u64, u32, bool)) {
+    let (target, len, goes) = row;
+    let mut wanted = some_bytes();
+    assert!(rt; image.first_absent(0, 12_288, Direction::Forward).is_none());
+    image.write(0, &wanted);
+    let went = image.fill_in_page(target, len, 0x0807_0605_0403_0201);
+    assert_eq!(rt; went, goes, "{row:?}");
+    if goes {
+        let (from, count) = (target as usize, len as usize);
+        assert!(rt; from <= 12_288 && count <= 12_288 - from);
+        for (k, byte) in wanted[from..from + count].iter_mut().enumerate() {
+            *byte = (k % 8) as u8 + 1;
+        }
+    }
+    let mut after = [0; 12_288];
+    assert!(rt; image.first_absent(0, 12_288, Direction::Forward).is_none());
+    image.read_into(0, &mut after);
+    assert!(rt; after == wanted, "{row:?}");
+}
+
+/// Address and length of a part, and how many bytes it has; none where the byte there is absent.
+const PARTS: [(u64, u32, Option<usize>); 8] = [
+    (0, 10, Some(10)),
+    (4090, 10, Some(6)),
+    (4095, 1, Some(1)),
+    (8192, 9000, Some(4096)),
+    (8191, 0, Some(0)),
+    (12_288, 4, None),
+    (1 << 44, 4, None),
+    (u64::MAX, 1, None),
+];
+
+/// Looks at a part, and checks its bytes.
+fn expect_part(rt: &impl Abort, image: &mut Image, row: (u64, u32, Option<usize>)) {
+    let (addr, len, wanted) = row;
+    let before = some_bytes();
+    assert!(rt; image.first_absent(0, 12_288, Direction::Forward).is_none());
+    image.write(0, &before);
+    let part = image.present_part(addr, len);
+    assert_eq!(rt; part.map(|part| part.len()), wanted, "{row:?}");
+    if let Some(part) = part {
+        let from = addr as usize;
+        assert!(rt; from <= 12_288 && part.len() <= 12_288 - from);
+        assert!(rt; part == &before[from..from + part.len()], "{row:?}");
+    }
+}
+
+/// Tries all rows.
+fn expect_all(rt: &impl Abort, image: &mut Image) {
+    for row in ROWS {
+        expect_row(rt, image, row);
+    }
+    for row in FILLS {
+        expect_fill(rt, image, row);
+    }
+    for row in PARTS {
+        expect_part(rt, image, row);
+    }
+}
+
 #[test]
 fn moves_from_page_to_page(rt: HostRuntime) -> Result<(), Fail> {
     let mut own = image_with(rt.alloc(), 4, &[0, 1, 2])?;
@@ -63,10 +140,13 @@ fn moves_from_page_to_page(rt: HostRuntime) -> Result<(), Fail> {
     segments.push(Segment::new(1, high))?;
     assert!(rt; are_segments(&segments));
     let mut pieces = Image::over_segments(segments);
-    for row in ROWS {
-        expect_row(&rt, &mut own, row);
-        expect_row(&rt, &mut over, row);
-        expect_row(&rt, &mut pieces, row);
-    }
+    let mut piece = [0; 12_288];
+    let mut whole = Whole::new(&mut piece);
+    assert!(rt; whole.is_memory());
+    let mut in_one_piece = whole.take();
+    expect_all(&rt, &mut own);
+    expect_all(&rt, &mut over);
+    expect_all(&rt, &mut pieces);
+    expect_all(&rt, &mut in_one_piece);
     Ok(())
 }

@@ -1,12 +1,24 @@
-use Rattle.std.proofs.Common.{◌≡◌, ◌<◌, false, length, get_or, sym, ◌∙◌, ap, arith}
+use Rattle.std.proofs.Common.{◌≡◌, ◌<◌, ◌≤◌, false, length, get_or, sym, subst, ◌∙◌, ap, arith}
 use Rattle.std.specs.Prelude.{◌&&◌, nat_eq, not}
 use Rattle.std.proofs.lemmas.List.{length-set}
 use Rattle.dml_types.specs.declared.jobs.Job.{Job}
 use Rattle.dml_types.specs.Effect.{code_of}
 use Rattle.dml_types.specs.Job.{is_fenced, no_op_job, unfenced}
+use Rattle.dml_types.specs.Refusal.{need}
 use Rattle.dml_types.specs.Step.{ends_before, step}
-use Rattle.dml_effect.proofs.BatchLemmas.{carried_one, succeeded_more}
+use Rattle.dml_arena.specs.Block.{Block}
+use Rattle.dml_effect.specs.Straight.{TakesStaging}
+use Rattle.dml_effect.proofs.BatchLemmas.{carried_one, room_in_batch, succeeded_more}
 use Rattle.dml_effect.proofs.batches.carry_out_batch.Goals as goal
+
+pub submit_in_batch_to-requires : goal.submit_in_batch_to-requires
+submit_in_batch_to-requires c =
+    let jobs = c.args.jobs.now in
+    let i = c.loop-i.i in
+    let below : i < length jobs = omega (arith, c.loop-i-test.true) in
+    let job : Job = unfenced (get_or jobs i no_op_job) in
+    let room = room_in_batch jobs c.args.staging c.args.arena.now.size i below c.requires.staging in
+    record { staging = subst (λ (a : Block). TakesStaging job c.args.staging → need job ≤ a.size) (sym c.loop-i.invariant.3) room }
 
 pub loop-i-preserved : goal.loop-i-preserved
 loop-i-preserved c =

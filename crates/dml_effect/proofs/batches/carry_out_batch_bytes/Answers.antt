@@ -1,7 +1,6 @@
 use Rattle.std.proofs.Common.{◌≡◌, ◌<◌, ◌≤◌, ℕ, ◌+◌, Bool, false, List, length, get_or, map, set, refl, sym, ◌∙◌, ap, subst, arith}
 use Rattle.std.specs.Prelude.{◌&&◌, nat_eq, not}
 use Rattle.std.proofs.lemmas.List.{length-map}
-use Rattle.std.proofs.lemmas.List.Elements.{All-get_or}
 use Rattle.dml_types.specs.declared.jobs.Job.{Job}
 use Rattle.dml_types.specs.declared.records.Record.{Record}
 use Rattle.dml_types.specs.Effect.{code_of}
@@ -12,7 +11,7 @@ use Rattle.dml_desc.specs.Descriptor.{decoded}
 use Rattle.dml_arena.specs.Block.{Block}
 use Rattle.dml_effect.specs.Batches.{IsCarriedInBytes, free_records}
 use Rattle.dml_effect.specs.Straight.{TakesStaging}
-use Rattle.dml_effect.proofs.BatchLemmas.{bytes_one, decoded_at, no_bytes_carried, succeeded_with}
+use Rattle.dml_effect.proofs.BatchLemmas.{bytes_one, decoded_at, no_bytes_carried, room_in_batch, succeeded_with}
 use Rattle.dml_effect.proofs.batches.carry_out_batch_bytes.Goals as goal
 
 pub loop-i-init : goal.loop-i-init
@@ -27,7 +26,7 @@ submit_in_batch_to-outcome-requires c =
     let below : i < length ds = omega (arith, c.loop-i-test.true) in
     let own = decoded_at ds i c.decode-job.result below c.decode-job.ensures in
     let fits : Job → ℕ → Type 0 = λ j size. TakesStaging (unfenced j) c.args.staging → need (unfenced j) ≤ size in
-    let room = All-get_or (λ (j : Job). fits j c.args.arena.now.size) (map decoded ds) i no_op_job (omega (arith, below, length-map ds decoded)) c.requires.staging in
+    let room : fits (get_or (map decoded ds) i no_op_job) c.args.arena.now.size = room_in_batch (map decoded ds) c.args.staging c.args.arena.now.size i (omega (arith, below, length-map ds decoded)) c.requires.staging in
     record { staging = subst (λ (j : Job). fits j c.loop-i.arena.size) own (subst (λ (a : Block). fits (get_or (map decoded ds) i no_op_job) a.size) (sym c.loop-i.invariant.2) room) }
 
 pub loop-i-preserved : goal.loop-i-preserved

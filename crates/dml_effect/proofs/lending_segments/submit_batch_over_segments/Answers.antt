@@ -1,23 +1,21 @@
-use Rattle.std.proofs.Common.{List, map, sym, ◌∙◌, ap}
+use Rattle.std.proofs.Common.{map, sym, ◌∙◌, ap}
 use Rattle.dml_types.specs.Memory.{Memory, are_segments}
 use Rattle.dml_types.specs.Step.{batch_jobs}
 use Rattle.dml_types.proofs.LoanLemmas.{loan_after_jobs}
 use Rattle.dml_desc.specs.Descriptor.{decoded}
-use Rattle.dml_image.specs.Pieces.{Piece, pieces_memory}
 use Rattle.dml_effect.proofs.SegmentLemmas.{length_by_loan}
 use Rattle.dml_effect.proofs.lending_segments.submit_batch_over_segments.Goals as goal
 
 pub into_segments-requires : goal.into_segments-requires
 into_segments-requires c =
     ap (λ (m : Memory). are_segments m.loan) c.submit_batch_bytes_to-outcome.ensures.image
-    ∙ (ap are_segments (loan_after_jobs c.over_segments-image.result (batch_jobs c.over_segments-image.result (map decoded c.args.descriptors.now) c.args.staging) c.args.staging)
-    ∙ ap (λ (m : Memory). are_segments m.loan) c.over_segments-image.ensures)
+    ∙ (ap are_segments (loan_after_jobs c.in_ok-image.image (batch_jobs c.in_ok-image.image (map decoded c.args.descriptors.now) c.args.staging) c.args.staging)
+    ∙ ap (λ (m : Memory). are_segments m.loan) c.in_ok-image.ensures.image)
 
 pub put_back-requires : goal.put_back-requires
 put_back-requires c =
     let loan = ap (λ (m : Memory). m.loan) c.into_segments.ensures.memory
     ∙ (ap (λ (m : Memory). m.loan) c.submit_batch_bytes_to-outcome.ensures.image
-    ∙ (loan_after_jobs c.over_segments-image.result (batch_jobs c.over_segments-image.result (map decoded c.args.descriptors.now) c.args.staging) c.args.staging
-    ∙ (ap (λ (m : Memory). m.loan) c.over_segments-image.ensures
-    ∙ ap (λ (pieces : List Piece). (pieces_memory pieces).loan) c.take_out.ensures.taken))) in
-    length_by_loan c.into_segments.result.items c.args.segments.now loan ∙ sym c.take_out.ensures.as_many
+    ∙ (loan_after_jobs c.in_ok-image.image (batch_jobs c.in_ok-image.image (map decoded c.args.descriptors.now) c.args.staging) c.args.staging
+    ∙ ap (λ (m : Memory). m.loan) c.in_ok-image.ensures.image)) in
+    length_by_loan c.into_segments.result.items c.args.segments.now loan ∙ sym c.in_ok-image.ensures.as_many

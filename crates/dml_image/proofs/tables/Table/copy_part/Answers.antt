@@ -1,13 +1,11 @@
-use Rattle.std.proofs.Common.{sym, ◌∙◌}
-use Rattle.dml_image.proofs.TableLemmas.{copied_between, copied_inside, whole_after, whole_after_both}
+use Rattle.std.proofs.Common.{◌/◌, ◌%◌, None, get_or, set, sym, ◌∙◌, ap, subst}
+use Rattle.std.proofs.lemmas.List.{with_items_is}
+use Rattle.dml_image.specs.Table.{AreWhole, table_memory}
+use Rattle.dml_image.proofs.TableLemmas.{copied_between, copied_inside, copied_page, page_here, whole_after, whole_copied}
 use Rattle.dml_image.proofs.tables.Table.copy_part.Goals as goal
-use Rattle.dml_image.proofs.tables.Table.copy_part.Goals.{in-Some-1, in-None-1}
 
 pub invariant_of-self : goal.invariant_of-self
 invariant_of-self c = whole_after _ _ _ c.self.invariant c.copy.ensures.length
-
-pub invariant_of-self-in-Some-index-2 : goal.invariant_of-self-in-Some-index-2
-invariant_of-self-in-Some-index-2 c = whole_after_both _ _ _ _ c.self.invariant c.write.ensures.length
 
 pub returns-in-Some : goal.returns-in-Some
 returns-in-Some c =
@@ -15,14 +13,18 @@ returns-in-Some c =
     c.self.view_is c.self.invariant c.requires.present.0 c.requires.present.1 c.if-from_page-to_page.true
     c.index_mut.ensures.value c.in-Some.is c.requires.within.0 c.requires.within.1 c.copy.ensures.bytes
 
-pub returns-in-Some-index : goal.returns-in-Some-index
-returns-in-Some-index c =
-    let done =
-    copied_between c.self.inside.pages.items _ c.args.from _ _ _ _ _ _ c.index_mut-else-from_page-to_page.result.now c.index.result.now c.take.new.self
-    c.self.view_is c.self.invariant c.requires.present.0 c.requires.present.1 c.if-from_page-to_page.false
-    c.index_mut-else-from_page-to_page.ensures.value (sym c.take.ensures.value ∙ c.in-Some-take.is) c.index.ensures c.in-Some-index.is
-    c.requires.within.0 c.requires.within.1 c.bytes.ensures.bytes c.write.ensures.bytes in
-    elim c.match-index_mut-2.branch [
-      | in-Some-1 w ↦ w.self-is ∙ done
-      | in-None-1 w ↦ w.self-is ∙ done
-    ]
+pub invariant_of-self-else-from_page-to_page : goal.invariant_of-self-else-from_page-to_page
+invariant_of-self-else-from_page-to_page c =
+    let same = with_items_is c.self.inside.pages c.copy_between.new.pages (c.copy_between.auto.pages ∙ c.as_mut_slice.ensures.len) in
+    let is = same ∙ (c.copy_between.ensures
+    ∙ ap (λ pages. set pages (c.args.to / 4096) (copied_page (get_or pages (c.args.from / 4096) None) (get_or pages (c.args.to / 4096) None) (c.args.from % 4096) (c.args.to % 4096) c.args.len)) c.as_mut_slice.ensures.value) in
+    let here = page_here c.self.inside.pages.items c.args.self.now c.args.to c.self.view_is c.requires.present.1 in
+    subst AreWhole (sym is) (whole_copied c.self.inside.pages.items (c.args.to / 4096) _ _ c.args.len (get_or c.self.inside.pages.items (c.args.from / 4096) None) c.self.invariant here.0 c.requires.within.0 c.requires.within.1)
+
+pub returns-else-from_page-to_page : goal.returns-else-from_page-to_page
+returns-else-from_page-to_page c =
+    let same = with_items_is c.self.inside.pages c.copy_between.new.pages (c.copy_between.auto.pages ∙ c.as_mut_slice.ensures.len) in
+    let is = same ∙ (c.copy_between.ensures
+    ∙ ap (λ pages. set pages (c.args.to / 4096) (copied_page (get_or pages (c.args.from / 4096) None) (get_or pages (c.args.to / 4096) None) (c.args.from % 4096) (c.args.to % 4096) c.args.len)) c.as_mut_slice.ensures.value) in
+    ap table_memory is
+    ∙ copied_between c.self.inside.pages.items c.args.self.now c.args.from c.args.to c.args.len c.self.view_is c.self.invariant c.requires.present.0 c.requires.present.1 c.requires.within.0 c.requires.within.1

@@ -419,13 +419,15 @@ impl Image<'_> {
     }
 
     /// How many of `len` bytes from this address on come before the first absent one.
+    #[inline(always)]
     pub fn present_bytes(&self, addr: u64, len: u32) -> u32
         requires { addr + len ≤ 2 ^ 64 }
         ensures count { result ≡ present_bytes self.now addr len }
         ensures within { result ≤ len }
         ensures memory { IsMemory self.now }
     {
-        self.present_toward(addr, len, Direction::Forward)
+        let _ = &self.pages; // what is looked at is an image
+        self.count_present(addr, len, Direction::Forward)
     }
 
     /// How many of `len` bytes from this address on come before the first absent one, in the order of `direction`.

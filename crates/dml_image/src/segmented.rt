@@ -131,11 +131,9 @@ impl Segments<'_> {
     pub fn present_part(&self, addr: u64, len: usize) -> Option<&[u8]>
         ensures { MatchOption result (has self.now addr ≡ false) (λ part. IsPartOfPage self.now addr len part.now) }
     {
-        if self.has(addr) {
-            Some(self.part(addr, len))
-        } else {
-            None
-        }
+        let spot = find(self.list.as_slice(), addr)?;
+        let rest = &self.list[spot.segment].bytes()[spot.place..];
+        Some(&rest[..len.min(rest_of_page(addr))])
     }
 
     /// Reads bytes from this address on into the whole buffer.
@@ -224,18 +222,16 @@ impl Segments<'_> {
     /// The same within a page, where it is present. Returns whether it is.
     #[cold]
     #[inline(never)]
-    #[tactic(auto, using(crate::proofs::RunLemmas::has_all_of_page))]
     pub fn fill_in_page(&mut self, addr: u64, len: usize, pattern: u64) -> bool
-        requires memory { IsMemory self.old }
         requires within { addr % 4096 + len ≤ 4096 }
         ensures present { result ≡ has self.old addr }
         ensures filled { IsTrue result → self.new ≡ put self.old addr (pattern_bytes pattern len) }
         ensures kept { result ≡ false → self.new ≡ self.old }
     {
-        if !self.has(addr) {
+        let Some(spot) = find(self.list.as_slice(), addr) else {
             return false;
-        }
-        self.fill(addr, len, pattern);
+        };
+        fill_at(self.list[spot.segment].content, spot.place, len, pattern);
         true
     }
 

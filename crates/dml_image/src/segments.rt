@@ -141,16 +141,22 @@ fn begun(list: &[Segment<'_>], addr: u64) -> usize
         → addr < 4096 * (piece_at (pieces_of list.now) k).first }
 {
     let mut low = 0;
-    let mut high = list.len();
-    while low < high {
-        let middle = low + (high - low) / 2;
+    let mut left = list.len();
+    while left > 1 {
+        let half = left / 2;
+        let middle = low + half;
+        left -= half;
         if list[middle].start() <= addr {
-            low = middle + 1;
-        } else {
-            high = middle;
+            low = middle;
         }
     }
-    low
+    if left == 0 {
+        return low;
+    }
+    if addr < list[low].start() {
+        return low;
+    }
+    low + 1
 }
 
 /// Copies `len` bytes from one place of a list's segments to another.

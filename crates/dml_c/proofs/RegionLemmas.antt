@@ -3,7 +3,7 @@ use Rattle.std.proofs.Common.{◌≡◌, ℕ, zero, suc, ◌+◌, ◌-◌, ◌*�
 use Rattle.std.specs.Prelude.{◌||◌, ◌==◌, nat_lt, if◌then◌else◌}
 use Rattle.std.proofs.lemmas.Bool.{cases_eq, cond-false, cond-true, eq-eqb, eqb-false, eqb-true, ltb-false, ne_eqb, not-false, or_parts}
 use Rattle.std.proofs.lemmas.List.{drop_more, places}
-use Rattle.dml_image.specs.declared.segments.Segment.{Segment}
+use Rattle.dml_segments.specs.declared.segments.Segment.{Segment}
 use Rattle.dml_types.specs.Memory.{Loan, Memory, Place, are_segments, is_in_segments}
 use Rattle.dml_image.specs.Pieces.{AreInOrder, AreSegments, Piece, end_of, marks_from, pages_of, piece_of, pieces_of, place_of, places_of}
 use Rattle.dml_c.specs.declared.regions.CRegion.{CRegion}

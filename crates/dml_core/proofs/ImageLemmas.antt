@@ -18,7 +18,7 @@ use Rattle.dml_types.specs.Step.{effect, operation_effect, step}
 use Rattle.dml_types.proofs.FirstLemmas.{fails_before}
 use Rattle.dml_types.proofs.MemoryLemmas.{has_all_at, has_all_from, present_front, put_keeps}
 use Rattle.dml_types.proofs.StepLemmas.{effect_accepted, effect_refused}
-use Rattle.dml_image.proofs.PatternLemmas.{length_pattern_bytes}
+use Rattle.dml_segments.proofs.PatternLemmas.{length_pattern_bytes}
 use Rattle.dml_delta.proofs.EntryLemmas.{length_entry}
 use Rattle.dml_delta.proofs.UnitLemmas.{has_front}
 use Rattle.dml_effect.proofs.ApplyChunkLemmas.{sound_entry}

@@ -4,7 +4,7 @@ use Rattle.std.specs.Prelude.{find, option_map}
 use Rattle.std.proofs.lemmas.Bool.{cases_Bool, cases_eq, cases_lt, not-false, not-true, and_left, and_right, eq-eqb, ne_eqb, lt-ltb, le-ltb, le-leb, lt-leb, false_from_ne_true, false≢true}
 use Rattle.dml_types.specs.declared.jobs.Job.{Job}
 use Rattle.std.proofs.lemmas.List.{places, same_lists}
-use Rattle.dml_image.proofs.RangeLemmas.{bytes_at_append}
+use Rattle.dml_segments.proofs.RangeLemmas.{bytes_at_append}
 use Rattle.dml_delta.specs.Bad.{bad_of}
 use Rattle.dml_delta.specs.declared.applies.BadEntry.{BadEntry}
 use Rattle.dml_types.specs.Memory.{IsWhole, bytes_at, Memory, has, has_all, present_bytes}

@@ -13,7 +13,7 @@ use Rattle.dml_types.specs.Chunk.{scan_done, scan_found, scan_staged}
 use Rattle.dml_types.specs.Effect.{Effect}
 use Rattle.dml_types.proofs.MemoryLemmas.{put_nil}
 use Rattle.dml_desc.specs.Checked.{checked_step, IsChecked}
-use Rattle.dml_image.proofs.PatternLemmas.{pattern_bytes_none}
+use Rattle.dml_segments.proofs.PatternLemmas.{pattern_bytes_none}
 use Rattle.dml_scan.proofs.ReachLemmas.{fill_all}
 use Rattle.dml_effect.specs.Chunks.{GoesByOffsets}
 use Rattle.dml_effect.specs.Effects.{some_puts}

@@ -1,7 +1,7 @@
 -- Where the segments of a list lie, and how many they are.
 use Rattle.std.proofs.Common.{◌≡◌, suc, List, [], ◌∷◌, length, refl, sym, ◌∙◌, ap}
 use Rattle.dml_types.specs.Memory.{Loan, ByHome, InOnePiece, InSegments, Place}
-use Rattle.dml_image.specs.declared.segments.Segment.{Segment}
+use Rattle.dml_segments.specs.declared.segments.Segment.{Segment}
 use Rattle.dml_image.specs.Pieces.{pieces_memory, pieces_of}
 
 abbrev places_of : Loan → List Place

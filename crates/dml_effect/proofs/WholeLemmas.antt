@@ -23,7 +23,7 @@ use Rattle.dml_types.proofs.MemoryLemmas.{bytes_at_none, has_all_from, has_all_w
 use Rattle.dml_types.proofs.MoveLemmas.{move_clear, move_within}
 use Rattle.dml_desc.specs.Checked.{checked_effect, checked_step, IsChecked, KeepsRules}
 use Rattle.dml_desc.proofs.CheckedLemmas.{checked_by_rules, checked_where_accepted, checked_where_accepted_free, need_within, need_within_free, checked_effect_is, checked_step_is, effect_with, unfenced_where_accepted}
-use Rattle.dml_image.proofs.PatternLemmas.{length_pattern_bytes, pattern_bytes_none}
+use Rattle.dml_segments.proofs.PatternLemmas.{length_pattern_bytes, pattern_bytes_none}
 use Rattle.dml_scan.specs.Found.{done_count}
 use Rattle.dml_scan.proofs.ReachLemmas.{found_all, blocked_at, done_found, scan_done_within}
 use Rattle.dml_effect.specs.Chunks.{GoesByOffsets, scan_size}

@@ -1,11 +1,5 @@
-pub mod BlockLemmas
 pub mod LentLemmas
 pub mod MoveLemmas
-pub mod PatternLemmas
-pub mod PieceLemmas
-pub mod RangeLemmas
 pub mod RunLemmas
-pub mod SegmentLemmas
-pub mod SliceLemmas
 pub mod TableLemmas
 pub mod WriteLemmas

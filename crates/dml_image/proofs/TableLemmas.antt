@@ -1,31 +1,18 @@
 -- A table of pages, and the bytes of all of them, one page after another.
-use Rattle.std.proofs.Common.{◌≡◌, ◌≢◌, ℕ, zero, suc, ◌+◌, ◌-◌, ◌*◌, ◌/◌, ◌%◌, ◌<◌, ◌≤◌, Bool, true, false, List, [], ◌∷◌, ◌++◌, Option, Some, None, flat_map, is_some, length, map, get_or, replicate, set, take, drop, rules, refl, sym, ◌∙◌, ap, ap₂, arith, ⊎_elim}
-use Rattle.std.proofs.lemmas.List.{places, same_lists, map-set, get_or_past, length-map, length-replicate}
+use Rattle.std.proofs.Common.{◌≡◌, ℕ, zero, suc, ◌+◌, ◌-◌, ◌*◌, ◌/◌, ◌%◌, ◌<◌, ◌≤◌, Bool, true, false, List, [], ◌∷◌, ◌++◌, Option, Some, None, flat_map, is_some, length, map, get_or, replicate, set, take, drop, rules, refl, sym, ◌∙◌, ap, ap₂, arith, ⊎_elim}
+use Rattle.std.proofs.lemmas.List.{places, same_lists, map-set, get_or_past, get_or-set_same, length-map, length-replicate, length-set}
 use Rattle.std.proofs.Math.Seq.{map-set_same}
 use Rattle.std.proofs.lemmas.Bool.{cases_lt, false≢true}
-use Rattle.dml_types.specs.Memory.{Memory, has, memory_of, bytes_at, overwrite, put}
+use Rattle.dml_types.specs.Memory.{Memory, Put, has, memory_of, bytes_at, overwrite, put, puts_made}
 use Rattle.dml_types.proofs.MemoryLemmas.{length_overwrite}
-use Rattle.dml_image.specs.Brought.{all_absent, brought, evicted}
+use Rattle.dml_segments.specs.Blocks.{after_puts, AreInside}
+use Rattle.dml_segments.specs.Brought.{all_absent, brought, evicted}
+use Rattle.dml_segments.proofs.JoinLemmas.{overwrite_back, overwrite_front, same_back, same_front}
 use Rattle.dml_image.specs.Table.{page_bytes, table_memory, AreWhole}
-
--- a write in the front or the back of two lists
-pub overwrite_front : (xs ys new : List ℕ) (s : ℕ) → s + length new ≤ length xs → overwrite xs s new ++ ys ≡ overwrite (xs ++ ys) s new
-unfolding overwrite
-overwrite_front xs ys new s within = same_lists _ _ (search (rules, places)) (λ k d h. grind (arith, places))
-
-pub overwrite_back : (xs ys new : List ℕ) (m s : ℕ) → length xs ≡ m → s + length new ≤ length ys → xs ++ overwrite ys s new ≡ overwrite (xs ++ ys) (m + s) new
-unfolding overwrite
-overwrite_back xs ys new m s long within = same_lists _ _ (search (rules, places)) (λ k d h. grind (arith, places))
 
 overwrite_all : (old new : List ℕ) → length new ≡ length old → new ≡ overwrite old 0 new
 unfolding overwrite
 overwrite_all old new same = same_lists _ _ (search (rules, places)) (λ k d h. grind (arith, places))
-
-pub same_front : (xs ys : List ℕ) (a s n : ℕ) → a ≡ s → s + n ≤ length xs → take n (drop a (xs ++ ys)) ≡ take n (drop s xs)
-same_front xs ys a s n is within = same_lists _ _ (search (rules, places)) (λ k d h. grind (arith, places))
-
-pub same_back : (xs ys : List ℕ) (m a b n : ℕ) → length xs ≡ m → a ≡ m + b → take n (drop a (xs ++ ys)) ≡ take n (drop b ys)
-same_back xs ys m a b n long is = same_lists _ _ (search (rules, places, long)) (λ k d h. grind (arith, places, long))
 
 abbrev zeros : ℕ → List ℕ
 zeros n = replicate n 0
@@ -283,3 +270,20 @@ none_present n = ap₂ (λ (present : List Bool) (items : List ℕ). own_memory 
 pub none_whole : (n : ℕ) → AreWhole (all_none n)
 none_whole zero = tt
 none_whole (suc n) = (length-replicate {A = ℕ} 4096 0, none_whole n)
+
+-- the puts of a table's page
+pub made_in_page : (pages : List (Option (List ℕ))) (now : Memory) (k : ℕ) (old after : List ℕ) (page : Option (List ℕ)) (puts : List Put) → table_memory pages ≡ now → AreWhole pages → k < length pages → page ≡ get_or pages k page → page ≡ Some old → AreInside (4096 * k) 4096 puts → after ≡ after_puts (4096 * k) old puts → table_memory (set pages k (Some after)) ≡ puts_made now puts
+made_in_page pages now k old after page [] shown whole below at is inside done =
+    ap (λ (bytes : List ℕ). table_memory (set pages k (Some bytes))) done
+    ∙ (ap table_memory (set_itself pages k (Some old) page below (sym is ∙ at)) ∙ shown)
+made_in_page pages now k old after page (p ∷ puts) shown whole below at is inside done =
+    let place = p.address - 4096 * k in
+    let next = overwrite old place p.bytes in
+    let long : length old ≡ 4096 = whole_at pages k (Some old) page whole below (sym is ∙ at) in
+    let full : length next ≡ 4096 = length_overwrite old place p.bytes (omega arith) ∙ long in
+    let one : table_memory (set pages k (Some next)) ≡ put now p.address p.bytes =
+    page_written pages now k place p.address old next p.bytes page shown whole below at is (omega arith) (omega arith) refl in
+    let rest : table_memory (set (set pages k (Some next)) k (Some after)) ≡ puts_made (put now p.address p.bytes) puts =
+    made_in_page (set pages k (Some next)) (put now p.address p.bytes) k next after (Some next) puts one (whole_after pages k (Some next) whole full)
+    (omega (arith, length-set pages k (Some next))) (sym (get_or-set_same pages k (Some next) (Some next) below)) refl inside.1 done in
+    ap table_memory (sym (set_twice pages k (Some next) (Some after))) ∙ rest

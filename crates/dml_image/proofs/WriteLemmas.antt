@@ -5,8 +5,8 @@ use Rattle.std.proofs.lemmas.Bool.{cases_lt, cases_eq, false≢true}
 use Rattle.dml_types.specs.Memory.{Memory, IsMemory, has, has_all, bytes_at, overwrite, put}
 use Rattle.dml_types.proofs.MemoryLemmas.{length_overwrite, overwrite_nil, overwrite_below, overwrite_inside, overwrite_past, has_all_within, put_keeps}
 use Rattle.std.specs.declared.alloc.AllocError.{AllocError}
-use Rattle.dml_image.specs.Brought.{brought, evicted}
-use Rattle.dml_image.proofs.PatternLemmas.{length_pattern_bytes}
+use Rattle.dml_segments.specs.Brought.{brought, evicted}
+use Rattle.dml_segments.proofs.PatternLemmas.{length_pattern_bytes}
 
 all_now : (inside now : Memory) (address n : ℕ) → inside ≡ now → has_all now address n ≡ true → has_all inside address n ≡ true
 all_now inside now address n is all = subst (λ (memory : Memory). has_all memory address n ≡ true) (sym is) all

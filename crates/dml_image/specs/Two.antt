@@ -2,7 +2,7 @@
 use Rattle.std.specs.Prelude.{Bool, List, [], ◌∷◌, length, nat_eq}
 use Rattle.dml_types.specs.Memory.{Memory}
 use Rattle.dml_image.specs.declared.two.Two.{Two}
-use Rattle.dml_image.specs.Pieces.{Piece, piece_of, places_of}
+use Rattle.dml_segments.specs.Pieces.{Piece, piece_of, places_of}
 
 abbrev pub pieces_of_two : Two → List Piece
 pieces_of_two two = piece_of two.low ∷ piece_of two.high ∷ []

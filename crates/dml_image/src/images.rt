@@ -1,22 +1,19 @@
 ghost use Rattle.std.specs.Prelude.{◌≡◌, ◌≢◌, ◌+◌, ◌-◌, ◌%◌, ◌^◌, ◌<◌, ◌≤◌, min, ◌↔◌, ◌⊎◌, false, length, IfOk, OnErr, OnOk, ◌&&◌, true, slice_index_or, EachIndex, IsErr, IsOk, IsSome, IsTrue, MatchOption, if◌then◌else◌};
 ghost use Rattle.dml_types.specs.Memory.{IsMemory, has, has_all, byte_at, bytes_at, is_in_segments, is_own, present_bytes, present_toward, put, puts_made};
 ghost use Rattle.dml_types.specs.Bytewise.{pattern_bytes};
-ghost use Rattle.dml_image.specs.Blocks.{are_present, block_puts};
-ghost use Rattle.dml_image.specs.Brought.{all_absent, brought, evicted, has_page};
-ghost use Rattle.dml_image.specs.Copied.{IsOneCopy};
+ghost use Rattle.dml_segments.specs.Blocks.{are_present, block_puts};
+ghost use Rattle.dml_segments.specs.Brought.{all_absent, brought, evicted, has_page};
+ghost use Rattle.dml_segments.specs.Copied.{IsOneCopy};
 ghost use Rattle.dml_image.specs.Kept.{kept_by, loan_memory};
-ghost use Rattle.dml_image.specs.Present.{IsPartOfPage};
-ghost use Rattle.dml_image.specs.Pieces.{AreSegments, pieces_memory, pieces_of};
+ghost use Rattle.dml_segments.specs.Present.{IsPartOfPage};
+ghost use Rattle.dml_segments.specs.Pieces.{AreSegments, pieces_memory, pieces_of};
 
 use crate::errors::ImageError;
 use crate::lent::Lent;
-use crate::ranges::rest_of_page;
 use crate::runs::{present_downwards, present_in_page, present_upwards};
-use crate::segmented::Segments;
-use crate::segments::Segment;
-use crate::slices::is_one_copy;
 use crate::tables::Table;
 use crate::{MAX_PAGES, PAGE_SIZE};
+use dml_segments::{Segment, Segments, is_one_copy, rest_of_page};
 use dml_types::Direction;
 use std::alloc::{AllocError, Global};
 use std::fmt;

@@ -1,16 +1,15 @@
 ghost use Rattle.std.specs.Prelude.{◌≡◌, ◌≢◌, ◌+◌, ◌-◌, ◌%◌, ◌<◌, ◌≤◌, ◌↔◌, false, Some, min, length, IsErr, IsOk, IsSome, IsTrue, MatchOption, OnErr, OnOk, ◌&&◌};
 ghost use Rattle.dml_types.specs.Memory.{IsMemory, has, has_all, bytes_at, put, puts_made};
 ghost use Rattle.dml_types.specs.Bytewise.{pattern_bytes};
-ghost use Rattle.dml_image.specs.Blocks.{are_present, block_puts};
-ghost use Rattle.dml_image.specs.Copied.{IsOneCopy};
-ghost use Rattle.dml_image.specs.Present.{IsPartOfPage};
+ghost use Rattle.dml_segments.specs.Blocks.{are_present, block_puts};
+ghost use Rattle.dml_segments.specs.Copied.{IsOneCopy};
+ghost use Rattle.dml_segments.specs.Present.{IsPartOfPage};
 ghost use Rattle.dml_image.specs.Kept.{lent_memory, loan_memory};
-ghost use Rattle.dml_image.specs.Brought.{brought, has_page};
+ghost use Rattle.dml_segments.specs.Brought.{brought, has_page};
 
-use crate::blocks::put_inside;
 use crate::images::{Image, Pages};
-use crate::slices::{copy_at, fill_at, is_blank, write_at};
 use crate::{MAX_PAGES, PAGE_SIZE};
+use dml_segments::{copy_at, fill_at, is_blank, put_inside, write_at};
 use std::alloc::AllocError;
 
 /// Whole pages of the caller's memory that are lent to an image: which of them are present, and their bytes.

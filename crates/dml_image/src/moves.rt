@@ -2,12 +2,12 @@
 ghost use Rattle.std.specs.Prelude.{◌≡◌, ◌+◌, ◌-◌, ◌<◌, ◌≤◌, ◌⊎◌, IsTrue, ◌&&◌, ◌%◌, false};
 ghost use Rattle.dml_types.specs.Memory.{IsMemory, has_all, bytes_at, put, has};
 ghost use Rattle.dml_types.specs.Bytewise.{pattern_bytes};
-ghost use Rattle.dml_image.specs.Copied.{IsCopyIn, IsOneCopy};
+ghost use Rattle.dml_segments.specs.Copied.{IsOneCopy};
+ghost use Rattle.dml_image.specs.Copied.{IsCopyIn};
 ghost use Rattle.dml_image.specs.Kept.{kept_by};
 
 use crate::images::Pages;
-use crate::ranges::{begin_of_page, rest_of_page};
-use crate::slices::at_once;
+use dml_segments::{at_once, begin_of_page, rest_of_page};
 use dml_types::Direction;
 
 impl Pages<'_> {

@@ -1,11 +1,10 @@
 ghost use Rattle.std.specs.Prelude.{◌≡◌, ◌+◌, ◌-◌, ◌/◌, ◌^◌, ◌≤◌, length, slice_range, IfOk};
 ghost use Rattle.dml_types.specs.Memory.{overwrite};
 ghost use Rattle.dml_types.specs.Bytewise.{pattern_bytes};
-ghost use Rattle.dml_image.specs.Blocks.{after_puts, block_puts_from, AreInside};
-ghost use Rattle.dml_image.specs.Copied.{IsOneCopy};
+ghost use Rattle.dml_segments.specs.Blocks.{after_puts, block_puts_from, AreInside};
+ghost use Rattle.dml_segments.specs.Copied.{IsOneCopy};
 
-use crate::blocks::put_inside;
-use crate::slices::{copy_at, fill_at, write_at};
+use dml_segments::{copy_at, fill_at, put_inside, write_at};
 use std::alloc::{AllocError, Global};
 use std::marker::Model;
 

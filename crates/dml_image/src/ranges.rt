@@ -1,26 +1,12 @@
-//! Ranges of an image's own pages, a part of a page at a time.
-ghost use Rattle.std.specs.Prelude.{◌≡◌, ◌+◌, ◌-◌, ◌%◌, ◌<◌, length, IsTrue};
-ghost use Rattle.dml_types.specs.Memory.{IsMemory, has_all, bytes_at, put};
+//! Ranges of an image's own pages, a part of a page at a time, and the blocks of a delta record's entries.
+ghost use Rattle.std.specs.Prelude.{◌≡◌, ◌+◌, ◌-◌, ◌*◌, ◌/◌, ◌<◌, ◌≤◌, length, IsTrue};
+ghost use Rattle.dml_types.specs.Memory.{IsMemory, has_all, bytes_at, put, puts_made};
 ghost use Rattle.dml_types.specs.Bytewise.{pattern_bytes};
+ghost use Rattle.dml_segments.specs.Blocks.{are_present, block_puts, block_puts_from};
 
-use crate::PAGE_SIZE;
-use crate::slices::WORD_SIZE;
 use crate::tables::Table;
-
-/// How many bytes of a page there are from an address on.
-pub fn rest_of_page(addr: u64) -> usize
-    ensures { result ≡ 4096 - addr % 4096 }
-{
-    PAGE_SIZE - addr as usize % PAGE_SIZE
-}
-
-/// How many bytes of a page there are before an address, a whole page at an edge.
-pub fn begin_of_page(addr: u64) -> usize
-    requires { 0 < addr }
-    ensures { result ≡ (addr - 1) % 4096 + 1 }
-{
-    (addr as usize - 1) % PAGE_SIZE + 1
-}
+use dml_segments::{ENTRY, WORD_SIZE, entry_block, rest_of_page};
+use dml_types::block_number;
 
 impl Table {
     /// Reads bytes from this address on into the whole buffer.
@@ -76,5 +62,36 @@ impl Table {
                 done += over_edge;
             }
         }
+    }
+
+    /// Puts the blocks of all whole entries, a page at a time as long as the next one lies in the same page.
+    pub fn put_blocks(&mut self, target: u64, entries: &[u8])
+        requires memory { IsMemory self.old }
+        requires present { IsTrue (are_present self.old (block_puts target entries.now)) }
+        ensures { self.new ≡ puts_made self.old (block_puts target entries.now) }
+    {
+        let count = entries.len() / ENTRY;
+        let mut done = 0;
+        while done < count {
+            done = self.put_some(target, entries, done);
+        }
+    }
+
+    /// Puts blocks from entry `first` on as far as they lie in one page, or one that lies over the end of a page.
+    /// Returns how many entries there are up to the last one that was put.
+    fn put_some(&mut self, target: u64, entries: &[u8], first: usize) -> usize
+        requires memory { IsMemory self.old }
+        requires present { IsTrue (are_present self.old (block_puts target entries.now)) }
+        requires first { first < length entries.now / 10 }
+        ensures within { (first < result) × (result ≤ length entries.now / 10) }
+        ensures made { self.new ≡ puts_made self.old (block_puts_from target entries.now first (result - first)) }
+    {
+        let addr = target + 8 * u64::from(block_number(entries, first));
+        let end = self.put_in_page(addr, target, entries, first);
+        if end > first {
+            return end;
+        }
+        self.write(addr, &entry_block(entries, first));
+        first + 1
     }
 }

@@ -1,10 +1,10 @@
 ghost use Rattle.std.specs.Prelude.{◌≡◌, ◌≢◌, ◌+◌, ◌-◌, ◌/◌, ◌%◌, ◌<◌, ◌≤◌, None, Some, true, false, ◌&&◌, min, length, IfOk, MatchOption, OnErr, OnOk, IsOk, IsSome, IsTrue, slice_index_or, slice_range, slice_set};
 ghost use Rattle.dml_types.specs.Memory.{has, bytes_at, overwrite, is_in_segments, is_own, put, puts_made};
 ghost use Rattle.dml_types.specs.Bytewise.{pattern_bytes};
-ghost use Rattle.dml_image.specs.Blocks.{block_puts_from};
-ghost use Rattle.dml_image.specs.Brought.{all_absent, brought, evicted, has_page};
-ghost use Rattle.dml_image.specs.Copied.{IsOneCopy};
-ghost use Rattle.dml_image.specs.Present.{IsPartOfPage};
+ghost use Rattle.dml_segments.specs.Blocks.{block_puts_from};
+ghost use Rattle.dml_segments.specs.Brought.{all_absent, brought, evicted, has_page};
+ghost use Rattle.dml_segments.specs.Copied.{IsOneCopy};
+ghost use Rattle.dml_segments.specs.Present.{IsPartOfPage};
 ghost use Rattle.dml_image.specs.Table.{page_bytes};
 
 use crate::PAGE_SIZE;

@@ -1,10 +1,10 @@
 ghost use Rattle.std.specs.Prelude.{◌≡◌, ◌∷◌, [], ◌↔◌, IfOk, IsTrue, OnErr};
-ghost use Rattle.dml_image.specs.Pieces.{AreSegments, piece_of, pieces_memory, place_at, segment_bytes};
+ghost use Rattle.dml_segments.specs.Pieces.{AreSegments, piece_of, pieces_memory, place_at, segment_bytes};
 ghost use Rattle.dml_image.specs.Two.{has_two_segments, pieces_of_two};
 
 use crate::images::Image;
-use crate::segments::Segment;
 use crate::{MAX_WHOLE_PAGES, PAGE_SIZE};
+use dml_segments::Segment;
 use std::alloc::{AllocError, Global};
 
 /// Two segments of a caller's memory that are lent to an image together.
@@ -27,7 +27,7 @@ impl<'a> Two<'a> {
 
     /// Whether they may be taken: whole pages, the higher segment behind the lower one, and 1 to 2^32 - 1 pages up to
     /// its end.
-    #[tactic(auto, using(crate::proofs::PieceLemmas::two_are, crate::proofs::PieceLemmas::two_is))]
+    #[tactic(auto, using(dml_segments::proofs::PieceLemmas::two_are, dml_segments::proofs::PieceLemmas::two_is))]
     pub fn is_memory(&self) -> bool
         ensures { IsTrue result ↔ AreSegments (pieces_of_two self.now) }
     {

@@ -14,7 +14,7 @@ use Rattle.dml_types.specs.Step.{operation_effect}
 use Rattle.dml_types.proofs.FirstLemmas.{first_agree}
 use Rattle.dml_types.proofs.MemoryLemmas.{has_all_from}
 use Rattle.dml_image.specs.Brought.{brought}
-use Rattle.dml_image.proofs.PatternLemmas.{length_pattern_bytes}
+use Rattle.dml_segments.proofs.PatternLemmas.{length_pattern_bytes}
 use Rattle.dml_resume.specs.Resuming.{can_go_on}
 use Rattle.dml_resume.proofs.BroughtLemmas.{IsToBring, read_kept, put_then_brought}
 use Rattle.dml_resume.proofs.BehindLemmas.{passes_before}

@@ -11,7 +11,7 @@ use Rattle.dml_types.specs.Bytewise.{pattern_byte, pattern_bytes}
 use Rattle.dml_types.specs.Step.{turned}
 use Rattle.dml_types.proofs.FirstLemmas.{first_none, first_right, first_agree}
 use Rattle.dml_types.proofs.MemoryLemmas.{has_all_within, put_nil, put_append}
-use Rattle.dml_image.proofs.PatternLemmas.{get_or_pattern_bytes, length_pattern_bytes}
+use Rattle.dml_segments.proofs.PatternLemmas.{get_or_pattern_bytes, length_pattern_bytes}
 use Rattle.dml_resume.proofs.TurnLemmas.{turned_byte}
 
 -- the first index where k indices fail before it

@@ -11,7 +11,7 @@ use Rattle.dml_types.specs.Bytewise.{operation_direction, pattern_bytes, compare
 use Rattle.dml_types.specs.Step.{turned}
 use Rattle.dml_desc.specs.Checked.{DualcastLimits}
 use Rattle.dml_desc.proofs.CheckedLemmas.{apart_ends}
-use Rattle.dml_image.proofs.PatternLemmas.{length_pattern_bytes}
+use Rattle.dml_segments.proofs.PatternLemmas.{length_pattern_bytes}
 use Rattle.dml_image.proofs.MoveLemmas.{range_part}
 use Rattle.dml_resume.proofs.SplitLemmas.{put_parts, bytes_parts, pattern_parts, and_more, same_end}
 use Rattle.dml_resume.proofs.BehindLemmas.{forward_apart}

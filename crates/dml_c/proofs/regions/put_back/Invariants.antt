@@ -1,6 +1,6 @@
 use Rattle.std.proofs.Common.{◌≡◌, ℕ, ◌*◌, ◌<◌, ◌≤◌, get_or, length, take}
 use Rattle.dml_c.specs.declared.regions.CRegion.{CRegion}
-use Rattle.dml_image.specs.declared.segments.Segment.{Segment}
+use Rattle.dml_segments.specs.declared.segments.Segment.{Segment}
 use Rattle.dml_image.specs.Pieces.{piece_of}
 use Rattle.dml_c.specs.Regions.{piece_of_region}
 use Rattle.dml_c.proofs.regions.put_back.Given as goal

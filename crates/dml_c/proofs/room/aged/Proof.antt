@@ -7,7 +7,7 @@ use denote.Signature.{named_lft}
 use denote.Ref.{NamedLft}
 use Rattle.dml_c.proofs.EmptyList.{empty_part}
 use Rattle.dml_c.proofs.Walks.{at_told}
-use Rattle.dml_image.specs.declared.segments.Segment.{Segment}
+use Rattle.dml_segments.specs.declared.segments.Segment.{Segment}
 use Rattle.std_alloc.specs.Vec.Covariant.{in_vec}
 use Rattle.std.proofs.Common.{ap, map}
 use Rattle.std.specs.contracts.alloc.Global as heap
@@ -15,8 +15,8 @@ use Rattle.std.specs.contracts.impls.GlobalAllocator.TheImpl.{ghosts}
 use Rattle.std.proofs.alloc.Global.TheLaws as heap_laws
 use Rattle.std_alloc.specs.contracts.vec.Vec as vec
 use Rattle.std_alloc.proofs.vec.Vec.TheLaws as vec_laws
-use Rattle.dml_image.specs.contracts.segments.Segment as segment
-use Rattle.dml_image.proofs.segments.Segment.TheLaws as segment_laws
+use Rattle.dml_segments.specs.contracts.segments.Segment as segment
+use Rattle.dml_segments.proofs.segments.Segment.TheLaws as segment_laws
 use Rattle.dml_c.specs.contracts.parts.Parts as parts
 use Rattle.dml_c.specs.contracts.room.aged as f
 use Rattle.dml_c.proofs.room.aged.Statement.{statement}

@@ -1,5 +1,5 @@
 use Rattle.std.proofs.Common.{arith}
-use Rattle.dml_image.proofs.SliceLemmas.{copied_front}
+use Rattle.dml_segments.proofs.SliceLemmas.{copied_front}
 use Rattle.dml_direct.proofs.ShiftLemmas.{copied_behind}
 use Rattle.dml_direct.proofs.shifting.copy_apart.Goals as goal
 

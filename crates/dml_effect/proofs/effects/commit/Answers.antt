@@ -2,7 +2,7 @@ use Rattle.std.proofs.Common.{◌≡◌, true, List, sym, ◌∙◌, ap, subst}
 use Rattle.std.proofs.lemmas.Bool.{and_parts}
 use Rattle.dml_types.specs.Memory.{Put, has_all}
 use Rattle.dml_types.specs.Effect.{Effect}
-use Rattle.dml_image.proofs.PatternLemmas.{length_pattern_bytes}
+use Rattle.dml_segments.proofs.PatternLemmas.{length_pattern_bytes}
 use Rattle.dml_effect.specs.Effects.{are_present, puts_of}
 use Rattle.dml_effect.proofs.effects.commit.Goals as goal
 

@@ -1,7 +1,7 @@
 use Rattle.std.proofs.Common.{◌≡◌, ℕ, ◌+◌, ◌-◌, ◌<◌, ◌≤◌, ◌++◌, List, length, ap, sym, ◌∙◌, arith, append_assoc}
 use Rattle.dml_types.specs.Memory.{bytes_at}
 use Rattle.dml_types.proofs.MemoryLemmas.{has_all_within}
-use Rattle.dml_image.proofs.RangeLemmas.{bytes_at_append}
+use Rattle.dml_segments.proofs.RangeLemmas.{bytes_at_append}
 use Rattle.dml_scan.proofs.StageLemmas.{part_here}
 use Rattle.dml_scan.proofs.staging.stage.Goals as goal
 

@@ -1,4 +1,4 @@
-use Rattle.dml_image.proofs.PatternLemmas.{length_pattern_bytes}
+use Rattle.dml_segments.proofs.PatternLemmas.{length_pattern_bytes}
 use Rattle.dml_image.proofs.WriteLemmas.{kept_after_put}
 use Rattle.dml_image.proofs.images.Image.fill.Goals as goal
 

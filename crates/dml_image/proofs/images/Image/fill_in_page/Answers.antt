@@ -2,7 +2,7 @@ use Rattle.std.proofs.Common.{sym, ◌∙◌, ap, arith}
 use Rattle.dml_types.specs.Memory.{has_all}
 use Rattle.dml_image.specs.Kept.{kept_by}
 use Rattle.dml_image.proofs.MoveLemmas.{kept_after_fill}
-use Rattle.dml_image.proofs.PatternLemmas.{length_pattern_bytes}
+use Rattle.dml_segments.proofs.PatternLemmas.{length_pattern_bytes}
 use Rattle.dml_image.proofs.RunLemmas.{has_all_of_page}
 use Rattle.dml_image.proofs.images.Image.fill_in_page.Goals as goal
 

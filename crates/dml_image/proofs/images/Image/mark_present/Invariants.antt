@@ -1,5 +1,5 @@
 use Rattle.std.proofs.Common.{◌≡◌, ℕ, ◌+◌, ◌<◌, false, get_or}
-use Rattle.dml_image.specs.Brought.{has_page}
+use Rattle.dml_segments.specs.Brought.{has_page}
 use Rattle.dml_image.proofs.images.Image.mark_present.Given as goal
 
 abbrev pub invariant-loop-i : goal.invariant-loop-i

@@ -1,4 +1,4 @@
-use Rattle.dml_image.proofs.BlockLemmas.{kept_after_blocks}
+use Rattle.dml_segments.proofs.BlockLemmas.{kept_after_blocks}
 use Rattle.dml_image.proofs.images.Image.put_blocks.Goals as goal
 
 pub invariant_of-self : goal.invariant_of-self

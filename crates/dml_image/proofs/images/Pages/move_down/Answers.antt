@@ -2,7 +2,7 @@ use Rattle.std.proofs.Common.{◌≡◌, ◌+◌, ◌-◌, arith, rules, ap, ap�
 use Rattle.dml_types.specs.Memory.{bytes_at, put}
 use Rattle.dml_image.specs.Kept.{kept_by}
 use Rattle.dml_image.proofs.MoveLemmas.{down_kept, down_more, down_start, part_after}
-use Rattle.dml_image.proofs.RangeLemmas.{range_fits}
+use Rattle.dml_segments.proofs.RangeLemmas.{range_fits}
 use Rattle.dml_image.proofs.images.Pages.move_down.Goals as goal
 
 pub loop-left-init : goal.loop-left-init

@@ -1,7 +1,7 @@
 use Rattle.std.proofs.Common.{arith, rules}
 use Rattle.dml_image.specs.Kept.{kept_by}
 use Rattle.dml_image.proofs.MoveLemmas.{nothing_moved, part_after, up_kept, up_more}
-use Rattle.dml_image.proofs.RangeLemmas.{range_fits}
+use Rattle.dml_segments.proofs.RangeLemmas.{range_fits}
 use Rattle.dml_image.proofs.images.Pages.move_up.Goals as goal
 
 pub loop-done-init : goal.loop-done-init

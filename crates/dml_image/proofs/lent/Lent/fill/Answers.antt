@@ -1,4 +1,4 @@
-use Rattle.dml_image.proofs.PatternLemmas.{length_pattern_bytes}
+use Rattle.dml_segments.proofs.PatternLemmas.{length_pattern_bytes}
 use Rattle.dml_image.proofs.WriteLemmas.{put_behind}
 use Rattle.dml_image.proofs.lent.Lent.fill.Goals as goal
 

@@ -2,8 +2,8 @@ use Rattle.std.proofs.Common.{◌≡◌, ℕ, ◌-◌, ◌/◌, Bool, true, List
 use Rattle.std.proofs.lemmas.Bool.{cases_lt}
 use Rattle.dml_types.specs.Memory.{InOnePiece, puts_made}
 use Rattle.dml_image.specs.Kept.{loan_memory, marked_memory}
-use Rattle.dml_image.specs.Blocks.{after_puts, block_puts, block_puts_from}
-use Rattle.dml_image.proofs.BlockLemmas.{block_fits, made_in_all}
+use Rattle.dml_segments.specs.Blocks.{after_puts, block_puts, block_puts_from}
+use Rattle.dml_segments.proofs.BlockLemmas.{block_fits, made_in_all}
 use Rattle.dml_image.proofs.lent.Lent.put_blocks.Goals as goal
 
 -- other bytes, as many as before

@@ -3,8 +3,8 @@ use Rattle.std.proofs.lemmas.Bool.{cases_lt}
 use Rattle.dml_types.specs.Memory.{put}
 use Rattle.dml_types.specs.Bytewise.{pattern_bytes}
 use Rattle.dml_types.proofs.MemoryLemmas.{put_nil}
-use Rattle.dml_image.proofs.PatternLemmas.{length_pattern_bytes, pattern_bytes_none, word_front}
-use Rattle.dml_image.proofs.RangeLemmas.{fill_more, memory_after_put, next_present, part_present, range_fits}
+use Rattle.dml_segments.proofs.PatternLemmas.{length_pattern_bytes, pattern_bytes_none, word_front}
+use Rattle.dml_segments.proofs.RangeLemmas.{fill_more, memory_after_put, next_present, part_present, range_fits}
 use Rattle.dml_image.proofs.tables.Table.fill.Goals as goal
 
 pub loop-done-init : goal.loop-done-init

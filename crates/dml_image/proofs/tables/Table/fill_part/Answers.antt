@@ -1,4 +1,4 @@
-use Rattle.dml_image.proofs.PatternLemmas.{length_pattern_bytes}
+use Rattle.dml_segments.proofs.PatternLemmas.{length_pattern_bytes}
 use Rattle.dml_image.proofs.TableLemmas.{part_written, whole_after}
 use Rattle.dml_image.proofs.tables.Table.fill_part.Goals as goal
 

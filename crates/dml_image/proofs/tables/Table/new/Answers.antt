@@ -1,5 +1,5 @@
 use Rattle.std.proofs.Common.{arith, ap, ◌∙◌}
-use Rattle.dml_image.specs.Brought.{all_absent}
+use Rattle.dml_segments.specs.Brought.{all_absent}
 use Rattle.dml_image.proofs.TableLemmas.{none_present, none_whole}
 use Rattle.dml_image.proofs.tables.Table.new.Goals as goal
 

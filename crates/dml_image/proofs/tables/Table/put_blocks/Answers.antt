@@ -1,7 +1,7 @@
 use Rattle.std.proofs.Common.{◌≡◌, ◌-◌, ◌++◌, sym, ◌∙◌, ap, subst, arith}
 use Rattle.dml_types.specs.Memory.{Memory, IsMemory, puts_made}
-use Rattle.dml_image.specs.Blocks.{are_present, block_puts, block_puts_from}
-use Rattle.dml_image.proofs.BlockLemmas.{front_present, kept_after_puts, made_both, present_after, puts_split}
+use Rattle.dml_segments.specs.Blocks.{are_present, block_puts, block_puts_from}
+use Rattle.dml_segments.proofs.BlockLemmas.{front_present, kept_after_puts, made_both, present_after, puts_split}
 use Rattle.dml_image.proofs.tables.Table.put_blocks.Goals as goal
 
 pub put_some-done-requires-clause-memory : goal.put_some-done-requires-clause-memory

@@ -1,6 +1,6 @@
 use Rattle.std.proofs.Common.{◌≡◌, ◌-◌, ◌≤◌}
 use Rattle.dml_types.specs.Memory.{puts_made}
-use Rattle.dml_image.specs.Blocks.{block_puts_from}
+use Rattle.dml_segments.specs.Blocks.{block_puts_from}
 use Rattle.dml_image.proofs.tables.Table.put_blocks.Given as goal
 
 abbrev pub invariant-loop-done : goal.invariant-loop-done

@@ -1,7 +1,6 @@
 use Rattle.std.proofs.Common.{◌/◌, ◌<◌, length, ◌∙◌, ap}
 use Rattle.dml_types.specs.Memory.{Memory, has}
-use Rattle.dml_image.proofs.TableLemmas.{page_of_byte, whole_after}
-use Rattle.dml_image.proofs.BlockLemmas.{made_in_page}
+use Rattle.dml_image.proofs.TableLemmas.{made_in_page, page_of_byte, whole_after}
 use Rattle.dml_image.proofs.tables.Table.put_in_page.Goals as goal
 
 pub invariant_of-self : goal.invariant_of-self

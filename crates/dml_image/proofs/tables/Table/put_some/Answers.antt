@@ -2,8 +2,8 @@ use Rattle.std.proofs.Common.{◌≡◌, ℕ, ◌+◌, ◌-◌, ◌*◌, List, l
 use Rattle.dml_types.specs.Memory.{Memory, has, has_all, put, puts_made}
 use Rattle.dml_types.specs.Delta.{block_number}
 use Rattle.dml_types.proofs.MemoryLemmas.{has_all_at}
-use Rattle.dml_image.specs.Blocks.{block_puts_from}
-use Rattle.dml_image.proofs.BlockLemmas.{address_fits, block_present}
+use Rattle.dml_segments.specs.Blocks.{block_puts_from}
+use Rattle.dml_segments.proofs.BlockLemmas.{address_fits, block_present}
 use Rattle.dml_image.proofs.tables.Table.put_some.Goals as goal
 
 pub overflow_add-addr : goal.overflow_add-addr

@@ -1,7 +1,7 @@
 use Rattle.std.proofs.Common.{rules, arith, refl}
 use Rattle.std.proofs.lemmas.Slice.{overwrites}
 use Rattle.dml_types.proofs.MemoryLemmas.{has_all_at}
-use Rattle.dml_image.proofs.RangeLemmas.{read_more}
+use Rattle.dml_segments.proofs.RangeLemmas.{read_more}
 use Rattle.dml_image.proofs.tables.Table.read_into.Goals as goal
 
 pub part-part-requires : goal.part-part-requires

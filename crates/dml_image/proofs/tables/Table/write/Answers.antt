@@ -1,6 +1,6 @@
 use Rattle.std.proofs.Common.{rules, arith, sym}
 use Rattle.dml_types.proofs.MemoryLemmas.{put_nil}
-use Rattle.dml_image.proofs.RangeLemmas.{next_present, range_fits, write_more}
+use Rattle.dml_segments.proofs.RangeLemmas.{next_present, range_fits, write_more}
 use Rattle.dml_image.proofs.tables.Table.write.Goals as goal
 
 pub loop-done-init : goal.loop-done-init

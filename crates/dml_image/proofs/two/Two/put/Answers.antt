@@ -2,10 +2,10 @@ use Rattle.std.proofs.Common.{arith, get_or, ◌≡◌, ◌∷◌, [], ◌++◌,
 use Rattle.std.proofs.lemmas.Bool.{eqb-true}
 use Rattle.std.proofs.lemmas.List.{length_push}
 use Rattle.dml_types.specs.Memory.{Memory}
-use Rattle.dml_image.specs.declared.segments.Segment.{Segment}
-use Rattle.dml_image.specs.Pieces.{pieces_memory, pieces_of, places_of}
+use Rattle.dml_segments.specs.declared.segments.Segment.{Segment}
+use Rattle.dml_segments.specs.Pieces.{pieces_memory, pieces_of, places_of}
 use Rattle.dml_image.specs.Two.{has_two_segments}
-use Rattle.dml_image.proofs.SegmentLemmas.{bytes_again}
+use Rattle.dml_segments.proofs.SegmentLemmas.{bytes_again}
 use Rattle.dml_image.proofs.two.Two.put.Goals as goal
 
 -- as many segments as their memory is lent in

@@ -1,0 +1,7 @@
+pub mod BlockLemmas
+pub mod JoinLemmas
+pub mod PatternLemmas
+pub mod PieceLemmas
+pub mod RangeLemmas
+pub mod SegmentLemmas
+pub mod SliceLemmas

@@ -36,7 +36,7 @@ extern "C" {
  * This header's version: the major number in the upper 16 bits, the minor one in the lower. A library fits where its
  * kazovuni_version() has the same major number, and is no less.
  */
-#define KAZOVUNI_VERSION UINT32_C(0x00010003)
+#define KAZOVUNI_VERSION UINT32_C(0x00010004)
 
 #define KAZOVUNI_DESCRIPTOR_BYTES 64
 #define KAZOVUNI_RECORD_BYTES 32
@@ -411,9 +411,10 @@ uint8_t kazovuni_submit_batch_at(
 /* Whether a table that is not too long has a region whose pointer is NULL where its length is not 0. */
 KAZOVUNI_INLINE bool kazovuni_has_null_region(const kazovuni_region *regions, size_t count)
 {
+    size_t i;
     if (count > KAZOVUNI_MOST_REGIONS)
         return false;
-    for (size_t i = 0; i < count; i++)
+    for (i = 0; i < count; i++)
         if (regions[i].bytes == NULL && regions[i].length != 0)
             return true;
     return false;

@@ -46,6 +46,15 @@ int main(void)
     uint8_t code = kazovuni_submit_list_over(page, sizeof page, descriptors[0], 2, 0, records[0], 2);
     if (code != KAZOVUNI_OK || kazovuni_version() != KAZOVUNI_VERSION || kazovuni_check(descriptors[1], 0) != 0)
         return 1;
+    kazovuni_region no_bytes = {0, NULL, KAZOVUNI_PAGE_BYTES};
+    if (kazovuni_submit_at(&engine, &no_bytes, 1, descriptors[0], records[0]) != KAZOVUNI_NO_ENGINE)
+        return 1;
+    if (kazovuni_create_staging(&engine, 0) != KAZOVUNI_OK)
+        return 1;
+    code = kazovuni_submit_at(&engine, &no_bytes, 1, descriptors[0], records[0]);
+    kazovuni_free(&engine);
+    if (code != KAZOVUNI_NULL_REGION)
+        return 1;
     return kazovuni_submit_list(&engine, descriptors[0], 2, records[0], 2) != KAZOVUNI_NO_ENGINE;
 }
 END

@@ -342,13 +342,15 @@ static void lay_at(uint64_t base, bool is_pointer, uint8_t descriptor[64], uint8
         move_address(record + 8, base, is_pointer);
 }
 
+/* A region far above the others, so that there is one where no page is. */
+static uint8_t far_above[PAGE];
+
 /*
- * The regions of the pages that are present, of one page and then of more by turns, and behind them one far above, so
- * that there is one where no page is; answers how many.
+ * The regions of the pages that are present, of one page and then of more by turns, and behind them the one far above;
+ * answers how many.
  */
 static size_t make_table(memory *memory, kazovuni_region table[KAZOVUNI_MOST_REGIONS])
 {
-    static uint8_t far_above[PAGE];
     size_t count = 0;
     for (size_t page = 0; page < memory->pages; page++) {
         if (!memory->present[page])
@@ -364,23 +366,42 @@ static size_t make_table(memory *memory, kazovuni_region table[KAZOVUNI_MOST_REG
     return count + 1;
 }
 
+/* The calls over regions; the table and the region far above stay as they were. */
+static uint8_t submit_regions(memory *memory, jobs *jobs)
+{
+    static const uint8_t zeros[PAGE];
+    kazovuni_region table[KAZOVUNI_MOST_REGIONS], before[KAZOVUNI_MOST_REGIONS];
+    const uint8_t *descriptors = jobs->descriptors[0];
+    uint8_t *records = jobs->records[0];
+    size_t count = jobs->count, regions = make_table(memory, table);
+    memset(before, 0, sizeof before);
+    memcpy(before, table, regions * sizeof *table);
+    uint8_t code = memory->form == REGIONS
+        ? kazovuni_submit_at(&memory->engine, table, regions, descriptors, records)
+        : kazovuni_submit_list_at(&memory->engine, table, regions, descriptors, count, records, count);
+    for (size_t i = 0; i < regions; i++)
+        if (table[i].address != before[i].address || table[i].bytes != before[i].bytes ||
+            table[i].length != before[i].length)
+            complain(jobs->numbers[0], form_names[memory->form], "the table");
+    if (memcmp(far_above, zeros, PAGE) != 0)
+        complain(jobs->numbers[0], form_names[memory->form], "the region far above");
+    return code;
+}
+
 /* The calls with the staging of an engine, over one piece and over regions. */
 static uint8_t submit_staged(memory *memory, jobs *jobs)
 {
-    kazovuni_region table[KAZOVUNI_MOST_REGIONS];
     const uint8_t *descriptors = jobs->descriptors[0];
     uint8_t *records = jobs->records[0];
-    size_t count = jobs->count, regions = is_in_regions(memory->form) ? make_table(memory, table) : 0;
+    size_t count = jobs->count;
     switch (memory->form) {
     case STAGED:
         return kazovuni_submit_in(&memory->engine, memory->piece, piece_length(memory), descriptors, records);
     case STAGED_LIST:
         return kazovuni_submit_list_in(
             &memory->engine, memory->piece, piece_length(memory), descriptors, count, records, count);
-    case REGIONS:
-        return kazovuni_submit_at(&memory->engine, table, regions, descriptors, records);
     default:
-        return kazovuni_submit_list_at(&memory->engine, table, regions, descriptors, count, records, count);
+        return submit_regions(memory, jobs);
     }
 }
 

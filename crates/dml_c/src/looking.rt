@@ -11,9 +11,9 @@ use dml_types::{Job, Op};
 /// The version of the header: the major number in the upper 16 bits, the minor one in the lower.
 #[unsafe(no_mangle)]
 pub extern "C" fn kazovuni_version() -> u32
-    ensures { result ≡ 65539 }
+    ensures { result ≡ 65540 }
 {
-    0x0001_0003
+    0x0001_0004
 }
 
 /// 0 where the job of a descriptor is accepted, else the code of the first rule that it breaks.

@@ -1,6 +1,6 @@
 -- Which bytes of an image are copied at once, from one address on to another.
 use Rattle.std.specs.Prelude.{◌≤◌, ◌+◌, ◌%◌, ℕ}
-use Rattle.dml_segments.specs.Copied.{IsOneCopy}
+pub use Rattle.dml_segments.specs.Copied.{IsOneCopy}
 use Rattle.dml_image.specs.declared.images.Pages.TheVariants as pages
 use Rattle.dml_image.specs.declared.images.Pages.{Pages}
 

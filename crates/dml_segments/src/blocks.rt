@@ -1,8 +1,7 @@
 //! The blocks of a delta record's entries, put where they belong.
-ghost use Rattle.std.specs.Prelude.{◌≡◌, ◌+◌, ◌-◌, ◌*◌, ◌/◌, ◌^◌, ◌<◌, ◌≤◌, false, true, length, slice_range, IsTrue};
-ghost use Rattle.dml_types.specs.Memory.{IsMemory, puts_made};
+ghost use Rattle.std.specs.Prelude.{◌≡◌, ◌+◌, ◌-◌, ◌*◌, ◌/◌, ◌^◌, ◌<◌, ◌≤◌, false, true, length, slice_range};
 ghost use Rattle.dml_types.specs.Delta as delta;
-ghost use Rattle.dml_segments.specs.Blocks.{after_puts, are_present, block_puts, block_puts_from, AreInside, IsInside};
+ghost use Rattle.dml_segments.specs.Blocks.{after_puts, block_puts_from, AreInside, IsInside};
 
 use crate::slices::write_at;
 use dml_types::block_number;

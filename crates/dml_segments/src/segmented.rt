@@ -290,13 +290,14 @@ impl Segments<'_> {
     }
 
     /// Copies bytes from one address on to those from another on, as many as go at once and as the segments of both
-    /// have there, `most` at most. Returns how many.
+    /// have there, `most` at most; where all go at once, at least up to the end of a page. Returns how many.
     #[inline(never)]
     pub fn copy_behind(&mut self, from: u64, to: u64, most: usize) -> usize
         requires some { 0 < most }
         requires present { IsTrue (has self.old from) × IsTrue (has self.old to) }
         ensures some { 0 < result }
         ensures most { result ≤ most }
+        ensures page { IsOneCopy from to most → min most (min (4096 - from % 4096) (4096 - to % 4096)) ≤ result }
         ensures copied { self.new ≡ put self.old to (bytes_at self.old from result) }
     {
         let source = spot_of(self.list.as_slice(), from);
@@ -342,7 +343,7 @@ impl Segments<'_> {
     }
 
     /// Copies bytes before one address to those before another, as many as go at once and as the segments of both have
-    /// there, `most` at most. Returns how many.
+    /// there, `most` at most; where all go at once, at least down to the begin of a page. Returns how many.
     #[inline(never)]
     pub fn copy_before(&mut self, from: u64, to: u64, most: usize) -> usize
         requires some { 0 < most }
@@ -350,6 +351,8 @@ impl Segments<'_> {
         requires present { IsTrue (has self.old (from - 1)) × IsTrue (has self.old (to - 1)) }
         ensures some { 0 < result }
         ensures most { result ≤ most }
+        ensures page { IsOneCopy from to most
+            → min most (min ((from - 1) % 4096 + 1) ((to - 1) % 4096 + 1)) ≤ result }
         ensures copied { self.new ≡ put self.old (to - result) (bytes_at self.old (from - result) result) }
     {
         let source = spot_of(self.list.as_slice(), from - 1);

@@ -1,5 +1,5 @@
 //! Segments of memory that a caller lends, in lists.
-ghost use Rattle.std.specs.Prelude.{◌≡◌, ℕ, ◌+◌, ◌*◌, ◌<◌, ◌≤◌, ◌↔◌, None, [], false, length, slice_range, vec_capacity, IfSome, IsTrue};
+ghost use Rattle.std.specs.Prelude.{◌≡◌, ℕ, ◌+◌, ◌*◌, ◌<◌, ◌≤◌, ◌↔◌, None, [], false, length, slice_range, IfSome, IsTrue};
 ghost use Rattle.dml_types.specs.Memory.{has};
 ghost use Rattle.dml_segments.specs.Copied.{IsOneCopy};
 ghost use Rattle.dml_segments.specs.Pieces.{AreInOrder, AreSegments, IsAt, piece_at, pieces_memory, pieces_of, written};

@@ -59,6 +59,7 @@ pub fn at_once(from: u64, to: u64, most: usize) -> usize
     ensures some { 0 < result }
     ensures most { result ≤ most }
     ensures apart { IsOneCopy from to result }
+    ensures goes { IsOneCopy from to most → result ≡ most }
 {
     most.min(from.abs_diff(to).max(SHORT as u64) as usize)
 }

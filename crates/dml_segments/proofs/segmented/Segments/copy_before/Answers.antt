@@ -29,3 +29,9 @@ returns-clause-copied c =
     at_source.below (omega (arith, at_source.room, at_source.some, c.min.ensures, c.min-count.ensures)) (omega (arith, at_source.here, c.min.ensures, c.min-count.ensures, c.at_once.ensures.most, c.requires.within.0))
     at_target.below (omega (arith, at_target.room, at_target.some, c.min.ensures, c.min-count.ensures)) (omega (arith, at_target.here, c.min.ensures, c.min-count.ensures, c.at_once.ensures.most, c.requires.within.1))
     c.copy_between.ensures).0
+
+pub returns-clause-page : goal.returns-clause-page
+returns-clause-page c one =
+    let from = spot_here c.as_slice.result.now c.self.inside.list.items c.args.self.now c.as_slice.ensures.value c.self.invariant c.self.view_is c.spot_of-source.result (c.args.from - 1) c.spot_of-source.ensures in
+    let to = spot_here c.as_slice-2.result.now c.self.inside.list.items c.args.self.now c.as_slice-2.ensures.value c.self.invariant c.self.view_is c.spot_of-target.result (c.args.to - 1) c.spot_of-target.ensures in
+    omega (arith, from.here, to.here, c.at_once.ensures.goes one, c.min.ensures, c.min-count.ensures)

@@ -1,6 +1,7 @@
 //! The worked rows of portals, and their refusals.
 
 mod between;
+mod claims;
 mod clients;
 mod endings;
 mod entering;
@@ -21,6 +22,7 @@ mod steps;
 mod vanishing;
 mod waiting_clients;
 
+use claims::same;
 use dml_engine::Engine;
 use dml_image::Image;
 use dml_portal::{Full, Portal, PortalError};
@@ -29,7 +31,6 @@ use portals::One;
 use std::alloc::Global;
 use std::process::Abort;
 use std::sync::Wait;
-use std::test::Fail;
 use std::thread::Threads;
 
 /// An engine over an image of one page, which is present.
@@ -110,65 +111,43 @@ impl Row {
     }
 
     /// Expects it of a portal.
-    fn expect<R: Abort + Threads + Wait + Sync>(
-        self,
-        rt: &R,
-        alloc: Global,
-        portal: One<'_>,
-    ) -> Result<(), Fail> {
+    fn expect<R: Abort + Threads + Wait + Sync>(self, rt: &R, alloc: Global, portal: One<'_>) {
         match self {
             Row::FullRing => expect_full_ring(rt, alloc, portal),
             Row::RoundOf128 => expect_round_of_128(rt, alloc, portal),
             Row::PolledInOrder => expect_polled_in_order(rt, alloc, portal),
-            Row::PollWithOneSlot => {
-                expect_poll_with_one_slot(rt, alloc, portal);
-                Ok(())
-            }
+            Row::PollWithOneSlot => expect_poll_with_one_slot(rt, alloc, portal),
             Row::FenceInAQueue => expect_fence_in_a_queue(rt, alloc, portal),
         }
     }
 
     /// Expects it over an image's own page.
-    fn expect_of_own<R: Abort + Threads + Wait + Sync>(
-        self,
-        rt: &R,
-        alloc: Global,
-    ) -> Result<(), Fail> {
-        let portal = One::open(alloc, self.capacity()).ok_or("no memory")?;
-        self.expect(rt, alloc, portal)
+    fn expect_of_own<R: Abort + Threads + Wait + Sync>(self, rt: &R, alloc: Global) {
+        let portal = One::open(alloc, self.capacity()).expect(rt, "no memory");
+        self.expect(rt, alloc, portal);
     }
 }
 
 /// A ring that has room for two jobs hands the third back, and takes it once a round is served.
-fn expect_full_ring<R: Abort + Threads + Wait + Sync>(
-    rt: &R,
-    alloc: Global,
-    portal: One<'_>,
-) -> Result<(), Fail> {
+fn expect_full_ring<R: Abort + Threads + Wait + Sync>(rt: &R, alloc: Global, portal: One<'_>) {
     let mut portal = portal;
     let job = Job::no_op();
     portal.submit_all(rt, &[job, job]);
-    assert_eq!(rt; portal.submit(job), Err(Full { job }));
+    same(rt, portal.submit(job), Err(Full { job }));
     portal.expect_served(rt, alloc, 2);
     portal.submit_all(rt, &[job]);
-    let settled = portal.settle(rt, alloc).ok_or("not settled")?;
-    assert_eq!(rt; settled.log.list.len(), 3);
-    Ok(())
+    let settled = portal.settle(rt, alloc).expect(rt, "not settled");
+    same(rt, settled.log.list.len(), 3);
 }
 
 /// A round fetches at most 128 jobs of a client.
-fn expect_round_of_128<R: Abort + Threads + Wait + Sync>(
-    rt: &R,
-    alloc: Global,
-    portal: One<'_>,
-) -> Result<(), Fail> {
+fn expect_round_of_128<R: Abort + Threads + Wait + Sync>(rt: &R, alloc: Global, portal: One<'_>) {
     let mut portal = portal;
     portal.submit_all(rt, &[Job::no_op(); 130]);
     portal.expect_served(rt, alloc, 128);
     portal.expect_served(rt, alloc, 2);
-    let settled = portal.settle(rt, alloc).ok_or("not settled")?;
-    assert_eq!(rt; settled.log.list.len(), 130);
-    Ok(())
+    let settled = portal.settle(rt, alloc).expect(rt, "not settled");
+    same(rt, settled.log.list.len(), 130);
 }
 
 /// Records are polled in the order of the jobs.
@@ -176,15 +155,14 @@ fn expect_polled_in_order<R: Abort + Threads + Wait + Sync>(
     rt: &R,
     alloc: Global,
     portal: One<'_>,
-) -> Result<(), Fail> {
+) {
     let mut portal = portal;
     portal.submit_all(rt, &[Job::fill(1, 0, 8), Job::no_op()]);
     portal.expect_polled(rt, &[]);
     portal.expect_served(rt, alloc, 2);
     portal.expect_polled(rt, &[done(8), done(0)]);
-    let settled = portal.settle(rt, alloc).ok_or("not settled")?;
-    assert_eq!(rt; settled.log.list.len(), 2);
-    Ok(())
+    let settled = portal.settle(rt, alloc).expect(rt, "not settled");
+    same(rt, settled.log.list.len(), 2);
 }
 
 /// A record for which there is no room waits in the log.
@@ -208,39 +186,38 @@ fn expect_fence_in_a_queue<R: Abort + Threads + Wait + Sync>(
     rt: &R,
     alloc: Global,
     portal: One<'_>,
-) -> Result<(), Fail> {
+) {
     let mut portal = portal;
     portal.submit_all(rt, &fenced_jobs());
     portal.expect_served(rt, alloc, 4);
     portal.expect_polled(rt, &fenced_records());
-    let settled = portal.settle(rt, alloc).ok_or("not settled")?;
+    let settled = portal.settle(rt, alloc).expect(rt, "not settled");
     expect_bytes(rt, &settled.image, &[(0, 0), (7, 0), (8, 3), (9, 0)]);
-    Ok(())
 }
 
 #[test]
-fn full_ring(rt: HostRuntime) -> Result<(), Fail> {
-    Row::FullRing.expect_of_own(&rt, rt.alloc())
+fn full_ring(rt: HostRuntime) {
+    Row::FullRing.expect_of_own(&rt, rt.alloc());
 }
 
 #[test]
-fn round_of_128(rt: HostRuntime) -> Result<(), Fail> {
-    Row::RoundOf128.expect_of_own(&rt, rt.alloc())
+fn round_of_128(rt: HostRuntime) {
+    Row::RoundOf128.expect_of_own(&rt, rt.alloc());
 }
 
 #[test]
-fn polled_in_order(rt: HostRuntime) -> Result<(), Fail> {
-    Row::PolledInOrder.expect_of_own(&rt, rt.alloc())
+fn polled_in_order(rt: HostRuntime) {
+    Row::PolledInOrder.expect_of_own(&rt, rt.alloc());
 }
 
 #[test]
-fn poll_with_one_slot(rt: HostRuntime) -> Result<(), Fail> {
-    Row::PollWithOneSlot.expect_of_own(&rt, rt.alloc())
+fn poll_with_one_slot(rt: HostRuntime) {
+    Row::PollWithOneSlot.expect_of_own(&rt, rt.alloc());
 }
 
 #[test]
-fn fence_in_a_queue(rt: HostRuntime) -> Result<(), Fail> {
-    Row::FenceInAQueue.expect_of_own(&rt, rt.alloc())
+fn fence_in_a_queue(rt: HostRuntime) {
+    Row::FenceInAQueue.expect_of_own(&rt, rt.alloc());
 }
 
 /// A portal of these arguments is refused: why, and the pages of the engine that is handed back.
@@ -253,7 +230,7 @@ fn refusal(alloc: Global, clients: u32, capacity: u32) -> Option<(PortalError, u
 
 /// Arguments out of their limits are refused.
 #[test]
-fn arguments_refused(rt: HostRuntime) -> Result<(), Fail> {
+fn arguments_refused(rt: HostRuntime) {
     for (clients, capacity, error) in [
         (0, 1, PortalError::BadClients),
         (9, 1, PortalError::BadClients),
@@ -261,7 +238,10 @@ fn arguments_refused(rt: HostRuntime) -> Result<(), Fail> {
         (1, 0, PortalError::BadCapacity),
         (8, 1025, PortalError::BadCapacity),
     ] {
-        assert_eq!(rt; refusal(rt.alloc(), clients, capacity), Some((error, 1)));
+        same(
+            &rt,
+            refusal(rt.alloc(), clients, capacity),
+            Some((error, 1)),
+        );
     }
-    Ok(())
 }

@@ -1,7 +1,8 @@
 //! What happens to an image between rounds.
 ghost use Rattle.std.specs.Prelude.{◌≡◌};
 
-use super::portals::{One, Two};
+use super::claims::same;
+use super::portals::One;
 use super::stays::Stay;
 use super::{done, expect_bytes};
 use dml_desc::rest;
@@ -12,7 +13,6 @@ use dml_portal::{LongServer, ServerOver};
 use dml_types::{Direction, Job, Record, Settings, Status};
 use std::alloc::Global;
 use std::process::Abort;
-use std::test::Fail;
 
 /// An engine over an image of two pages, of which the second is absent.
 fn engine_of_two(alloc: Global) -> Option<Engine> {
@@ -24,6 +24,18 @@ fn engine_of_two(alloc: Global) -> Option<Engine> {
         workers: 4,
     };
     Engine::new(alloc, image, settings).ok()
+}
+
+/// A portal of one client over it.
+fn portal_of_one(rt: &impl Abort, alloc: Global) -> One<'static> {
+    let engine = engine_of_two(alloc).expect(rt, "no memory");
+    One::over(alloc, engine, 4).expect(rt, "no memory")
+}
+
+/// A portal of two clients over it, whose server stays up.
+fn portal_of_two(rt: &impl Abort, alloc: Global) -> Stay {
+    let engine = engine_of_two(alloc).expect(rt, "no memory");
+    Stay::open(alloc, engine, 4, 4).expect(rt, "no memory")
 }
 
 /// What a fill of 12 bytes writes across two pages, of which the second was full of 9.
@@ -52,39 +64,37 @@ fn fault() -> Record {
     }
 }
 
+/// What is left of it then.
+fn rest_of_fill(rt: &impl Abort) -> Job {
+    rest(&fill_across(), &fault()).expect(rt, "no rest")
+}
+
 /// A page that a client's job faulted on is brought between rounds, and the rest of the job goes through.
 #[test]
-fn fault_resumed(rt: HostRuntime) -> Result<(), Fail> {
-    let engine = engine_of_two(rt.alloc()).ok_or("no memory")?;
-    let mut portal = One::over(rt.alloc(), engine, 4).ok_or("no memory")?;
+fn fault_resumed(rt: HostRuntime) {
+    let mut portal = portal_of_one(&rt, rt.alloc());
     portal.submit_all(&rt, &[fill_across()]);
     portal.expect_served(&rt, rt.alloc(), 1);
     portal.expect_polled(&rt, &[fault()]);
-    assert_eq!(rt; portal.server.bring(1, &[9; 4096]), Ok(()));
-    portal.submit_all(&rt, &[rest(&fill_across(), &fault()).ok_or("no rest")?]);
+    same(&rt, portal.bring(1, &[9; 4096]), Ok(()));
+    portal.submit_all(&rt, &[rest_of_fill(&rt)]);
     portal.expect_served(&rt, rt.alloc(), 1);
     portal.expect_polled(&rt, &[done(6)]);
-    expect_bytes(&rt, portal.server.image(), &BYTES);
-    Ok(())
+    expect_bytes(&rt, portal.image(), &BYTES);
 }
 
 /// The same of a server that stays up.
 #[test]
-fn fault_resumed_while_up(rt: HostRuntime) -> Result<(), Fail> {
-    let engine = engine_of_two(rt.alloc()).ok_or("no memory")?;
-    let portal = Two::open(rt.alloc(), engine, 4).ok_or("no memory")?;
-    let Ok(mut portal) = Stay::of(portal, 4) else {
-        return Err("no memory".into());
-    };
-    assert!(rt; portal.submit_first(fill_across()));
-    assert_eq!(rt; portal.serve(&rt, rt.alloc()), Ok(1));
+fn fault_resumed_while_up(rt: HostRuntime) {
+    let mut portal = portal_of_two(&rt, rt.alloc());
+    portal.first_submits(&rt, fill_across());
+    portal.expect_served(&rt, rt.alloc(), 1);
     portal.expect_polled(&rt, &[fault()], &[]);
-    assert_eq!(rt; portal.server.bring(1, &[9; 4096]), Ok(()));
-    assert!(rt; portal.submit_first(rest(&fill_across(), &fault()).ok_or("no rest")?));
-    assert_eq!(rt; portal.serve(&rt, rt.alloc()), Ok(1));
+    same(&rt, portal.bring(1, &[9; 4096]), Ok(()));
+    portal.first_submits(&rt, rest_of_fill(&rt));
+    portal.expect_served(&rt, rt.alloc(), 1);
     portal.expect_polled(&rt, &[done(6)], &[]);
-    expect_bytes(&rt, portal.server.image(), &BYTES);
-    Ok(())
+    expect_bytes(&rt, portal.image(), &BYTES);
 }
 
 /// Writes three bytes into the page that is present.
@@ -96,26 +106,25 @@ fn write_bytes(rt: &impl Abort, server: &mut ServerOver<'_, Free>)
     server.write(8, &[1, 2, 3]);
 }
 
+/// The bytes that they leave once a client has moved them.
+const MOVED: [(u64, u8); 5] = [(8, 1), (10, 3), (16, 1), (18, 3), (19, 0)];
+
 /// Three bytes are written between rounds, and the next round finds them.
 #[test]
-fn bytes_written(rt: HostRuntime) -> Result<(), Fail> {
-    let engine = engine_of_two(rt.alloc()).ok_or("no memory")?;
+fn bytes_written(rt: HostRuntime) {
+    let engine = engine_of_two(rt.alloc()).expect(&rt, "no memory");
     let settings = engine.settings();
-    let mut portal = One::over(rt.alloc(), engine, 4).ok_or("no memory")?;
-    assert_eq!(rt; portal.server.settings(), settings);
-    assert_eq!(rt;
-        portal.server.bring(2, &[0; 4096]),
-        Err(ImageError::NoSuchPage)
+    let mut portal = One::over(rt.alloc(), engine, 4).expect(&rt, "no memory");
+    same(&rt, portal.settings(), settings);
+    same(
+        &rt,
+        portal.bring(2, &[0; 4096]),
+        Err(ImageError::NoSuchPage),
     );
     write_bytes(&rt, &mut portal.server);
     portal.submit_all(&rt, &[Job::move_bytes(8, 16, 3)]);
     portal.expect_served(&rt, rt.alloc(), 1);
-    expect_bytes(
-        &rt,
-        portal.server.image(),
-        &[(8, 1), (10, 3), (16, 1), (18, 3), (19, 0)],
-    );
-    Ok(())
+    expect_bytes(&rt, portal.image(), &MOVED);
 }
 
 /// Writes them into that of a server that stays up.
@@ -129,21 +138,13 @@ fn write_bytes_while_up(rt: &impl Abort, server: &mut LongServer<Free>)
 
 /// The same of a server that stays up.
 #[test]
-fn bytes_written_while_up(rt: HostRuntime) -> Result<(), Fail> {
-    let engine = engine_of_two(rt.alloc()).ok_or("no memory")?;
+fn bytes_written_while_up(rt: HostRuntime) {
+    let engine = engine_of_two(rt.alloc()).expect(&rt, "no memory");
     let settings = engine.settings();
-    let portal = Two::open(rt.alloc(), engine, 4).ok_or("no memory")?;
-    let Ok(mut portal) = Stay::of(portal, 4) else {
-        return Err("no memory".into());
-    };
-    assert_eq!(rt; portal.server.settings(), settings);
+    let mut portal = Stay::open(rt.alloc(), engine, 4, 4).expect(&rt, "no memory");
+    same(&rt, portal.settings(), settings);
     write_bytes_while_up(&rt, &mut portal.server);
-    assert!(rt; portal.submit_second(Job::move_bytes(8, 16, 3)));
-    assert_eq!(rt; portal.serve(&rt, rt.alloc()), Ok(1));
-    expect_bytes(
-        &rt,
-        portal.server.image(),
-        &[(8, 1), (10, 3), (16, 1), (18, 3), (19, 0)],
-    );
-    Ok(())
+    portal.second_submits(&rt, Job::move_bytes(8, 16, 3));
+    portal.expect_served(&rt, rt.alloc(), 1);
+    expect_bytes(&rt, portal.image(), &MOVED);
 }

@@ -2,15 +2,16 @@
 ghost use Rattle.dml_portal.specs.Lanes.{AreSameLanes};
 ghost use Rattle.dml_portal.specs.Seats.{IsSameSeat};
 
+use super::claims::{holds, same};
 use super::portals::Two;
-use super::{done, engine};
+use super::steps::serve;
+use super::{done, engine, expect_bytes};
 use dml_pool::Free;
 use dml_portal::{LogEntry, Seat, Server, ServerOver, Settled};
 use dml_types::{Job, Record};
 use std::alloc::Global;
 use std::process::Abort;
 use std::sync::Wait;
-use std::test::Fail;
 use std::thread::{self, Threads};
 
 /// The turns for which a seat polls, and a server serves rounds.
@@ -42,7 +43,7 @@ fn submitted(rt: &impl Abort, seat: Seat, list: &[(Job, Record)]) -> Seat
 {
     let mut seat = seat;
     for (job, _) in list {
-        assert_eq!(rt; seat.try_submit(*job), Ok(()));
+        same(rt, seat.try_submit(*job), Ok(()));
     }
     seat
 }
@@ -56,20 +57,19 @@ pub(super) fn expect_part(rt: &impl Abort, log: &[LogEntry], client: u32, list: 
             job: *job,
             answer: *answer,
         };
-        assert_eq!(rt; part.next().copied(), Some(wanted));
+        same(rt, part.next().copied(), Some(wanted));
     }
-    assert!(rt; part.next().is_none());
+    holds(rt, part.next().is_none());
 }
 
 /// Each client's part of the log is its list, and the image has what they wrote.
 pub(super) fn expect_settled(rt: &impl Abort, settled: &Settled) {
     let log = settled.log.list.as_slice();
-    assert_eq!(rt; log.len(), 3);
+    same(rt, log.len(), 3);
     expect_part(rt, log, 0, &first_list());
     expect_part(rt, log, 1, &second_list());
-    for (addr, byte) in [(0, 0xa5), (63, 0xa5), (64, 0), (256, 1), (257, 0)] {
-        assert_eq!(rt; settled.image.byte(addr), Some(byte), "{addr}");
-    }
+    let bytes = [(0, 0xa5), (63, 0xa5), (64, 0), (256, 1), (257, 0)];
+    expect_bytes(rt, &settled.image, &bytes);
 }
 
 /// Each client submits its list on a thread of its own.
@@ -109,24 +109,24 @@ fn submitted_at_once<R: Abort + Threads + Sync>(rt: &R, portal: Two) -> Two {
 
 /// Two clients submit at once.
 #[test]
-fn two_seats(rt: HostRuntime) -> Result<(), Fail> {
+fn two_seats(rt: HostRuntime) {
     for _ in 0..10 {
-        let portal = portal_of_two(rt.alloc()).ok_or("no memory")?;
+        let portal = portal_of_two(rt.alloc()).expect(&rt, "no memory");
         let portal = submitted_at_once(&rt, portal);
-        let settled = portal.settle(&rt, rt.alloc()).ok_or("not settled")?;
+        let settled = portal.settle(&rt, rt.alloc()).expect(&rt, "not settled");
         expect_settled(&rt, &settled);
     }
-    Ok(())
 }
 
 /// A portal is not settled before each client has finished.
 #[test]
-fn strangers(rt: HostRuntime) -> Result<(), Fail> {
-    let portal = portal_of_two(rt.alloc()).ok_or("no memory")?;
+fn strangers(rt: HostRuntime) {
+    let portal = portal_of_two(rt.alloc()).expect(&rt, "no memory");
     let portal = submitted_at_once(&rt, portal);
-    let settled = portal.settle_late(&rt, rt.alloc()).ok_or("not settled")?;
+    let settled = portal
+        .settle_late(&rt, rt.alloc())
+        .expect(&rt, "not settled");
     expect_settled(&rt, &settled);
-    Ok(())
 }
 
 /// Submits jobs and polls for so many turns: the seat, and the records that it has polled.
@@ -159,7 +159,7 @@ fn served<'a, R: Abort + Threads + Wait + Sync>(
 {
     let mut server = server;
     for _ in 0..TURNS {
-        assert!(rt; server.serve_round(rt, alloc).is_ok());
+        holds(rt, serve(rt, alloc, &mut server).is_ok());
         thread::yield_now();
     }
     server
@@ -181,10 +181,10 @@ pub(super) fn polled_to_the_end(
             Some(record) => Some(*record),
             None => seat.poll(),
         };
-        assert_eq!(rt; next, Some(*answer));
+        same(rt, next, Some(*answer));
     }
-    assert!(rt; earlier.next().is_none());
-    assert_eq!(rt; seat.poll(), None);
+    holds(rt, earlier.next().is_none());
+    same(rt, seat.poll(), None);
     seat
 }
 
@@ -197,7 +197,7 @@ fn expect_all_polled<R: Abort + Threads + Wait + Sync>(
     of_second: &[Record],
 ) -> Two {
     let mut portal = portal;
-    assert!(rt; portal.serve(rt, alloc).is_ok());
+    holds(rt, portal.serve(rt, alloc).is_ok());
     let Two {
         server,
         first,
@@ -264,14 +264,13 @@ fn polled_while_served<R: Abort + Threads + Wait + Sync>(
 /// Two clients poll on threads of their own while a third thread serves. The rings hold all their records, so in the
 /// end each client has polled all of its own.
 #[test]
-fn polls_while_serving(rt: HostRuntime) -> Result<(), Fail> {
+fn polls_while_serving(rt: HostRuntime) {
     for _ in 0..10 {
-        let portal = portal_of_two(rt.alloc()).ok_or("no memory")?;
+        let portal = portal_of_two(rt.alloc()).expect(&rt, "no memory");
         let (portal, of_first, of_second) = polled_while_served(&rt, rt.alloc(), portal);
         let (of_first, of_second) = (of_first.as_slice(), of_second.as_slice());
         let portal = expect_all_polled(&rt, rt.alloc(), portal, of_first, of_second);
-        let settled = portal.settle(&rt, rt.alloc()).ok_or("not settled")?;
+        let settled = portal.settle(&rt, rt.alloc()).expect(&rt, "not settled");
         expect_settled(&rt, &settled);
     }
-    Ok(())
 }

@@ -10,7 +10,6 @@ use std::alloc::Global;
 use std::process::Abort;
 use std::sync::Wait;
 use std::sync::atomic::{AtomicU64, Ordering};
-use std::test::Fail;
 use std::thread::Threads;
 
 /// How often each of the first tasks of a wave entered, four bits of a word for each, and how often another one did.
@@ -86,11 +85,11 @@ fn expect_rounds<R: Abort + Threads + Wait + Sync, G: Gate + Sync + Drop>(
 /// The first task of a wave entered in five waves, the second in four, the third in two, and each other one of the first
 /// sixteen in one, in which there are 112 more.
 #[test]
-fn tasks_of_rounds_enter_once(rt: HostRuntime) -> Result<(), Fail> {
+fn tasks_of_rounds_enter_once(rt: HostRuntime) {
     for workers in [1, 2, 16] {
         let counts = Counts::new();
         let gate = Counting { counts: &counts };
-        let (server, seat) = gated(rt.alloc(), workers, gate, 128).ok_or("no memory")?;
+        let (server, seat) = gated(rt.alloc(), workers, gate, 128).expect(&rt, "no memory");
         expect_rounds(&rt, rt.alloc(), server, seat);
         assert_eq!(rt;
             counts.both(),
@@ -98,5 +97,4 @@ fn tasks_of_rounds_enter_once(rt: HostRuntime) -> Result<(), Fail> {
             "{workers} workers"
         );
     }
-    Ok(())
 }

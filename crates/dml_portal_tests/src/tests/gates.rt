@@ -11,7 +11,6 @@ use std::alloc::Global;
 use std::process::Abort;
 use std::sync::Wait;
 use std::sync::atomic::{AtomicU64, Ordering};
-use std::test::Fail;
 use std::thread::{self, Threads};
 use std::time::{Clock, Duration};
 
@@ -119,18 +118,17 @@ fn expect_fills<R: Abort + Threads + Wait + Sync, G: Gate + Sync + Drop>(
 
 /// The tasks of a round enter at once.
 #[test]
-fn every_submit_runs_at_once(rt: HostRuntime) -> Result<(), Fail> {
+fn every_submit_runs_at_once(rt: HostRuntime) {
     for turn in 0..10 {
         let counts = Counts::new();
         let gate = Meeting {
             clock: &rt,
             counts: &counts,
         };
-        let (server, seat) = gated(rt.alloc(), 3, gate, 2).ok_or("no memory")?;
+        let (server, seat) = gated(rt.alloc(), 3, gate, 2).expect(&rt, "no memory");
         expect_fills(&rt, rt.alloc(), server, seat);
         assert_eq!(rt; counts.both(), (ALL_ONCE, 0), "turn {turn}");
     }
-    Ok(())
 }
 
 /// A gate that holds each task until something has entered.
@@ -207,18 +205,17 @@ fn fill_rings<R: Abort + Threads + Wait + Sync, G: Gate + Sync>(
 
 /// A round pushes the records that wait before its own jobs are carried out.
 #[test]
-fn pushed_before_tasks(rt: HostRuntime) -> Result<(), Fail> {
+fn pushed_before_tasks(rt: HostRuntime) {
     for turn in 0..10 {
         let counts = Counts::new();
         let gate = Held {
             clock: &rt,
             counts: &counts,
         };
-        let (mut server, mut seat) = gated(rt.alloc(), 3, gate, 2).ok_or("no memory")?;
+        let (mut server, mut seat) = gated(rt.alloc(), 3, gate, 2).expect(&rt, "no memory");
         fill_rings(&rt, rt.alloc(), &mut server, &mut seat);
         let answers = polled_while_served(&rt, rt.alloc(), server, seat, &counts);
         let wanted = ((Some(done(0)), Ok(2)), (1, 0));
         assert_eq!(rt; (answers, counts.both()), wanted, "turn {turn}");
     }
-    Ok(())
 }

@@ -2,17 +2,17 @@
 ghost use Rattle.std.specs.Prelude.{◌≡◌, ◌≤◌, [], IfSome, vec_capacity};
 ghost use Rattle.dml_portal.specs.Settled.{AreSeatsOf};
 
+use super::claims::{holds, same};
 use super::portals::{One, Two};
 use super::{done, engine, expect_bytes};
 use dml_engine::Engine;
 use dml_image::Image;
 use dml_pool::Free;
 use dml_portal::{Done, LogEntry, Portal, PortalError, Seat, Server, SettleFault, Settled};
-use dml_types::{Job, Record};
+use dml_types::{Job, Record, Settings};
 use std::alloc::Global;
 use std::process::Abort;
 use std::sync::Wait;
-use std::test::Fail;
 use std::thread::Threads;
 
 /// What the jobs of a portal below leave of its page.
@@ -28,52 +28,75 @@ fn engine_of_sevens(alloc: Global) -> Option<Engine> {
     Some(engine)
 }
 
+/// An empty list with room for two seats.
+fn room_for_two(rt: &impl Abort, alloc: Global) -> Vec<Done>
+    ensures empty { result.items ≡ [] }
+    ensures room { 2 ≤ vec_capacity result }
+{
+    match Vec::with_capacity(alloc, 2) {
+        Ok(dones) => dones,
+        Err(_) => rt.panic("no memory"),
+    }
+}
+
 /// What `refused_open` does before its call.
 #[test]
-fn set_up_of_open(rt: HostRuntime) -> Result<(), Fail> {
-    let engine = engine_of_sevens(rt.alloc()).ok_or("no memory")?;
-    let dones = Vec::<Done>::with_capacity(rt.alloc(), 2)?;
-    assert!(rt; dones.is_empty());
-    assert_eq!(rt; engine.image().byte(4095), Some(7));
-    Ok(())
+fn set_up_of_open(rt: HostRuntime) {
+    let engine = engine_of_sevens(rt.alloc()).expect(&rt, "no memory");
+    holds(&rt, room_for_two(&rt, rt.alloc()).is_empty());
+    same(&rt, engine.image().byte(4095), Some(7));
 }
 
 /// These are the seats of the first two clients.
 fn expect_two_seats(rt: &impl Abort, seats: &[Seat]) {
-    assert_eq!(rt; seats.len(), 2);
+    same(rt, seats.len(), 2);
     for (i, seat) in seats.iter().enumerate() {
-        assert_eq!(rt; seat.client() as usize, i);
+        same(rt, seat.client() as usize, i);
     }
 }
 
 /// The image of one page of sevens, as it was.
 fn expect_sevens(rt: &impl Abort, image: &Image) {
-    assert_eq!(rt; (image.pages(), image.byte(4095)), (1, Some(7)));
+    same(rt, (image.pages(), image.byte(4095)), (1, Some(7)));
+}
+
+/// A portal is settled as it was opened.
+fn expect_settled_at_once<R: Abort + Threads + Wait + Sync>(
+    rt: &R,
+    alloc: Global,
+    portal: Two,
+    dones: Vec<Done>,
+)
+    requires empty { dones.items ≡ [] }
+    requires room { 2 ≤ vec_capacity dones }
+{
+    let settled = portal.settle_into(rt, alloc, dones);
+    let settled = settled.expect(rt, "not settled");
+    same(rt, settled.log.list.len(), 0);
+    expect_sevens(rt, &settled.image);
+}
+
+/// An engine was handed back as it was, for want of memory.
+fn expect_handed_back(rt: &impl Abort, engine: &Engine, settings: Settings, error: PortalError) {
+    same(rt, error, PortalError::NoMemory);
+    same(rt, engine.settings(), settings);
+    expect_sevens(rt, engine.image());
 }
 
 /// A server and a seat for each client, or the engine as it was.
 #[test]
-fn refused_open(rt: HostRuntime) -> Result<(), Fail> {
-    let engine = engine_of_sevens(rt.alloc()).ok_or("no memory")?;
+fn refused_open(rt: HostRuntime) {
+    let engine = engine_of_sevens(rt.alloc()).expect(&rt, "no memory");
     let settings = engine.settings();
-    let dones = Vec::with_capacity(rt.alloc(), 2)?;
+    let dones = room_for_two(&rt, rt.alloc());
     match Portal::open(rt.alloc(), engine, 2, 4) {
         Ok((server, seats)) => {
             expect_two_seats(&rt, seats.as_slice());
-            let portal = Two::of(server, seats).ok_or("no seats")?;
-            let settled = portal
-                .settle_into(&rt, rt.alloc(), dones)
-                .ok_or("not settled")?;
-            assert_eq!(rt; settled.log.list.len(), 0);
-            expect_sevens(&rt, &settled.image);
+            let portal = Two::of(server, seats).expect(&rt, "no seats");
+            expect_settled_at_once(&rt, rt.alloc(), portal, dones);
         }
-        Err((engine, error)) => {
-            assert_eq!(rt; error, PortalError::NoMemory);
-            assert_eq!(rt; engine.settings(), settings);
-            expect_sevens(&rt, engine.image());
-        }
+        Err((engine, error)) => expect_handed_back(&rt, &engine, settings, error),
     }
-    Ok(())
 }
 
 /// Two clients of a portal submit: the first two jobs, the second one. The first job looks at the bytes that the next
@@ -107,29 +130,27 @@ fn submitted(rt: &(impl Threads + Wait + Sync), alloc: Global) -> Option<Two> {
 
 /// What `refused_serve_round` does before its call.
 #[test]
-fn set_up_of_serve_round(rt: HostRuntime) -> Result<(), Fail> {
-    let mut portal = submitted(&rt, rt.alloc()).ok_or("no memory")?;
-    let dones = Vec::<Done>::with_capacity(rt.alloc(), 2)?;
-    assert!(rt; dones.is_empty());
+fn set_up_of_serve_round(rt: HostRuntime) {
+    let mut portal = submitted(&rt, rt.alloc()).expect(&rt, "no memory");
+    holds(&rt, room_for_two(&rt, rt.alloc()).is_empty());
     portal.expect_polled(&rt, &[], &[done(0)]);
-    Ok(())
 }
 
 /// A round is served; where it is refused nothing was fetched, and the next one is served.
 fn serve_at_last<R: Abort + Threads + Wait + Sync>(rt: &R, alloc: Global, portal: &mut Two) {
     if let Err(error) = portal.serve(rt, alloc) {
-        assert_eq!(rt; error, PortalError::NoMemory);
+        same(rt, error, PortalError::NoMemory);
         portal.expect_polled(rt, &[], &[]);
-        assert_eq!(rt; portal.serve(rt, alloc), Ok(3));
+        same(rt, portal.serve(rt, alloc), Ok(3));
     }
 }
 
 /// The log has the three jobs of a round behind so many entries, and the image what they wrote.
 fn expect_carried_out(rt: &impl Abort, settled: &Settled, earlier: usize) {
     let log = settled.log.list.as_slice();
-    assert_eq!(rt; log.len().checked_sub(earlier), Some(3));
+    same(rt, log.len().checked_sub(earlier), Some(3));
     for (entry, client) in log.iter().skip(earlier).zip([0, 0, 1]) {
-        assert_eq!(rt; entry.client, client);
+        same(rt, entry.client, client);
     }
     expect_bytes(rt, &settled.image, &BYTES);
 }
@@ -142,7 +163,7 @@ fn expect_round<R: Abort + Threads + Wait + Sync>(
     portal: Two,
     earlier: &[Record],
     dones: Vec<Done>,
-) -> Result<(), Fail>
+)
     requires empty { dones.items ≡ [] }
     requires room { 2 ≤ vec_capacity dones }
 {
@@ -150,34 +171,33 @@ fn expect_round<R: Abort + Threads + Wait + Sync>(
     portal.expect_polled(rt, &[], earlier);
     serve_at_last(rt, alloc, &mut portal);
     portal.expect_polled(rt, &[done(16), done(16)], &[done(8)]);
-    let settled = portal.settle_into(rt, alloc, dones).ok_or("not settled")?;
+    let settled = portal
+        .settle_into(rt, alloc, dones)
+        .expect(rt, "not settled");
     expect_carried_out(rt, &settled, earlier.len());
-    Ok(())
 }
 
 #[test]
-fn refused_serve_round(rt: HostRuntime) -> Result<(), Fail> {
-    let portal = submitted(&rt, rt.alloc()).ok_or("no memory")?;
-    let dones = Vec::with_capacity(rt.alloc(), 2)?;
-    expect_round(&rt, rt.alloc(), portal, &[done(0)], dones)
+fn refused_serve_round(rt: HostRuntime) {
+    let portal = submitted(&rt, rt.alloc()).expect(&rt, "no memory");
+    let dones = room_for_two(&rt, rt.alloc());
+    expect_round(&rt, rt.alloc(), portal, &[done(0)], dones);
 }
 
 /// What `refused_first_round` does before its call.
 #[test]
-fn set_up_of_first_round(rt: HostRuntime) -> Result<(), Fail> {
-    let mut portal = submitted_first(rt.alloc()).ok_or("no memory")?;
-    let dones = Vec::<Done>::with_capacity(rt.alloc(), 2)?;
-    assert!(rt; dones.is_empty());
+fn set_up_of_first_round(rt: HostRuntime) {
+    let mut portal = submitted_first(rt.alloc()).expect(&rt, "no memory");
+    holds(&rt, room_for_two(&rt, rt.alloc()).is_empty());
     portal.expect_polled(&rt, &[], &[]);
-    Ok(())
 }
 
 /// A portal's first round takes the memory of its lists too.
 #[test]
-fn refused_first_round(rt: HostRuntime) -> Result<(), Fail> {
-    let portal = submitted_first(rt.alloc()).ok_or("no memory")?;
-    let dones = Vec::with_capacity(rt.alloc(), 2)?;
-    expect_round(&rt, rt.alloc(), portal, &[], dones)
+fn refused_first_round(rt: HostRuntime) {
+    let portal = submitted_first(rt.alloc()).expect(&rt, "no memory");
+    let dones = room_for_two(&rt, rt.alloc());
+    expect_round(&rt, rt.alloc(), portal, &[], dones);
 }
 
 /// The same portal with all its clients finished.
@@ -195,10 +215,9 @@ fn finished(rt: &(impl Threads + Wait + Sync), alloc: Global) -> Option<(Server<
 
 /// What `refused_settle` does before its call.
 #[test]
-fn set_up_of_settle(rt: HostRuntime) -> Result<(), Fail> {
-    let (_server, dones) = finished(&rt, rt.alloc()).ok_or("no memory")?;
-    assert_eq!(rt; dones.len(), 2);
-    Ok(())
+fn set_up_of_settle(rt: HostRuntime) {
+    let (_server, dones) = finished(&rt, rt.alloc()).expect(&rt, "no memory");
+    same(&rt, dones.len(), 2);
 }
 
 /// What a portal leaves that was not settled before, and whose next round serves one of these numbers of jobs.
@@ -232,7 +251,7 @@ fn settled_at_last<R: Abort + Threads + Wait + Sync>(
     match server.settle(rt, alloc, dones) {
         Ok(settled) => Some(settled),
         Err((server, dones, fault)) => {
-            assert_eq!(rt; (fault, dones.len()), (SettleFault::NoMemory, seats));
+            same(rt, (fault, dones.len()), (SettleFault::NoMemory, seats));
             settled_again(rt, alloc, server, dones, numbers)
         }
     }
@@ -251,7 +270,7 @@ fn settled_at_once<R: Abort + Threads + Wait + Sync>(
     match server.settle(rt, alloc, dones) {
         Ok(settled) => Some(settled),
         Err((server, dones, fault)) => {
-            assert_eq!(rt; (fault, dones.len()), (SettleFault::NoMemory, seats));
+            same(rt, (fault, dones.len()), (SettleFault::NoMemory, seats));
             server.settle(rt, alloc, dones).ok()
         }
     }
@@ -259,21 +278,26 @@ fn settled_at_once<R: Abort + Threads + Wait + Sync>(
 
 /// These are the clients and the completed bytes of the log.
 fn expect_completed(rt: &impl Abort, log: &[LogEntry], wanted: &[(u32, u32)]) {
-    assert_eq!(rt; log.len(), wanted.len());
+    same(rt, log.len(), wanted.len());
     for (entry, (client, completed)) in log.iter().zip(wanted) {
-        assert_eq!(rt; (entry.client, entry.answer), (*client, done(*completed)));
+        same(
+            rt,
+            (entry.client, entry.answer),
+            (*client, done(*completed)),
+        );
     }
 }
 
 /// The whole log, or the portal as it was, which gives the whole log when it is settled again.
 #[test]
-fn refused_settle(rt: HostRuntime) -> Result<(), Fail> {
-    let (server, dones) = finished(&rt, rt.alloc()).ok_or("no memory")?;
-    let settled = settled_at_once(&rt, rt.alloc(), server, dones).ok_or("not settled")?;
+fn refused_settle(rt: HostRuntime) {
+    let Some((server, dones)) = finished(&rt, rt.alloc()) else {
+        rt.panic("no memory");
+    };
+    let settled = settled_at_once(&rt, rt.alloc(), server, dones).expect(&rt, "not settled");
     let wanted = [(1, 0), (0, 16), (0, 16), (1, 8)];
     expect_completed(&rt, settled.log.list.as_slice(), &wanted);
     expect_bytes(&rt, &settled.image, &BYTES);
-    Ok(())
 }
 
 /// A portal whose one client has submitted 130 jobs, more than a round fetches, and has finished.
@@ -291,30 +315,33 @@ fn finished_with_more(alloc: Global) -> Option<(Server<Free>, Vec<Done>)>
 
 /// What `refused_second_round_of_settle` does before its call.
 #[test]
-fn set_up_of_second_round_of_settle(rt: HostRuntime) -> Result<(), Fail> {
-    let (_server, dones) = finished_with_more(rt.alloc()).ok_or("no memory")?;
-    assert_eq!(rt; dones.len(), 1);
-    Ok(())
+fn set_up_of_second_round_of_settle(rt: HostRuntime) {
+    let (_server, dones) = finished_with_more(rt.alloc()).expect(&rt, "no memory");
+    same(&rt, dones.len(), 1);
 }
 
 /// The log is of 130 jobs that do nothing.
 fn expect_no_ops(rt: &impl Abort, log: &[LogEntry]) {
-    assert_eq!(rt; log.len(), 130);
+    same(rt, log.len(), 130);
     let wanted = LogEntry {
         client: 0,
         job: Job::no_op(),
         answer: done(0),
     };
     for entry in log {
-        assert_eq!(rt; *entry, wanted);
+        same(rt, *entry, wanted);
     }
 }
 
 /// The whole log, or the portal behind the rounds that were served, which gives the whole log when it is settled again.
 #[test]
-fn refused_second_round_of_settle(rt: HostRuntime) -> Result<(), Fail> {
-    let (server, dones) = finished_with_more(rt.alloc()).ok_or("no memory")?;
-    let settled = settled_at_last(&rt, rt.alloc(), server, dones, &[128, 2]).ok_or("not settled")?;
+fn refused_second_round_of_settle(rt: HostRuntime) {
+    let Some((server, dones)) = finished_with_more(rt.alloc()) else {
+        rt.panic("no memory");
+    };
+    let settled = settled_at_last(&rt, rt.alloc(), server, dones, &[128, 2]).expect(
+        &rt,
+        "not settled",
+    );
     expect_no_ops(&rt, settled.log.list.as_slice());
-    Ok(())
 }

@@ -1,8 +1,9 @@
 //! Portals over memory that a caller lends.
 
+use super::claims::{holds, same};
 use super::portals::{One, Three};
 use super::rounds::{expect_fetched_in_turn, expect_settled_in_turn};
-use super::steps::{expect_polled, submit_all};
+use super::steps::{expect_polled, serve_long, submit_all};
 use super::{Row, done};
 use dml_engine::EngineOver;
 use dml_image::{Image, ImageError, Lent, Whole};
@@ -10,7 +11,6 @@ use dml_types::{Job, Record, Settings, Status};
 use std::alloc::Global;
 use std::process::Abort;
 use std::sync::Wait;
-use std::test::Fail;
 use std::thread::Threads;
 
 /// A mebibyte of staging, tasks of a page, four workers.
@@ -26,12 +26,11 @@ pub(super) fn expect_served<R: Abort + Threads + Wait + Sync>(
     alloc: Global,
     image: Image<'_>,
     end: u32,
-) -> Result<(), Fail> {
+) {
     let end = u64::from(end);
-    let Ok(engine) = EngineOver::new(alloc, image, SETTINGS) else {
-        return Err("no memory".into());
-    };
-    let mut portal = One::over(alloc, engine, 4).ok_or("no memory")?;
+    let engine = EngineOver::new(alloc, image, SETTINGS).ok();
+    let engine = engine.expect(rt, "no memory");
+    let mut portal = One::over(alloc, engine, 4).expect(rt, "no memory");
     portal.submit_all(
         rt,
         &[
@@ -46,110 +45,141 @@ pub(super) fn expect_served<R: Abort + Threads + Wait + Sync>(
         ..Record::refused(Status::WriteFault)
     };
     portal.expect_polled(rt, &[fault, done(4)]);
-    drop(portal.settle(rt, alloc).ok_or("not settled")?);
-    Ok(())
+    holds(rt, portal.settle(rt, alloc).is_some());
 }
 
 /// Expects what that leaves in the caller's memory.
 fn expect_content(rt: &impl Abort, content: &[u8], end: usize) {
     for (place, byte) in (8..12_usize).zip(3_u8..7) {
-        assert_eq!(rt; content.get(place), Some(&byte));
+        same(rt, content.get(place), Some(&byte));
     }
     for (before, byte) in (1..7_usize).zip(1_u8..7) {
-        assert_eq!(rt;
+        same(
+            rt,
             content.get(end.wrapping_sub(7).wrapping_add(before)),
-            Some(&byte)
+            Some(&byte),
         );
     }
 }
 
 /// What a client's jobs write stands in the caller's memory, of which one page is present.
 #[test]
-fn portal_over_lent_memory(rt: HostRuntime) -> Result<(), Fail> {
+fn portal_over_lent_memory(rt: HostRuntime) {
     let mut content = [0; 8192];
     let mut lent = Lent::new(&[true, false], &mut content);
     assert!(rt; lent.is_memory());
-    expect_served(&rt, rt.alloc(), lent.take(), 4096)?;
+    expect_served(&rt, rt.alloc(), lent.take(), 4096);
     drop(lent);
     expect_content(&rt, &content, 4096);
-    assert_eq!(rt; content[4096], 0);
-    Ok(())
+    same(&rt, content[4096], 0);
+}
+
+/// So many pages of zeros.
+fn pages_of_zeros(rt: &impl Abort, alloc: Global, pages: u32) -> Vec<u8> {
+    let bytes = 4096 * pages as usize;
+    vec![in alloc; 0; bytes].expect(rt, "no memory")
 }
 
 /// The same in one piece of more pages than an image has of its own.
 #[test]
-fn portal_over_one_piece(rt: HostRuntime) -> Result<(), Fail> {
-    let mut content = vec![in rt.alloc(); 0; 4100 * 4096]?;
+fn portal_over_one_piece(rt: HostRuntime) {
+    let mut content = pages_of_zeros(&rt, rt.alloc(), 4100);
     let mut whole = Whole::new(content.as_mut_slice());
     assert!(rt; whole.is_memory());
-    expect_served(&rt, rt.alloc(), whole.take(), 4100 * 4096)?;
+    expect_served(&rt, rt.alloc(), whole.take(), 4100 * 4096);
     drop(whole);
     expect_content(&rt, &content, 4100 * 4096);
-    Ok(())
 }
 
-/// A portal of one client over an image.
-pub(super) fn over<'a>(alloc: Global, image: Image<'a>, row: Row) -> Option<One<'a>> {
-    let engine = EngineOver::new(alloc, image, SETTINGS).ok()?;
-    One::over(alloc, engine, row.capacity())
+/// Expects a row of a portal over an image.
+pub(super) fn expect_row<R: Abort + Threads + Wait + Sync>(
+    rt: &R,
+    alloc: Global,
+    image: Image<'_>,
+    row: Row,
+) {
+    let engine = EngineOver::new(alloc, image, SETTINGS).ok();
+    let portal = One::over(alloc, engine.expect(rt, "no memory"), row.capacity());
+    row.expect(rt, alloc, portal.expect(rt, "no memory"));
+}
+
+/// Expects a row over a page that is lent.
+fn expect_row_over_lent_memory<R: Abort + Threads + Wait + Sync>(rt: &R, alloc: Global, row: Row) {
+    let mut content = [0; 4096];
+    let mut lent = Lent::new(&[true], &mut content);
+    assert!(rt; lent.is_memory());
+    expect_row(rt, alloc, lent.take(), row);
 }
 
 #[test]
-fn rows_over_lent_memory(rt: HostRuntime) -> Result<(), Fail> {
+fn rows_over_lent_memory(rt: HostRuntime) {
     for row in Row::ALL {
-        let mut content = [0; 4096];
-        let mut lent = Lent::new(&[true], &mut content);
-        assert!(rt; lent.is_memory());
-        let portal = over(rt.alloc(), lent.take(), row).ok_or("no memory")?;
-        row.expect(&rt, rt.alloc(), portal)?;
+        expect_row_over_lent_memory(&rt, rt.alloc(), row);
     }
-    Ok(())
+}
+
+/// The same in one piece.
+fn expect_row_over_one_piece<R: Abort + Threads + Wait + Sync>(rt: &R, alloc: Global, row: Row) {
+    let mut content = [0; 4096];
+    let mut whole = Whole::new(&mut content);
+    assert!(rt; whole.is_memory());
+    expect_row(rt, alloc, whole.take(), row);
 }
 
 #[test]
-fn rows_over_one_piece(rt: HostRuntime) -> Result<(), Fail> {
+fn rows_over_one_piece(rt: HostRuntime) {
     for row in Row::ALL {
-        let mut content = [0; 4096];
-        let mut whole = Whole::new(&mut content);
-        assert!(rt; whole.is_memory());
-        let portal = over(rt.alloc(), whole.take(), row).ok_or("no memory")?;
-        row.expect(&rt, rt.alloc(), portal)?;
+        expect_row_over_one_piece(&rt, rt.alloc(), row);
     }
-    Ok(())
 }
 
 /// A portal of three clients over an image.
-pub(super) fn three_over<'a>(alloc: Global, image: Image<'a>, capacity: u32) -> Option<Three<'a>> {
+fn three_over<'a>(alloc: Global, image: Image<'a>, capacity: u32) -> Option<Three<'a>> {
     let engine = EngineOver::new(alloc, image, SETTINGS).ok()?;
     Three::over(alloc, engine, capacity)
 }
 
-/// Three clients are fetched in turn over lent memory as over an image's own pages.
+/// Three clients over an image are fetched in turn as over an image's own pages.
+pub(super) fn expect_three_fetched<R: Abort + Threads + Wait + Sync>(
+    rt: &R,
+    alloc: Global,
+    image: Image<'_>,
+) {
+    let portal = three_over(alloc, image, 200).expect(rt, "no memory");
+    expect_fetched_in_turn(rt, alloc, portal);
+}
+
+/// The same by a settlement.
+pub(super) fn expect_three_settled<R: Abort + Threads + Wait + Sync>(
+    rt: &R,
+    alloc: Global,
+    image: Image<'_>,
+) {
+    let portal = three_over(alloc, image, 130).expect(rt, "no memory");
+    expect_settled_in_turn(rt, alloc, portal);
+}
+
 #[test]
-fn three_clients_over_lent_memory(rt: HostRuntime) -> Result<(), Fail> {
+fn three_clients_over_lent_memory(rt: HostRuntime) {
     let (mut content, mut other) = ([0; 4096], [0; 4096]);
     let mut lent = Lent::new(&[true], &mut content);
     assert!(rt; lent.is_memory());
-    let portal = three_over(rt.alloc(), lent.take(), 200).ok_or("no memory")?;
-    expect_fetched_in_turn(&rt, rt.alloc(), portal)?;
+    expect_three_fetched(&rt, rt.alloc(), lent.take());
     let mut lent = Lent::new(&[true], &mut other);
     assert!(rt; lent.is_memory());
-    let portal = three_over(rt.alloc(), lent.take(), 130).ok_or("no memory")?;
-    expect_settled_in_turn(&rt, rt.alloc(), portal)
+    expect_three_settled(&rt, rt.alloc(), lent.take());
 }
 
 /// The same in one piece.
 #[test]
-fn three_clients_over_one_piece(rt: HostRuntime) -> Result<(), Fail> {
+fn three_clients_over_one_piece(rt: HostRuntime) {
     let (mut content, mut other) = ([0; 4096], [0; 4096]);
     let mut whole = Whole::new(&mut content);
     assert!(rt; whole.is_memory());
-    let portal = three_over(rt.alloc(), whole.take(), 200).ok_or("no memory")?;
-    expect_fetched_in_turn(&rt, rt.alloc(), portal)?;
+    expect_three_fetched(&rt, rt.alloc(), whole.take());
     let mut whole = Whole::new(&mut other);
     assert!(rt; whole.is_memory());
-    let portal = three_over(rt.alloc(), whole.take(), 130).ok_or("no memory")?;
-    expect_settled_in_turn(&rt, rt.alloc(), portal)
+    expect_three_settled(&rt, rt.alloc(), whole.take());
 }
 
 /// A server that stays up over an image of two pages, the second of which is absent and lent, brings no page, and a
@@ -158,32 +188,30 @@ pub(super) fn expect_stays_up<R: Abort + Threads + Wait + Sync>(
     rt: &R,
     alloc: Global,
     image: Image<'_>,
-) -> Result<(), Fail> {
+) {
     let engine = EngineOver::new(alloc, image, SETTINGS).ok();
-    let portal = One::over(alloc, engine.ok_or("no memory")?, 4).ok_or("no memory")?;
+    let portal = One::over(alloc, engine.expect(rt, "no memory"), 4).expect(rt, "no memory");
     let One { server, mut seat } = portal;
-    let mut server = server.stay_up(4).ok().ok_or("no memory")?;
-    assert_eq!(rt; server.bring(1, &[0; 4096]), Err(ImageError::NoMemory));
+    let mut server = server.stay_up(4).ok().expect(rt, "no memory");
+    same(rt, server.bring(1, &[0; 4096]), Err(ImageError::NoMemory));
     submit_all(rt, &mut seat, &[Job::fill(7, 4092, 8)]);
-    assert_eq!(rt; server.serve_round(rt, alloc), Ok(1));
+    same(rt, serve_long(rt, alloc, &mut server), Ok(1));
     let fault = Record {
         completed: 4,
         fault: 4096,
         ..Record::refused(Status::WriteFault)
     };
     expect_polled(rt, &mut seat, &[fault]);
-    assert_eq!(rt; server.give_up().log.list.len(), 1);
-    Ok(())
+    same(rt, server.give_up().log.list.len(), 1);
 }
 
 /// What a client's job writes stands in the caller's memory.
 #[test]
-fn stays_up_over_lent_memory(rt: HostRuntime) -> Result<(), Fail> {
+fn stays_up_over_lent_memory(rt: HostRuntime) {
     let mut content = [0; 8192];
     let mut lent = Lent::new(&[true, false], &mut content);
     assert!(rt; lent.is_memory());
-    expect_stays_up(&rt, rt.alloc(), lent.take())?;
+    expect_stays_up(&rt, rt.alloc(), lent.take());
     drop(lent);
-    assert_eq!(rt; (content[4092], content[4096]), (7, 0));
-    Ok(())
+    same(&rt, (content[4092], content[4096]), (7, 0));
 }

@@ -4,6 +4,7 @@ ghost use Rattle.dml_portal.specs.LongServers.{lanes_of, log_of};
 ghost use Rattle.dml_portal.specs.Settled.{AreSeatsOf, EachDone, IsSettled};
 ghost use Rattle.dml_portal.specs.Whole.{AreWhole};
 
+use super::claims::same;
 use super::engine;
 use super::portals::Two;
 use super::stays::Stay;
@@ -11,8 +12,8 @@ use super::steps::submit_all;
 use dml_portal::{Done, LogEntry, LongServer, Settled};
 use dml_types::Job;
 use std::alloc::Global;
+use std::process::Abort;
 use std::sync::Wait;
-use std::test::Fail;
 use std::thread::Threads;
 
 /// Serves a round, takes its log off behind what was taken before, and settles. Of each seat, the client's part of all
@@ -40,9 +41,9 @@ fn taken_and_settled<R: Threads + Wait + Sync>(
 
 /// The first client's jobs are more than a round's, so a part of the log is taken off and a part is left.
 #[test]
-fn parts_are_whole(rt: HostRuntime) -> Result<(), Fail> {
-    let engine = engine(rt.alloc()).ok_or("no memory")?;
-    let portal = Two::open(rt.alloc(), engine, 200).ok_or("no memory")?;
+fn parts_are_whole(rt: HostRuntime) {
+    let engine = engine(rt.alloc()).expect(&rt, "no memory");
+    let portal = Two::open(rt.alloc(), engine, 200).expect(&rt, "no memory");
     let Ok(
         Stay {
             server,
@@ -51,12 +52,14 @@ fn parts_are_whole(rt: HostRuntime) -> Result<(), Fail> {
         },
     ) = Stay::of(portal, 200)
     else {
-        return Err("no memory".into());
+        rt.panic("no memory");
     };
     submit_all(&rt, &mut first, &[Job::no_op(); 130]);
     let mut log = Vec::new(rt.alloc());
-    let dones = vec![in rt.alloc(); first.finish(), second.finish()]?;
-    let settled = taken_and_settled(&rt, rt.alloc(), server, &mut log, dones).ok_or("not settled")?;
-    assert_eq!(rt; (log.len(), settled.log.list.len()), (128, 2));
-    Ok(())
+    let Ok(dones) = vec![in rt.alloc(); first.finish(), second.finish()] else {
+        rt.panic("no memory");
+    };
+    let settled = taken_and_settled(&rt, rt.alloc(), server, &mut log, dones);
+    let settled = settled.expect(&rt, "not settled");
+    same(&rt, (log.len(), settled.log.list.len()), (128, 2));
 }

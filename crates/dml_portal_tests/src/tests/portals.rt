@@ -3,14 +3,16 @@ ghost use Rattle.std.specs.Prelude.{◌≡◌, ◌≤◌, [], vec_capacity};
 ghost use Rattle.std.specs.List.{All};
 ghost use Rattle.dml_portal.specs.Lanes.{IsSeatOf};
 
+use super::claims::holds;
 use super::engine;
-use super::steps::{expect_polled, expect_served, submit_all};
+use super::steps::{expect_polled, expect_served, serve, submit_all};
 use dml_engine::{Engine, EngineOver};
+use dml_image::{Image, ImageError};
 use dml_pool::Free;
 use dml_portal::{
     Done, Full, Portal, PortalError, Seat, Server, ServerOver, SettleFault, Settled, SettledOver,
 };
-use dml_types::{Job, Record};
+use dml_types::{Job, Record, Settings};
 use std::alloc::Global;
 use std::process::Abort;
 use std::sync::Wait;
@@ -82,6 +84,18 @@ impl<'a> One<'a> {
         expect_served(rt, alloc, &mut self.server, jobs);
     }
 
+    pub(super) fn image(&self) -> &Image<'a> {
+        self.server.image()
+    }
+
+    pub(super) fn settings(&self) -> Settings {
+        self.server.settings()
+    }
+
+    pub(super) fn bring(&mut self, page: u32, bytes: &[u8; 4096]) -> Result<(), ImageError> {
+        self.server.bring(page, bytes)
+    }
+
     /// The client finishes, and the portal is settled.
     pub(super) fn settle<R: Threads + Wait + Sync>(
         self,
@@ -124,6 +138,16 @@ impl Two {
         self.second.try_submit(job)
     }
 
+    /// The first client submits a job, for which there is room.
+    pub(super) fn first_submits(&mut self, rt: &impl Abort, job: Job) {
+        holds(rt, self.submit_first(job).is_ok());
+    }
+
+    /// The second client submits a job, for which there is room.
+    pub(super) fn second_submits(&mut self, rt: &impl Abort, job: Job) {
+        holds(rt, self.submit_second(job).is_ok());
+    }
+
     /// The first client polls these records of the first list, and the second one those of the second, and no more.
     pub(super) fn expect_polled(&mut self, rt: &impl Abort, first: &[Record], second: &[Record]) {
         expect_polled(rt, &mut self.first, first);
@@ -135,7 +159,17 @@ impl Two {
         rt: &R,
         alloc: Global,
     ) -> Result<usize, PortalError> {
-        self.server.serve_round(rt, alloc)
+        serve(rt, alloc, &mut self.server)
+    }
+
+    /// A round is served, which fetches so many jobs.
+    pub(super) fn expect_served<R: Abort + Threads + Wait + Sync>(
+        &mut self,
+        rt: &R,
+        alloc: Global,
+        jobs: usize,
+    ) {
+        expect_served(rt, alloc, &mut self.server, jobs);
     }
 
     /// Both clients finish, and the portal is settled.

@@ -1,6 +1,7 @@
 //! Rounds of two and of three clients: in each, clients in order of their numbers, at most 128 jobs of each.
 ghost use Rattle.dml_portal.specs.Seats.{IsSameSeat};
 
+use super::claims::{holds, same};
 use super::portals::{Three, Two};
 use super::steps::{expect_polled, expect_served, submit_all};
 use super::{done, engine, expect_bytes};
@@ -12,7 +13,6 @@ use dml_types::{Job, Settings};
 use std::alloc::Global;
 use std::process::Abort;
 use std::sync::Wait;
-use std::test::Fail;
 use std::thread::{self, Threads};
 
 /// How many jobs each of three clients submits.
@@ -42,10 +42,10 @@ fn expect_log(rt: &impl Abort, log: &[LogEntry], fetched: &[(u32, u32, u32)]) {
                 job: job(*client, number),
                 answer: done(8),
             };
-            assert_eq!(rt; entries.next().copied(), Some(wanted));
+            same(rt, entries.next().copied(), Some(wanted));
         }
     }
-    assert!(rt; entries.next().is_none());
+    holds(rt, entries.next().is_none());
 }
 
 /// Three clients submit all their jobs in turn, the last one first.
@@ -53,7 +53,7 @@ fn submit_in_turn(rt: &impl Abort, portal: &mut Three<'_>) {
     for number in 0..130 {
         for (client, count) in [(2, COUNTS[2]), (1, COUNTS[1]), (0, COUNTS[0])] {
             if number < count {
-                assert_eq!(rt; portal.submit(client, job(client, number)), Ok(()));
+                same(rt, portal.submit(client, job(client, number)), Ok(()));
             }
         }
     }
@@ -63,9 +63,9 @@ fn submit_in_turn(rt: &impl Abort, portal: &mut Three<'_>) {
 fn expect_all_polled(rt: &impl Abort, portal: &mut Three<'_>) {
     for (client, count) in [(1, COUNTS[1]), (0, COUNTS[0]), (2, COUNTS[2])] {
         for _ in 0..count {
-            assert_eq!(rt; portal.poll(client), Some(done(8)));
+            same(rt, portal.poll(client), Some(done(8)));
         }
-        assert_eq!(rt; portal.poll(client), None);
+        same(rt, portal.poll(client), None);
     }
 }
 
@@ -77,22 +77,21 @@ pub(super) fn expect_fetched_in_turn<R: Abort + Threads + Wait + Sync>(
     rt: &R,
     alloc: Global,
     portal: Three<'_>,
-) -> Result<(), Fail> {
+) {
     let mut portal = portal;
     submit_in_turn(rt, &mut portal);
     portal.expect_served(rt, alloc, 259);
     portal.expect_served(rt, alloc, 3);
     portal.expect_served(rt, alloc, 0);
     expect_all_polled(rt, &mut portal);
-    let settled = portal.settle(rt, alloc).ok_or("not settled")?;
+    let settled = portal.settle(rt, alloc).expect(rt, "not settled");
     expect_log(rt, settled.log.list.as_slice(), &FETCHED);
     expect_bytes(rt, &settled.image, &BYTES);
-    Ok(())
 }
 
 #[test]
-fn three_clients_fetched_in_turn(rt: HostRuntime) -> Result<(), Fail> {
-    let portal = Three::open(rt.alloc(), 200).ok_or("no memory")?;
+fn three_clients_fetched_in_turn(rt: HostRuntime) {
+    let portal = Three::open(rt.alloc(), 200).expect(&rt, "no memory");
     expect_fetched_in_turn(&rt, rt.alloc(), portal)
 }
 
@@ -100,7 +99,7 @@ fn three_clients_fetched_in_turn(rt: HostRuntime) -> Result<(), Fail> {
 fn submit_one_by_one(rt: &impl Abort, portal: &mut Three<'_>) {
     for (client, count) in [(1, COUNTS[1]), (2, COUNTS[2]), (0, COUNTS[0])] {
         for number in 0..count {
-            assert_eq!(rt; portal.submit(client, job(client, number)), Ok(()));
+            same(rt, portal.submit(client, job(client, number)), Ok(()));
         }
     }
 }
@@ -110,18 +109,17 @@ pub(super) fn expect_settled_in_turn<R: Abort + Threads + Wait + Sync>(
     rt: &R,
     alloc: Global,
     portal: Three<'_>,
-) -> Result<(), Fail> {
+) {
     let mut portal = portal;
     submit_one_by_one(rt, &mut portal);
-    let settled = portal.settle(rt, alloc).ok_or("not settled")?;
+    let settled = portal.settle(rt, alloc).expect(rt, "not settled");
     expect_log(rt, settled.log.list.as_slice(), &FETCHED);
     expect_bytes(rt, &settled.image, &BYTES);
-    Ok(())
 }
 
 #[test]
-fn three_clients_settled_in_turn(rt: HostRuntime) -> Result<(), Fail> {
-    let portal = Three::open(rt.alloc(), 130).ok_or("no memory")?;
+fn three_clients_settled_in_turn(rt: HostRuntime) {
+    let portal = Three::open(rt.alloc(), 130).expect(&rt, "no memory");
     expect_settled_in_turn(&rt, rt.alloc(), portal)
 }
 
@@ -163,38 +161,37 @@ fn expect_fetched<R: Abort + Threads + Wait + Sync>(
             0 => portal.submit_first(*job),
             _ => portal.submit_second(*job),
         };
-        assert_eq!(rt; taken, Ok(()));
+        same(rt, taken, Ok(()));
     }
-    assert_eq!(rt; portal.serve(rt, alloc), Ok(jobs.len()));
+    portal.expect_served(rt, alloc, jobs.len());
 }
 
 /// The log is these clients' jobs, each of which was done.
 fn expect_done(rt: &impl Abort, log: &[LogEntry], jobs: &[(u32, Job)]) {
-    assert_eq!(rt; log.len(), jobs.len());
+    same(rt, log.len(), jobs.len());
     for (entry, (client, job)) in log.iter().zip(jobs) {
         let wanted = LogEntry {
             client: *client,
             job: *job,
             answer: done(8),
         };
-        assert_eq!(rt; *entry, wanted);
+        same(rt, *entry, wanted);
     }
 }
 
 /// Two clients write the same bytes, and each round looks at what the one before has left.
 #[test]
-fn two_clients_fetched_in_turn(rt: HostRuntime) -> Result<(), Fail> {
-    let engine = engine(rt.alloc()).ok_or("no memory")?;
-    let mut portal = Two::open(rt.alloc(), engine, 4).ok_or("no memory")?;
+fn two_clients_fetched_in_turn(rt: HostRuntime) {
+    let engine = engine(rt.alloc()).expect(&rt, "no memory");
+    let mut portal = Two::open(rt.alloc(), engine, 4).expect(&rt, "no memory");
     let submitted = submitted_by_two();
     expect_fetched(&rt, rt.alloc(), &mut portal, &submitted[..3]);
     expect_fetched(&rt, rt.alloc(), &mut portal, &submitted[3..6]);
     expect_fetched(&rt, rt.alloc(), &mut portal, &submitted[6..]);
     expect_fetched(&rt, rt.alloc(), &mut portal, &[]);
-    let settled = portal.settle(&rt, rt.alloc()).ok_or("not settled")?;
+    let settled = portal.settle(&rt, rt.alloc()).expect(&rt, "not settled");
     expect_done(&rt, settled.log.list.as_slice(), &fetched_of_two());
-    assert_eq!(rt; settled.image.byte(0), Some(4));
-    Ok(())
+    same(&rt, settled.image.byte(0), Some(4));
 }
 
 /// Submits jobs of a client by their numbers, below 200, for each of which there is room.
@@ -204,7 +201,7 @@ fn all_submitted(rt: &impl Abort, seat: Seat, count: u32) -> Seat
     let mut seat = seat;
     for number in 0..count {
         let next = job(seat.client(), number);
-        assert_eq!(rt; seat.try_submit(next), Ok(()));
+        same(rt, seat.try_submit(next), Ok(()));
     }
     seat
 }
@@ -251,14 +248,13 @@ fn submitted_at_once<'a, R: Abort + Threads + Sync>(rt: &R, portal: Three<'a>) -
 
 /// Three clients submit at once.
 #[test]
-fn three_seats(rt: HostRuntime) -> Result<(), Fail> {
+fn three_seats(rt: HostRuntime) {
     for _ in 0..10 {
-        let portal = Three::open(rt.alloc(), 200).ok_or("no memory")?;
+        let portal = Three::open(rt.alloc(), 200).expect(&rt, "no memory");
         let portal = submitted_at_once(&rt, portal);
-        let settled = portal.settle(&rt, rt.alloc()).ok_or("not settled")?;
+        let settled = portal.settle(&rt, rt.alloc()).expect(&rt, "not settled");
         expect_log(&rt, settled.log.list.as_slice(), &FETCHED);
     }
-    Ok(())
 }
 
 /// An engine with no gate given over 512 pages of zeros, in chunks of 64 KiB, for four workers.
@@ -287,10 +283,9 @@ fn portal_of_two_mebibytes(alloc: Global) -> Option<(Server<Free>, Seat)> {
 /// Four compares of a mebibyte, which pay for four workers; how many threads the round starts is counted from outside
 /// (tests/starts.sh).
 #[test]
-fn round_worth_four_workers(rt: HostRuntime) -> Result<(), Fail> {
-    let (mut server, mut seat) = portal_of_two_mebibytes(rt.alloc()).ok_or("no memory")?;
+fn round_worth_four_workers(rt: HostRuntime) {
+    let (mut server, mut seat) = portal_of_two_mebibytes(rt.alloc()).expect(&rt, "no memory");
     submit_all(&rt, &mut seat, &[Job::compare(0, 1_048_576, 1_048_576); 4]);
     expect_served(&rt, rt.alloc(), &mut server, 4);
     expect_polled(&rt, &mut seat, &[done(1_048_576); 4]);
-    Ok(())
 }

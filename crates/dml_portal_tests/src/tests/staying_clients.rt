@@ -2,18 +2,19 @@
 ghost use Rattle.dml_portal.specs.Lanes.{AreSameLanes};
 ghost use Rattle.dml_portal.specs.Seats.{IsSameSeat};
 
+use super::claims::holds;
 use super::clients::{
     TURNS, both_submitted, expect_part, expect_settled, first_list, polled, polled_to_the_end,
     portal_of_two, second_list,
 };
 use super::stays::Stay;
+use super::steps::serve_long;
 use dml_pool::Free;
 use dml_portal::{LogEntry, LongServerOver, Seat};
 use dml_types::Record;
 use std::alloc::Global;
 use std::process::Abort;
 use std::sync::Wait;
-use std::test::Fail;
 use std::thread::{self, Threads};
 
 /// What a thread that serves rounds gives back: the server, and what was taken off its log.
@@ -42,8 +43,8 @@ pub(super) fn served<'a, R: Abort + Threads + Wait + Sync>(
     let mut server = server;
     let mut log = Vec::new(alloc);
     for _ in 0..TURNS {
-        assert!(rt; server.serve_round(rt, alloc).is_ok());
-        assert!(rt; server.take_log(&mut log).is_ok());
+        holds(rt, serve_long(rt, alloc, &mut server).is_ok());
+        holds(rt, server.take_log(&mut log).is_ok());
         thread::yield_now();
     }
     Up { server, log }
@@ -101,7 +102,7 @@ fn polled_while_served<R: Abort + Threads + Wait + Sync>(
         second,
         records: of_second,
     } = with;
-    assert!(rt; server.serve_round(rt, alloc).is_ok());
+    holds(rt, serve_long(rt, alloc, &mut server).is_ok());
     let portal = Stay {
         server,
         first: polled_to_the_end(rt, first, of_first.as_slice(), &first_list()),
@@ -110,43 +111,58 @@ fn polled_while_served<R: Abort + Threads + Wait + Sync>(
     (portal, log)
 }
 
+/// A portal of two clients whose server stays up, and holds a client back for whom more records wait than `most`.
+fn stay(rt: &impl Abort, alloc: Global, most: usize) -> Stay {
+    let portal = portal_of_two(alloc).expect(rt, "no memory");
+    Stay::of(portal, most).ok().expect(rt, "no memory")
+}
+
+/// A portal is settled, and its log goes behind what was taken off it.
+pub(super) fn settle_behind<R: Abort + Threads + Wait + Sync>(
+    rt: &R,
+    alloc: Global,
+    portal: Stay,
+    log: &mut Vec<LogEntry>,
+) {
+    let settled = portal.settle(rt, alloc).expect(rt, "not settled");
+    let left = settled.log.list.as_slice();
+    log.extend_from_slice(left).expect(rt, "no memory");
+}
+
 /// Each client's part of what was taken off the log, followed by what was left of it, is its list, and it has polled
 /// all its records.
 #[test]
-fn polls_while_the_log_is_taken(rt: HostRuntime) -> Result<(), Fail> {
+fn polls_while_the_log_is_taken(rt: HostRuntime) {
     for _ in 0..10 {
-        let Ok(portal) = Stay::of(portal_of_two(rt.alloc()).ok_or("no memory")?, 2) else {
-            return Err("no memory".into());
-        };
+        let portal = stay(&rt, rt.alloc(), 2);
         let (portal, mut log) = polled_while_served(&rt, rt.alloc(), portal);
-        let settled = portal.settle(&rt, rt.alloc()).ok_or("not settled")?;
-        log.extend_from_slice(settled.log.list.as_slice())?;
+        settle_behind(&rt, rt.alloc(), portal, &mut log);
         expect_part(&rt, log.as_slice(), 0, &first_list());
         expect_part(&rt, log.as_slice(), 1, &second_list());
     }
-    Ok(())
+}
+
+/// The portal once both clients have submitted at once.
+fn submitted_at_once<R: Abort + Threads + Sync>(rt: &R, portal: Stay) -> Stay {
+    let Stay {
+        server,
+        first,
+        second,
+    } = portal;
+    let (first, second) = both_submitted(rt, first, second);
+    Stay {
+        server,
+        first,
+        second,
+    }
 }
 
 /// Two clients submit at once to a server that stays up.
 #[test]
-fn two_seats_while_up(rt: HostRuntime) -> Result<(), Fail> {
+fn two_seats_while_up(rt: HostRuntime) {
     for _ in 0..10 {
-        let Ok(portal) = Stay::of(portal_of_two(rt.alloc()).ok_or("no memory")?, 0) else {
-            return Err("no memory".into());
-        };
-        let Stay {
-            server,
-            first,
-            second,
-        } = portal;
-        let (first, second) = both_submitted(&rt, first, second);
-        let portal = Stay {
-            server,
-            first,
-            second,
-        };
-        let settled = portal.settle(&rt, rt.alloc()).ok_or("not settled")?;
+        let portal = submitted_at_once(&rt, stay(&rt, rt.alloc(), 0));
+        let settled = portal.settle(&rt, rt.alloc()).expect(&rt, "not settled");
         expect_settled(&rt, &settled);
     }
-    Ok(())
 }

@@ -1,14 +1,14 @@
 //! Clients that vanish between any two of their steps, in rings of one place.
 
+use super::claims::{holds, same};
 use super::portals::Two;
 use super::stays::Stay;
 use super::{done, engine, expect_bytes};
-use dml_portal::{Seat, Settled};
-use dml_types::{Job, Record};
+use dml_portal::{LongServer, Seat, Server, Settled};
+use dml_types::Job;
 use std::alloc::Global;
 use std::process::Abort;
 use std::sync::Wait;
-use std::test::Fail;
 use std::thread::Threads;
 
 /// A step of the first client or, between two of them, a round.
@@ -42,8 +42,8 @@ const OF_A_LOG_THAT_IS_TAKEN: [usize; 11] = [0, 1, 1, 2, 2, 2, 2, 3, 3, 3, 3];
 /// The first client takes a step of its own.
 fn take_step(rt: &impl Abort, first: &mut Seat, step: Step) {
     match step {
-        Step::Submit => assert_eq!(rt; first.try_submit(Job::no_op()), Ok(())),
-        Step::Poll => assert_eq!(rt; first.poll(), Some(done(0))),
+        Step::Submit => same(rt, first.try_submit(Job::no_op()), Ok(())),
+        Step::Poll => same(rt, first.poll(), Some(done(0))),
         Step::Round => {}
     }
 }
@@ -57,9 +57,25 @@ fn vanish(first: Seat, is_finished: bool) {
     }
 }
 
-/// What the second client polls once its own job is carried out.
-fn second_job() -> (Job, Option<Record>) {
-    (Job::fill(1, 0, 8), Some(done(8)))
+/// The second client submits a job.
+fn second_submits(rt: &impl Abort, second: &mut Seat) {
+    same(rt, second.try_submit(Job::fill(1, 0, 8)), Ok(()));
+}
+
+/// It polls that job's record.
+fn second_polls(rt: &impl Abort, second: &mut Seat) {
+    same(rt, second.poll(), Some(done(8)));
+}
+
+/// A round is served.
+fn serve<R: Abort + Threads + Wait + Sync>(rt: &R, alloc: Global, server: &mut Server) {
+    holds(rt, server.serve_round(rt, alloc).is_ok());
+}
+
+/// The first client's seat is gone, and the second one's is not.
+fn expect_first_gone(rt: &impl Abort, server: &mut Server) {
+    holds(rt, server.is_seat_gone(0));
+    holds(rt, !server.is_seat_gone(1));
 }
 
 /// A portal whose first client vanishes behind so many steps: what its server leaves once the second client's job is
@@ -77,16 +93,26 @@ fn left_by_a_server<R: Abort + Threads + Wait + Sync>(
     for step in STEPS.iter().take(steps) {
         take_step(rt, &mut first, *step);
         if let Step::Round = step {
-            server.serve_round(rt, alloc).ok()?;
+            serve(rt, alloc, &mut server);
         }
     }
     vanish(first, steps > STEPS.len());
-    assert!(rt; server.is_seat_gone(0) && !server.is_seat_gone(1));
-    let (job, answer) = second_job();
-    assert_eq!(rt; second.try_submit(job), Ok(()));
-    server.serve_round(rt, alloc).ok()?;
-    assert_eq!(rt; second.poll(), answer);
+    expect_first_gone(rt, &mut server);
+    second_submits(rt, &mut second);
+    serve(rt, alloc, &mut server);
+    second_polls(rt, &mut second);
     Some(server.into_settled())
+}
+
+/// A round of a server that stays up is served.
+fn serve_long<R: Abort + Threads + Wait + Sync>(rt: &R, alloc: Global, server: &mut LongServer) {
+    holds(rt, server.serve_round(rt, alloc).is_ok());
+}
+
+/// The first client's seat is gone from it, and the second one's is not.
+fn expect_first_gone_from_long(rt: &impl Abort, server: &mut LongServer) {
+    holds(rt, server.is_seat_gone(0));
+    holds(rt, !server.is_seat_gone(1));
 }
 
 /// The same of a server that stays up and holds a client back for whom one record waits.
@@ -95,59 +121,52 @@ fn left_by_a_long_server<R: Abort + Threads + Wait + Sync>(
     alloc: Global,
     steps: usize,
 ) -> Option<Settled> {
-    let Ok(
-        Stay {
-            mut server,
-            mut first,
-            mut second,
-        },
-    ) = Stay::of(Two::open(alloc, engine(alloc)?, 1)?, 0)
-    else {
-        return None;
-    };
+    let Stay {
+        mut server,
+        mut first,
+        mut second,
+    } = Stay::open(alloc, engine(alloc)?, 1, 0)?;
     for step in STEPS.iter().take(steps) {
         take_step(rt, &mut first, *step);
         if let Step::Round = step {
-            server.serve_round(rt, alloc).ok()?;
+            serve_long(rt, alloc, &mut server);
         }
     }
-    assert_eq!(rt; server.is_held_back(0), steps > 3);
+    same(rt, server.is_held_back(0), steps > 3);
     vanish(first, steps > STEPS.len());
-    assert!(rt; server.is_seat_gone(0) && !server.is_seat_gone(1));
-    let (job, answer) = second_job();
-    assert_eq!(rt; second.try_submit(job), Ok(()));
-    server.serve_round(rt, alloc).ok()?;
-    assert_eq!(rt; second.poll(), answer);
+    expect_first_gone_from_long(rt, &mut server);
+    second_submits(rt, &mut second);
+    serve_long(rt, alloc, &mut server);
+    second_polls(rt, &mut second);
     Some(server.give_up())
 }
 
 /// The log has so many entries of the first client, and the one of the second, whose bytes are written.
 fn expect_left(rt: &impl Abort, settled: &Settled, of_first: usize) {
     let log = settled.log.list.as_slice();
-    assert_eq!(rt;
+    same(
+        rt,
         log.iter().filter(|entry| entry.client == 0).count(),
-        of_first
+        of_first,
     );
-    assert_eq!(rt; log.iter().filter(|entry| entry.client == 1).count(), 1);
+    same(rt, log.iter().filter(|entry| entry.client == 1).count(), 1);
     expect_bytes(rt, &settled.image, &[(0, 1), (8, 0)]);
 }
 
 /// A client vanishes behind each of its steps. The other one is served.
 #[test]
-fn client_vanishes(rt: HostRuntime) -> Result<(), Fail> {
+fn client_vanishes(rt: HostRuntime) {
     for (steps, of_first) in OF_A_LOG_THAT_IS_TAKEN.iter().enumerate() {
-        let settled = left_by_a_long_server(&rt, rt.alloc(), steps).ok_or("no memory")?;
+        let settled = left_by_a_long_server(&rt, rt.alloc(), steps).expect(&rt, "no memory");
         expect_left(&rt, &settled, *of_first);
     }
-    Ok(())
 }
 
 /// The same of a server that keeps its log.
 #[test]
-fn client_vanishes_from_a_kept_log(rt: HostRuntime) -> Result<(), Fail> {
+fn client_vanishes_from_a_kept_log(rt: HostRuntime) {
     for (steps, of_first) in OF_A_LOG_THAT_GROWS.iter().enumerate() {
-        let settled = left_by_a_server(&rt, rt.alloc(), steps).ok_or("no memory")?;
+        let settled = left_by_a_server(&rt, rt.alloc(), steps).expect(&rt, "no memory");
         expect_left(&rt, &settled, *of_first);
     }
-    Ok(())
 }

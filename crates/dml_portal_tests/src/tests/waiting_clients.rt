@@ -3,9 +3,9 @@
 ghost use Rattle.dml_portal.specs.Lanes.{AreSameLanes};
 ghost use Rattle.dml_portal.specs.Seats.{IsSameSeat};
 
+use super::claims::{holds, same};
 use super::clients::TURNS;
-use super::portals::Two;
-use super::staying_clients::{Up, served};
+use super::staying_clients::{Up, served, settle_behind};
 use super::stays::Stay;
 use super::{done, engine};
 use dml_pool::Free;
@@ -14,7 +14,6 @@ use dml_types::{Job, Record};
 use std::alloc::Global;
 use std::process::Abort;
 use std::sync::Wait;
-use std::test::Fail;
 use std::thread::{self, Threads};
 
 /// How many jobs a client has.
@@ -138,34 +137,29 @@ fn expect_work(rt: &impl Abort, log: &[LogEntry], client: u32, work: &Work) {
             job: job_of(client, number),
             answer: done(number),
         };
-        assert_eq!(rt; part.next().copied(), Some(wanted));
+        same(rt, part.next().copied(), Some(wanted));
     }
-    assert!(rt; part.next().is_none());
+    holds(rt, part.next().is_none());
     let mut numbers = 0..work.submitted;
     for record in &work.records {
-        assert_eq!(rt; numbers.next().map(done), Some(*record));
+        same(rt, numbers.next().map(done), Some(*record));
     }
 }
 
 /// Records wait with their clients, who are held back, while the log is taken off.
 #[test]
-fn records_wait_while_the_log_is_taken(rt: HostRuntime) -> Result<(), Fail> {
+fn records_wait_while_the_log_is_taken(rt: HostRuntime) {
     for _ in 0..10 {
-        let engine = engine(rt.alloc()).ok_or("no memory")?;
-        let portal = Two::open(rt.alloc(), engine, 1).ok_or("no memory")?;
-        let Ok(portal) = Stay::of(portal, 0) else {
-            return Err("no memory".into());
-        };
+        let engine = engine(rt.alloc()).expect(&rt, "no memory");
+        let portal = Stay::open(rt.alloc(), engine, 1, 0).expect(&rt, "no memory");
         let Outcome {
             portal,
             mut log,
             first,
             second,
         } = worked_while_served(&rt, rt.alloc(), portal);
-        let settled = portal.settle(&rt, rt.alloc()).ok_or("not settled")?;
-        log.extend_from_slice(settled.log.list.as_slice())?;
+        settle_behind(&rt, rt.alloc(), portal, &mut log);
         expect_work(&rt, log.as_slice(), 0, &first);
         expect_work(&rt, log.as_slice(), 1, &second);
     }
-    Ok(())
 }

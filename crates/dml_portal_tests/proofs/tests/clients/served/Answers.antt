@@ -7,4 +7,4 @@ loop-init g c = same_lanes_again c.args.server.lanes.items
 
 pub loop-preserved : goal.loop-preserved
 loop-preserved g c =
-    same_lanes c.args.server.lanes.items c.loop.server.lanes.items c.serve_round.new.self.lanes.items c.loop.invariant c.serve_round.ensures.same
+    same_lanes c.args.server.lanes.items c.loop.server.lanes.items c.serve.new.server.lanes.items c.loop.invariant c.serve.ensures

@@ -1,5 +1,6 @@
 //! Engines and what their calls answer. The expected records and bytes are those of the jobs' definitions.
 
+mod claims;
 mod crowds;
 mod entering;
 mod fences;
@@ -15,13 +16,13 @@ mod resuming;
 mod rows;
 mod segments;
 
+use claims::{holds, same};
 use dml_engine::{Engine, EngineError, SubmitError};
 use dml_image::Image;
 use dml_types::{Direction, Job, Record, Settings, Status};
-use std::alloc::{AllocError, Global};
+use std::alloc::Global;
 use std::process::Abort;
 use std::sync::Wait;
-use std::test::Fail;
 use std::thread::Threads;
 
 const USUAL: Settings = Settings {
@@ -82,15 +83,14 @@ fn answer(status: Status, outcome: u8, completed: u32, fault: u64) -> Record {
 }
 
 /// Expects that an engine was made, and the byte at an address, and drops it.
-fn expect_made(rt: &impl Abort, made: Option<Engine>, addr: u64, byte: u8) -> Result<(), Fail> {
-    let engine = made.ok_or("no memory")?;
-    assert_eq!(rt; engine.image().byte(addr), Some(byte));
-    Ok(())
+fn expect_made(rt: &impl Abort, made: Option<Engine>, addr: u64, byte: u8) {
+    let engine = made.expect(rt, "no memory");
+    same(rt, engine.image().byte(addr), Some(byte));
 }
 
 /// Makes the engine and drops it.
-fn made_and_dropped(rt: &impl Abort, alloc: Global) -> Result<(), Fail> {
-    expect_made(rt, engine(alloc), 8, 0)
+fn made_and_dropped(rt: &impl Abort, alloc: Global) {
+    expect_made(rt, engine(alloc), 8, 0);
 }
 
 /// Expects bytes at some addresses.
@@ -102,27 +102,25 @@ fn expect_at(rt: &impl Abort, engine: &Engine, bytes: &[(u64, u8)]) {
 
 /// The list of records found no memory, and nothing was done.
 fn expect_nothing(rt: &impl Abort, engine: &Engine, error: SubmitError) {
-    assert_eq!(rt; error, SubmitError::NoMemory);
+    same(rt, error, SubmitError::NoMemory);
     expect_at(rt, engine, &[(0, 0), (8, 0), (64, 0), (128, 0)]);
 }
 
 /// A list of records as a call takes it first.
-fn no_records(rt: &impl Abort, alloc: Global, room: usize) -> Result<(), AllocError> {
-    let records = Vec::<Record>::with_capacity(alloc, room)?;
-    assert!(rt; records.is_empty());
-    Ok(())
+fn no_records(rt: &impl Abort, alloc: Global, room: usize) {
+    let records = Vec::<Record>::with_capacity(alloc, room).expect(rt, "no memory");
+    holds(rt, records.is_empty());
 }
 
 #[test]
-fn settings_out_of_range(rt: HostRuntime) -> Result<(), Fail> {
-    let image = Image::new(rt.alloc(), 1)?;
+fn settings_out_of_range(rt: HostRuntime) {
+    let image = Image::new(rt.alloc(), 1).expect(&rt, "no memory");
     let settings = Settings { chunk: 12, ..USUAL };
     match Engine::new(rt.alloc(), image, settings) {
-        Ok(_) => Err("the settings were taken".into()),
+        Ok(_) => rt.panic("the settings were taken"),
         Err((image, error)) => {
-            assert_eq!(rt; error, EngineError::BadSettings);
-            assert_eq!(rt; image.pages(), 1);
-            Ok(())
+            same(&rt, error, EngineError::BadSettings);
+            same(&rt, image.pages(), 1);
         }
     }
 }
@@ -149,18 +147,17 @@ fn submit_each<R: Abort + Threads + Wait + Sync>(rt: &R, alloc: Global, engine: 
         ),
     ];
     for (job, want) in table {
-        assert_eq!(rt; engine.submit(rt, alloc, job), want);
+        same(rt, engine.submit(rt, alloc, job), want);
     }
 }
 
 #[test]
-fn each_call(rt: HostRuntime) -> Result<(), Fail> {
-    let mut engine = engine(rt.alloc()).ok_or("no memory")?;
+fn each_call(rt: HostRuntime) {
+    let mut engine = engine(rt.alloc()).expect(&rt, "no memory");
     write_bytes(&rt, &mut engine);
     submit_each(&rt, rt.alloc(), &mut engine);
     let image = engine.into_image();
     for (addr, byte) in [(10, 1), (12, 3), (13, 0)] {
-        assert_eq!(rt; image.byte(addr), Some(byte));
+        same(&rt, image.byte(addr), Some(byte));
     }
-    Ok(())
 }

@@ -1,14 +1,14 @@
 //! As many tasks as workers, all of them in the gate at once.
 
+use super::claims::same;
 use super::{USUAL, answer, engine_with};
-use dml_engine::{Engine, SubmitError};
+use dml_engine::Engine;
 use dml_pool::Gate;
 use dml_types::{Job, Settings, Status};
 use std::alloc::Global;
 use std::process::Abort;
 use std::sync::Wait;
 use std::sync::atomic::{AtomicU64, Ordering};
-use std::test::Fail;
 use std::thread::{self, Threads};
 use std::time::{Clock, Duration};
 
@@ -86,30 +86,29 @@ fn expect_call<R: Abort + Threads + Wait + Sync, G: Gate + Sync>(
     alloc: Global,
     engine: &mut Engine<G>,
     call: Call,
-) -> Result<(), SubmitError> {
+) {
     let jobs = [Job::compare(0, 8, 8); ALL as usize];
     let want = [answer(Status::Success, 0, 8, 0); ALL as usize];
     match call {
         Call::Submit => {
             let record = engine.submit(rt, alloc, Job::fill(1, 0, 8 * ALL));
-            assert_eq!(rt; record, answer(Status::Success, 0, 8 * ALL, 0));
+            same(rt, record, answer(Status::Success, 0, 8 * ALL, 0));
         }
         Call::List => {
-            let records = engine.submit_list(rt, alloc, &jobs)?;
-            assert_eq!(rt; records.as_slice(), want.as_slice());
+            let records = engine.submit_list(rt, alloc, &jobs).expect(rt, "refused");
+            same(rt, records.as_slice(), want.as_slice());
         }
         Call::Batch => {
-            let (batch, records) = engine.submit_batch(rt, alloc, &jobs)?;
-            assert_eq!(rt; (batch.status, batch.completed), (Status::Success, ALL));
-            assert_eq!(rt; records.as_slice(), want.as_slice());
+            let (batch, records) = engine.submit_batch(rt, alloc, &jobs).expect(rt, "refused");
+            same(rt, (batch.status, batch.completed), (Status::Success, ALL));
+            same(rt, records.as_slice(), want.as_slice());
         }
     }
-    Ok(())
 }
 
 /// None of sixteen tasks goes on before all are held, each by a worker of its own.
 #[test]
-fn as_many_tasks_as_workers_of_an_engine(rt: HostRuntime) -> Result<(), Fail> {
+fn as_many_tasks_as_workers_of_an_engine(rt: HostRuntime) {
     for turn in 0..10 {
         for call in [Call::Submit, Call::List, Call::Batch] {
             let counts = Counts::new();
@@ -117,10 +116,9 @@ fn as_many_tasks_as_workers_of_an_engine(rt: HostRuntime) -> Result<(), Fail> {
                 clock: &rt,
                 counts: &counts,
             };
-            let mut engine = crowded_engine(rt.alloc(), gate).ok_or("no memory")?;
-            expect_call(&rt, rt.alloc(), &mut engine, call)?;
+            let mut engine = crowded_engine(rt.alloc(), gate).expect(&rt, "no memory");
+            expect_call(&rt, rt.alloc(), &mut engine, call);
             assert_eq!(rt; counts.both(), (u64::from(ALL), 0), "turn {turn}: {call:?}");
         }
     }
-    Ok(())
 }

@@ -1,6 +1,7 @@
 //! A gate that was given is entered once for each task of the accepted jobs that are not abandoned, with however many
 //! workers.
 
+use super::claims::same;
 use super::engine_with;
 use dml_desc::check;
 use dml_engine::{Engine, SubmitError};
@@ -11,7 +12,6 @@ use std::alloc::Global;
 use std::process::Abort;
 use std::sync::Wait;
 use std::sync::atomic::{AtomicU64, Ordering};
-use std::test::Fail;
 use std::thread::Threads;
 
 /// The most tasks of a wave here.
@@ -137,40 +137,33 @@ fn expect_with<R: Abort + Threads + Wait + Sync>(
     row: &Row,
     call: Call,
     workers: u32,
-) -> Result<(), Fail> {
+) {
     let settings = Settings {
         staging: 128,
         chunk: 8,
         workers,
     };
-    let counts = Counts::new(alloc).ok_or("no memory")?;
-    let engine = engine_with(alloc, 2, settings).ok_or("no memory")?;
+    let counts = Counts::new(alloc).expect(rt, "no memory");
+    let engine = engine_with(alloc, 2, settings).expect(rt, "no memory");
     let mut engine = engine.with_gate(Counting { counts: &counts });
-    make(rt, alloc, &mut engine, call, row.jobs)?;
+    make(rt, alloc, &mut engine, call, row.jobs).expect(rt, row.name);
     expect_entered(rt, row, &counts, workers, call);
-    Ok(())
 }
 
 /// Expects the same of rows at one worker, at two and at sixteen, by each of these calls.
-fn expect<R: Abort + Threads + Wait + Sync>(
-    rt: &R,
-    alloc: Global,
-    rows: &[Row],
-    calls: &[Call],
-) -> Result<(), Fail> {
+fn expect<R: Abort + Threads + Wait + Sync>(rt: &R, alloc: Global, rows: &[Row], calls: &[Call]) {
     for row in rows {
         for call in calls {
             for workers in [1, 2, 16] {
-                expect_with(rt, alloc, row, *call, workers)?;
+                expect_with(rt, alloc, row, *call, workers);
             }
         }
     }
-    Ok(())
 }
 
 /// A job by itself, as a list, as a batch or submitted alone.
 #[test]
-fn tasks_of_a_job_enter_once(rt: HostRuntime) -> Result<(), Fail> {
+fn tasks_of_a_job_enter_once(rt: HostRuntime) {
     let rows = [
         Row {
             name: "no task",
@@ -213,7 +206,7 @@ fn tasks_of_a_job_enter_once(rt: HostRuntime) -> Result<(), Fail> {
         rt.alloc(),
         &rows,
         &[Call::List, Call::Into, Call::Batch, Call::Single],
-    )
+    );
 }
 
 /// One job of each operation, which do not conflict: 3, 2, 2, 1, 3, 3, 2 and 0 tasks. Those of the apply are its
@@ -232,7 +225,7 @@ fn every_operation() -> [Job; 8] {
 }
 
 #[test]
-fn tasks_of_every_operation_enter_once(rt: HostRuntime) -> Result<(), Fail> {
+fn tasks_of_every_operation_enter_once(rt: HostRuntime) {
     let jobs = every_operation();
     let rows = [
         Row {
@@ -247,13 +240,13 @@ fn tasks_of_every_operation_enter_once(rt: HostRuntime) -> Result<(), Fail> {
         },
     ];
     let calls = [Call::List, Call::Into, Call::Batch];
-    expect(&rt, rt.alloc(), &rows, &calls)
+    expect(&rt, rt.alloc(), &rows, &calls);
 }
 
 /// Jobs without a fence, whose waves are the same as a list and as a batch. Two moves of 100 bytes do not fit into the
 /// staging of one wave.
 #[test]
-fn tasks_of_jobs_enter_once(rt: HostRuntime) -> Result<(), Fail> {
+fn tasks_of_jobs_enter_once(rt: HostRuntime) {
     let rows = [
         Row {
             name: "waves of one task",
@@ -287,12 +280,12 @@ fn tasks_of_jobs_enter_once(rt: HostRuntime) -> Result<(), Fail> {
         },
     ];
     let calls = [Call::List, Call::Into, Call::Batch];
-    expect(&rt, rt.alloc(), &rows, &calls)
+    expect(&rt, rt.alloc(), &rows, &calls);
 }
 
 /// Batches with fences: what is abandoned enters nowhere.
 #[test]
-fn tasks_about_a_fence_enter_once(rt: HostRuntime) -> Result<(), Fail> {
+fn tasks_about_a_fence_enter_once(rt: HostRuntime) {
     let fenced = Job::fill(2, 64, 16).with_flags(1);
     let stranger = Job {
         opcode: 0x10,
@@ -335,12 +328,12 @@ fn tasks_about_a_fence_enter_once(rt: HostRuntime) -> Result<(), Fail> {
             waves: &[1, 5],
         },
     ];
-    expect(&rt, rt.alloc(), &rows, &[Call::Batch])
+    expect(&rt, rt.alloc(), &rows, &[Call::Batch]);
 }
 
 /// In a list a fence is refused, and holds nothing back.
 #[test]
-fn tasks_beside_a_refused_fence_enter_once(rt: HostRuntime) -> Result<(), Fail> {
+fn tasks_beside_a_refused_fence_enter_once(rt: HostRuntime) {
     let rows = [Row {
         name: "a fence in a list",
         jobs: &[
@@ -350,13 +343,29 @@ fn tasks_beside_a_refused_fence_enter_once(rt: HostRuntime) -> Result<(), Fail> 
         ],
         waves: &[2],
     }];
-    expect(&rt, rt.alloc(), &rows, &[Call::List, Call::Into])
+    expect(&rt, rt.alloc(), &rows, &[Call::List, Call::Into]);
 }
 
 /// How many tasks a job has in chunks of 32 bytes, and in chunks of 4,096; none where it is refused.
 fn tasks_of(job: &Job) -> Option<(u32, u32)> {
     let checked = check(job, 4096).ok()?;
     Some((task_count(&checked, 32), task_count(&checked, 4096)))
+}
+
+/// How many all of them have.
+fn tasks_in_all(rt: &impl Abort, jobs: &[Job]) -> (u64, u64) {
+    let mut all = (0_u64, 0_u64);
+    for job in jobs {
+        let (small, large) = tasks_of(job).expect(rt, "a job was refused");
+        all.0 = all.0.saturating_add(u64::from(small));
+        all.1 = all.1.saturating_add(u64::from(large));
+    }
+    all
+}
+
+/// So many tasks entered with so many workers.
+fn same_with(rt: &impl Abort, workers: u32, entered: Option<u64>, want: Option<u64>) {
+    assert_eq!(rt; entered, want, "{workers} workers");
 }
 
 /// How often a list's tasks enter in all, in chunks of so many bytes.
@@ -385,7 +394,7 @@ fn entered_in_all<R: Threads + Wait + Sync>(
 
 /// In larger chunks there are as many tasks as the jobs are cut into.
 #[test]
-fn as_many_enter_as_there_are_chunks(rt: HostRuntime) -> Result<(), Fail> {
+fn as_many_enter_as_there_are_chunks(rt: HostRuntime) {
     let jobs = [
         Job::compare(0, 0, 4096),
         Job::fill(1, 4000, 200),
@@ -394,18 +403,12 @@ fn as_many_enter_as_there_are_chunks(rt: HostRuntime) -> Result<(), Fail> {
         Job::no_op(),
         Job::dualcast(0, 3072, 7168, 33),
     ];
-    let mut want = (0_u64, 0_u64);
-    for job in &jobs {
-        let (small, large) = tasks_of(job).ok_or("a job was refused")?;
-        want.0 = want.0.saturating_add(u64::from(small));
-        want.1 = want.1.saturating_add(u64::from(large));
-    }
-    assert_eq!(rt; want, (128 + 7 + 32 + 32 + 2, 5));
+    let want = tasks_in_all(&rt, &jobs);
+    same(&rt, want, (128 + 7 + 32 + 32 + 2, 5));
     for workers in [1, 2, 16] {
         let small = entered_in_all(&rt, rt.alloc(), &jobs, 32, workers);
-        assert_eq!(rt; small, Some(want.0), "{workers} workers");
+        same_with(&rt, workers, small, Some(want.0));
         let large = entered_in_all(&rt, rt.alloc(), &jobs, 4096, workers);
-        assert_eq!(rt; large, Some(want.1), "{workers} workers");
+        same_with(&rt, workers, large, Some(want.1));
     }
-    Ok(())
 }

@@ -1,17 +1,17 @@
 //! Fences in batches, at many settings with the same answers. In a list, and in a job by itself, a fence is refused.
 
+use super::claims::same;
 use super::rows::{
     self, expect_as_list, expect_bytes, expect_own, expect_records, plain_row, settings, with_given,
 };
 use super::{USUAL, answer, engine_with};
 use dml_engine::{Engine, EngineOver};
-use dml_image::{Lent, Whole};
+use dml_image::{Image, Lent, Whole};
 use dml_pool::Free;
 use dml_types::{Job, Record, Settings, Status};
 use std::alloc::Global;
 use std::process::Abort;
 use std::sync::Wait;
-use std::test::Fail;
 use std::thread::Threads;
 
 /// A batch on a page of zeros, what its jobs answer, its own status, how many jobs are carried out, and the first bytes
@@ -49,28 +49,37 @@ fn expect_row<R: Abort + Threads + Wait + Sync>(
     alloc: Global,
     row: &Row,
     engine: &mut EngineOver<'_>,
-) -> Option<()> {
-    let (own, records) = engine.submit_batch(rt, alloc, row.jobs).ok()?;
+) {
+    let batch = engine.submit_batch(rt, alloc, row.jobs);
+    let (own, records) = batch.expect(rt, row.name);
     expect_records(rt, row.name, &records, row.records);
     expect_own(rt, row.name, own, row.status, row.completed);
     expect_bytes(rt, row.name, engine.image(), 0, row.left);
-    Some(())
 }
 
 /// Expects a row's answers at all settings, with the engine's own gate and with one given.
-fn expect_everywhere<R: Abort + Threads + Wait + Sync>(
+fn expect<R: Abort + Threads + Wait + Sync>(rt: &R, alloc: Global, row: &Row) {
+    for settings in settings(USUAL.staging) {
+        for given in [false, true] {
+            let engine = engine_with(alloc, 1, settings).expect(rt, "no memory");
+            expect_row(rt, alloc, row, &mut with_given(engine, given));
+            expect_lent(rt, alloc, row, settings, given);
+        }
+    }
+}
+
+/// Submits a row's batch to an engine over an image, with its own gate or with one given.
+fn expect_over<R: Abort + Threads + Wait + Sync>(
     rt: &R,
     alloc: Global,
     row: &Row,
-) -> Option<()> {
-    for settings in settings(USUAL.staging) {
-        for given in [false, true] {
-            let mut engine = with_given(engine_with(alloc, 1, settings)?, given);
-            expect_row(rt, alloc, row, &mut engine)?;
-            expect_lent(rt, alloc, row, settings, given)?;
-        }
-    }
-    Some(())
+    settings: Settings,
+    given: bool,
+    image: Image<'_>,
+) {
+    let engine = EngineOver::new(alloc, image, settings).ok();
+    let engine = engine.expect(rt, "no memory");
+    expect_row(rt, alloc, row, &mut with_given(engine, given));
 }
 
 /// The same over a page that is lent: with its mark, and in one piece.
@@ -80,27 +89,19 @@ fn expect_lent<R: Abort + Threads + Wait + Sync>(
     row: &Row,
     settings: Settings,
     given: bool,
-) -> Option<()> {
+) {
     let mut content = [0; 4096];
     let mut lent = Lent::new(&[true], &mut content);
     assert!(rt; lent.is_memory());
-    let mut engine = with_given(EngineOver::new(alloc, lent.take(), settings).ok()?, given);
-    expect_row(rt, alloc, row, &mut engine)?;
+    expect_over(rt, alloc, row, settings, given, lent.take());
     let mut piece = [0; 4096];
     let mut whole = Whole::new(&mut piece);
     assert!(rt; whole.is_memory());
-    let mut engine = with_given(EngineOver::new(alloc, whole.take(), settings).ok()?, given);
-    expect_row(rt, alloc, row, &mut engine)
-}
-
-/// The same, as the end of a test.
-fn expect<R: Abort + Threads + Wait + Sync>(rt: &R, alloc: Global, row: &Row) -> Result<(), Fail> {
-    expect_everywhere(rt, alloc, row).ok_or("no memory")?;
-    Ok(())
+    expect_over(rt, alloc, row, settings, given, whole.take());
 }
 
 #[test]
-fn fence_in_batch(rt: HostRuntime) -> Result<(), Fail> {
+fn fence_in_batch(rt: HostRuntime) {
     let row = Row {
         name: "fence_in_batch",
         jobs: &[Job::no_op().with_flags(1)],
@@ -109,11 +110,11 @@ fn fence_in_batch(rt: HostRuntime) -> Result<(), Fail> {
         completed: 1,
         left: &[0],
     };
-    expect(&rt, rt.alloc(), &row)
+    expect(&rt, rt.alloc(), &row);
 }
 
 #[test]
-fn fence_orders(rt: HostRuntime) -> Result<(), Fail> {
+fn fence_orders(rt: HostRuntime) {
     let row = Row {
         name: "fence_orders",
         jobs: &[Job::fill(1, 0, 8), Job::fill(2, 0, 8).with_flags(1)],
@@ -122,11 +123,11 @@ fn fence_orders(rt: HostRuntime) -> Result<(), Fail> {
         completed: 2,
         left: &[2, 0, 0, 0, 0, 0, 0, 0],
     };
-    expect(&rt, rt.alloc(), &row)
+    expect(&rt, rt.alloc(), &row);
 }
 
 #[test]
-fn fence_abandons(rt: HostRuntime) -> Result<(), Fail> {
+fn fence_abandons(rt: HostRuntime) {
     let mut left = [0; 24];
     left[0] = 1;
     let row = Row {
@@ -147,11 +148,11 @@ fn fence_abandons(rt: HostRuntime) -> Result<(), Fail> {
         completed: 2,
         left: &left,
     };
-    expect(&rt, rt.alloc(), &row)
+    expect(&rt, rt.alloc(), &row);
 }
 
 #[test]
-fn fence_after_false_predicate(rt: HostRuntime) -> Result<(), Fail> {
+fn fence_after_false_predicate(rt: HostRuntime) {
     let row = Row {
         name: "fence_after_false_predicate",
         jobs: &[
@@ -163,12 +164,12 @@ fn fence_after_false_predicate(rt: HostRuntime) -> Result<(), Fail> {
         completed: 1,
         left: &[0],
     };
-    expect(&rt, rt.alloc(), &row)
+    expect(&rt, rt.alloc(), &row);
 }
 
 /// The row refused_fenced_job; tests whose names begin so are those of growths that are refused.
 #[test]
-fn fence_of_a_bad_job(rt: HostRuntime) -> Result<(), Fail> {
+fn fence_of_a_bad_job(rt: HostRuntime) {
     let row = Row {
         name: "refused_fenced_job",
         jobs: &[Job::fill(1, 0, 8), FENCED_STRANGER, Job::fill(2, 8, 8)],
@@ -181,12 +182,12 @@ fn fence_of_a_bad_job(rt: HostRuntime) -> Result<(), Fail> {
         completed: 3,
         left: &[1, 0, 0, 0, 0, 0, 0, 0, 2],
     };
-    expect(&rt, rt.alloc(), &row)
+    expect(&rt, rt.alloc(), &row);
 }
 
 /// The row refused_fenced_job_after_fault.
 #[test]
-fn fence_of_a_bad_job_after_a_fault(rt: HostRuntime) -> Result<(), Fail> {
+fn fence_of_a_bad_job_after_a_fault(rt: HostRuntime) {
     let row = Row {
         name: "refused_fenced_job_after_fault",
         jobs: &[Job::fill(1, 4096, 8), FENCED_STRANGER, Job::fill(2, 8, 8)],
@@ -199,12 +200,12 @@ fn fence_of_a_bad_job_after_a_fault(rt: HostRuntime) -> Result<(), Fail> {
         completed: 1,
         left: &[0; 16],
     };
-    expect(&rt, rt.alloc(), &row)
+    expect(&rt, rt.alloc(), &row);
 }
 
 /// The last job before the fence stands in a later wave than the one that faults, and succeeds.
 #[test]
-fn fault_in_an_earlier_wave(rt: HostRuntime) -> Result<(), Fail> {
+fn fault_in_an_earlier_wave(rt: HostRuntime) {
     let mut left = [0; 72];
     (left[0], left[64]) = (1, 1);
     let row = Row {
@@ -225,12 +226,12 @@ fn fault_in_an_earlier_wave(rt: HostRuntime) -> Result<(), Fail> {
         completed: 3,
         left: &left,
     };
-    expect(&rt, rt.alloc(), &row)
+    expect(&rt, rt.alloc(), &row);
 }
 
 /// Each fence waits for the jobs before it, and a fault behind the last fence ends nothing.
 #[test]
-fn fences_one_after_another(rt: HostRuntime) -> Result<(), Fail> {
+fn fences_one_after_another(rt: HostRuntime) {
     let row = Row {
         name: "fences_one_after_another",
         jobs: &[
@@ -249,7 +250,7 @@ fn fences_one_after_another(rt: HostRuntime) -> Result<(), Fail> {
         completed: 4,
         left: &[2, 0, 0, 0, 0, 0, 0, 0, 4],
     };
-    expect(&rt, rt.alloc(), &row)
+    expect(&rt, rt.alloc(), &row);
 }
 
 /// A job with the fence, which is refused outside a batch.
@@ -266,7 +267,7 @@ const FENCED_FILL: Job = Job {
 
 /// A list is carried out without it.
 #[test]
-fn fence_in_list(rt: HostRuntime) -> Result<(), Fail> {
+fn fence_in_list(rt: HostRuntime) {
     let row = rows::Row {
         jobs: &[FENCED_FILL, Job::fill(2, 8, 8)],
         records: &[
@@ -276,22 +277,21 @@ fn fence_in_list(rt: HostRuntime) -> Result<(), Fail> {
         left: &[(0, &[0; 8]), (8, &[2, 0, 0, 0, 0, 0, 0, 0])],
         ..plain_row("fence_in_list")
     };
-    expect_as_list(&rt, rt.alloc(), &row)
+    expect_as_list(&rt, rt.alloc(), &row);
 }
 
 /// Submits it by itself, and expects that it is refused and leaves the image as it was.
 fn expect_refused<R: Abort + Threads + Wait + Sync>(rt: &R, alloc: Global, engine: &mut Engine) {
     let refused = engine.submit(rt, alloc, FENCED_FILL);
-    assert_eq!(rt; refused, answer(Status::BadFlags, 0, 0, 0));
-    assert_eq!(rt; engine.image().byte(0), Some(0));
+    same(rt, refused, answer(Status::BadFlags, 0, 0, 0));
+    same(rt, engine.image().byte(0), Some(0));
 }
 
 #[test]
-fn fence_in_a_job(rt: HostRuntime) -> Result<(), Fail> {
+fn fence_in_a_job(rt: HostRuntime) {
     for settings in settings(USUAL.staging) {
-        let mut own = engine_with(rt.alloc(), 1, settings).ok_or("no memory")?;
+        let mut own = engine_with(rt.alloc(), 1, settings).expect(&rt, "no memory");
         expect_refused(&rt, rt.alloc(), &mut own);
         expect_refused(&rt, rt.alloc(), &mut own.with_gate(Free));
     }
-    Ok(())
 }

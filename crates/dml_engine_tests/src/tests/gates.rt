@@ -1,5 +1,6 @@
 //! Gates that hold the workers of an engine.
 
+use super::claims::same;
 use super::{USUAL, answer, engine_with, expect_made};
 use dml_engine::{Engine, SubmitError};
 use dml_pool::Gate;
@@ -8,7 +9,6 @@ use std::alloc::Global;
 use std::process::Abort;
 use std::sync::Wait;
 use std::sync::atomic::{AtomicU64, Ordering};
-use std::test::Fail;
 use std::thread::{self, Threads};
 use std::time::{Clock, Duration};
 
@@ -128,11 +128,12 @@ fn expect_into<R: Abort + Threads + Wait + Sync, G: Gate + Sync>(
     alloc: Global,
     engine: &mut Engine<G>,
     jobs: &[Job; 2],
-) -> Option<()> {
-    let mut records = Vec::with_capacity(alloc, 2).ok()?;
+) {
+    let Ok(mut records) = Vec::with_capacity(alloc, 2) else {
+        rt.panic("no memory");
+    };
     engine.submit_into(rt, alloc, jobs, &mut records);
-    assert_eq!(rt; records.as_slice(), filled().as_slice());
-    Some(())
+    same(rt, records.as_slice(), filled().as_slice());
 }
 
 /// Makes the call with jobs of three tasks, and expects its records.
@@ -141,41 +142,42 @@ fn expect_call<R: Abort + Threads + Wait + Sync, G: Gate + Sync>(
     alloc: Global,
     engine: &mut Engine<G>,
     call: Call,
-) -> Result<(), SubmitError> {
+) {
     let jobs = [Job::fill(1, 0, 16), Job::fill(2, 64, 8)];
     match call {
         Call::Submit => {
             let filled = engine.submit(rt, alloc, Job::fill(1, 0, 24));
-            assert_eq!(rt; filled, answer(Status::Success, 0, 24, 0));
+            same(rt, filled, answer(Status::Success, 0, 24, 0));
         }
-        Call::Into => {
-            expect_into(rt, alloc, engine, &jobs).ok_or(SubmitError::NoMemory)?;
-        }
+        Call::Into => expect_into(rt, alloc, engine, &jobs),
         Call::List => {
-            let records = engine.submit_list(rt, alloc, &jobs)?;
-            assert_eq!(rt; records.as_slice(), filled().as_slice());
+            let records = engine.submit_list(rt, alloc, &jobs).expect(rt, "refused");
+            same(rt, records.as_slice(), filled().as_slice());
         }
         Call::Batch => {
-            let (batch, records) = engine.submit_batch(rt, alloc, &jobs)?;
-            assert_eq!(rt; (batch.status, batch.completed), (Status::Success, 2));
-            assert_eq!(rt; records.as_slice(), filled().as_slice());
+            let (batch, records) = engine.submit_batch(rt, alloc, &jobs).expect(rt, "refused");
+            same(rt, (batch.status, batch.completed), (Status::Success, 2));
+            same(rt, records.as_slice(), filled().as_slice());
         }
     }
-    Ok(())
 }
 
 #[test]
-fn every_submit_runs_at_once(rt: HostRuntime) -> Result<(), Fail> {
+fn every_submit_runs_at_once(rt: HostRuntime) {
     for turn in 0..10 {
         for call in [Call::Submit, Call::Into, Call::List, Call::Batch] {
             let counts = Counts::new();
             let gate = counts.gate(&rt, ALL_ONCE);
-            let mut engine = gated_engine(rt.alloc(), 3, gate).ok_or("no memory")?;
-            expect_call(&rt, rt.alloc(), &mut engine, call)?;
+            let mut engine = gated_engine(rt.alloc(), 3, gate).expect(&rt, "no memory");
+            expect_call(&rt, rt.alloc(), &mut engine, call);
             assert_eq!(rt; counts.both(), (ALL_ONCE, 0), "turn {turn}: {call:?}");
         }
     }
-    Ok(())
+}
+
+/// Expects these counts behind a turn.
+fn expect_counts(rt: &impl Abort, counts: &Counts, want: (u64, u64), turn: u32) {
+    assert_eq!(rt; counts.both(), want, "turn {turn}");
 }
 
 /// Submits a job, and two fills at and behind a fence.
@@ -183,31 +185,29 @@ fn expect_fenced<R: Abort + Threads + Wait + Sync, G: Gate + Sync>(
     rt: &R,
     alloc: Global,
     engine: &mut Engine<G>,
-) -> Result<(), SubmitError> {
+) {
     let jobs = [
         Job::no_op(),
         Job::fill(1, 0, 16).with_flags(1),
         Job::fill(2, 64, 8),
     ];
-    let (batch, records) = engine.submit_batch(rt, alloc, &jobs)?;
-    assert_eq!(rt; (batch.status, batch.completed), (Status::Success, 3));
+    let (batch, records) = engine.submit_batch(rt, alloc, &jobs).expect(rt, "refused");
+    same(rt, (batch.status, batch.completed), (Status::Success, 3));
     let [first, second] = filled();
     let want = [answer(Status::Success, 0, 0, 0), first, second];
-    assert_eq!(rt; records.as_slice(), want.as_slice());
-    Ok(())
+    same(rt, records.as_slice(), want.as_slice());
 }
 
 /// The jobs at and behind a fence enter at once, as those of a list do.
 #[test]
-fn fenced_jobs_enter_at_once(rt: HostRuntime) -> Result<(), Fail> {
+fn fenced_jobs_enter_at_once(rt: HostRuntime) {
     for turn in 0..10 {
         let counts = Counts::new();
         let gate = counts.gate(&rt, ALL_ONCE);
-        let mut engine = gated_engine(rt.alloc(), 3, gate).ok_or("no memory")?;
-        expect_fenced(&rt, rt.alloc(), &mut engine)?;
-        assert_eq!(rt; counts.both(), (ALL_ONCE, 0), "turn {turn}");
+        let mut engine = gated_engine(rt.alloc(), 3, gate).expect(&rt, "no memory");
+        expect_fenced(&rt, rt.alloc(), &mut engine);
+        expect_counts(&rt, &counts, (ALL_ONCE, 0), turn);
     }
-    Ok(())
 }
 
 /// Submits two fills of a task each.
@@ -215,59 +215,55 @@ fn expect_two_tasks<R: Abort + Threads + Wait + Sync, G: Gate + Sync>(
     rt: &R,
     alloc: Global,
     engine: &mut Engine<G>,
-) -> Result<(), SubmitError> {
+) {
     let jobs = [Job::fill(1, 0, 8), Job::fill(2, 8, 8)];
-    let records = engine.submit_list(rt, alloc, &jobs)?;
+    let records = engine.submit_list(rt, alloc, &jobs).expect(rt, "refused");
     let want = [answer(Status::Success, 0, 8, 0); 2];
-    assert_eq!(rt; records.as_slice(), want.as_slice());
-    Ok(())
+    same(rt, records.as_slice(), want.as_slice());
 }
 
 #[test]
-fn two_tasks_at_once(rt: HostRuntime) -> Result<(), Fail> {
+fn two_tasks_at_once(rt: HostRuntime) {
     for turn in 0..10 {
         let counts = Counts::new();
         let gate = counts.gate(&rt, 0x101);
-        let mut engine = gated_engine(rt.alloc(), 2, gate).ok_or("no memory")?;
-        expect_two_tasks(&rt, rt.alloc(), &mut engine)?;
-        assert_eq!(rt; counts.both(), (0x101, 0), "turn {turn}");
+        let mut engine = gated_engine(rt.alloc(), 2, gate).expect(&rt, "no memory");
+        expect_two_tasks(&rt, rt.alloc(), &mut engine);
+        expect_counts(&rt, &counts, (0x101, 0), turn);
     }
-    Ok(())
 }
 
 /// What a gate that holds no task counts of a list that two workers carry out.
-fn entered<R: Clock + Threads + Wait + Sync>(
+fn entered<R: Abort + Clock + Threads + Wait + Sync>(
     rt: &R,
     alloc: Global,
     jobs: &[Job],
-) -> Result<(u64, u64), Fail> {
+) -> (u64, u64) {
     let counts = Counts::new();
     let gate = counts.gate(rt, 0);
-    let mut engine = gated_engine(alloc, 2, gate).ok_or("no memory")?;
-    engine.submit_list(rt, alloc, jobs)?;
-    Ok(counts.both())
+    let mut engine = gated_engine(alloc, 2, gate).expect(rt, "no memory");
+    engine.submit_list(rt, alloc, jobs).expect(rt, "refused");
+    counts.both()
 }
 
 /// The jobs of a list of two levels enter the gate wave by wave, the first of each wave as its task 0.
 #[test]
-fn waves_enter_one_after_another(rt: HostRuntime) -> Result<(), Fail> {
-    let entered = entered(&rt, rt.alloc(), &small_jobs())?;
-    assert_eq!(rt; entered, (0x1_0202, 0));
-    Ok(())
+fn waves_enter_one_after_another(rt: HostRuntime) {
+    let entered = entered(&rt, rt.alloc(), &small_jobs());
+    same(&rt, entered, (0x1_0202, 0));
 }
 
 /// A gate that was given sees each wave of a list, also one of a single task.
 #[test]
-fn waves_of_one_task_enter(rt: HostRuntime) -> Result<(), Fail> {
+fn waves_of_one_task_enter(rt: HostRuntime) {
     let jobs = [Job::fill(1, 0, 8), Job::fill(2, 0, 8)];
-    let entered = entered(&rt, rt.alloc(), &jobs)?;
-    assert_eq!(rt; entered, (0x2, 0));
-    Ok(())
+    let entered = entered(&rt, rt.alloc(), &jobs);
+    same(&rt, entered, (0x2, 0));
 }
 
 /// Makes the engine and drops it.
-fn made_and_dropped(rt: &impl Abort, alloc: Global) -> Result<(), Fail> {
-    expect_made(rt, engine_of_eight(alloc, 2), 0, 0)
+fn made_and_dropped(rt: &impl Abort, alloc: Global) {
+    expect_made(rt, engine_of_eight(alloc, 2), 0, 0);
 }
 
 /// Submits two waves, of one task and of three, as a list or as a batch whose second job is fenced.
@@ -299,40 +295,35 @@ fn expect_two_waves<R: Abort + Threads + Wait + Sync, G: Gate + Sync>(
     match two_waves(rt, alloc, engine, fenced) {
         Ok(records) => {
             let last = answer(Status::Success, 0, 24, 0);
-            assert_eq!(rt; records.last().copied(), Some(last));
-            assert_eq!(rt; engine.image().byte(0), Some(2));
+            same(rt, records.last().copied(), Some(last));
+            same(rt, engine.image().byte(0), Some(2));
         }
-        Err(error) => assert_eq!(rt; error, SubmitError::NoMemory),
+        Err(error) => same(rt, error, SubmitError::NoMemory),
     }
 }
 
 /// Once memory is refused to a wave, neither it nor a later one goes to the workers: tasks enter of both waves, of the
 /// first alone, or of none.
-fn expect_waves<R: Abort + Clock + Threads + Wait + Sync>(
-    rt: &R,
-    alloc: Global,
-    fenced: bool,
-) -> Result<(), Fail> {
+fn expect_waves<R: Abort + Clock + Threads + Wait + Sync>(rt: &R, alloc: Global, fenced: bool) {
     let counts = Counts::new();
     let gate = counts.gate(rt, 0);
-    let mut engine = gated_engine(alloc, 2, gate).ok_or("no memory")?;
+    let mut engine = gated_engine(alloc, 2, gate).expect(rt, "no memory");
     expect_two_waves(rt, alloc, &mut engine, fenced);
     let (entered, _) = counts.both();
     assert!(rt; [0, 0x1, 0x1_0102].contains(&entered), "{entered:x}");
-    Ok(())
 }
 
 #[test]
-fn set_up_of_waves(rt: HostRuntime) -> Result<(), Fail> {
-    made_and_dropped(&rt, rt.alloc())
+fn set_up_of_waves(rt: HostRuntime) {
+    made_and_dropped(&rt, rt.alloc());
 }
 
 #[test]
-fn refused_waves(rt: HostRuntime) -> Result<(), Fail> {
-    expect_waves(&rt, rt.alloc(), false)
+fn refused_waves(rt: HostRuntime) {
+    expect_waves(&rt, rt.alloc(), false);
 }
 
 #[test]
-fn refused_waves_of_a_batch(rt: HostRuntime) -> Result<(), Fail> {
-    expect_waves(&rt, rt.alloc(), true)
+fn refused_waves_of_a_batch(rt: HostRuntime) {
+    expect_waves(&rt, rt.alloc(), true);
 }

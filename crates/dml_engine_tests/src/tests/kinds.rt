@@ -23,22 +23,48 @@ pub(super) fn everywhere<R: Abort + Threads + Wait + Sync>(
     alloc: Global,
     row: &Row,
     way: Way,
-) -> Option<()> {
+) {
     for settings in settings(row.staging) {
         for given in [false, true] {
-            let mut engine = engine_of(alloc, row, settings, given)?;
-            expect_from(rt, alloc, row, way, &mut engine)?;
-            let own = engine.image();
-            over_lent(rt, alloc, row, way, settings, given, own)?;
-            in_one_piece(rt, alloc, row, way, settings, given, own)?;
-            over_segments(rt, alloc, row, way, settings, given, own)?;
-            // No gate can be given where there is no engine.
-            if !given {
-                without_engine(rt, alloc, row, way, settings, own)?;
-            }
+            over_each(rt, alloc, row, way, settings, given);
         }
     }
-    Some(())
+}
+
+/// The same at these settings.
+fn over_each<R: Abort + Threads + Wait + Sync>(
+    rt: &R,
+    alloc: Global,
+    row: &Row,
+    way: Way,
+    settings: Settings,
+    given: bool,
+) {
+    let mut engine = engine_of(alloc, row, settings, given).expect(rt, "no memory");
+    expect_from(rt, alloc, row, way, &mut engine);
+    let own = engine.image();
+    over_lent(rt, alloc, row, way, settings, given, own);
+    in_one_piece(rt, alloc, row, way, settings, given, own);
+    over_segments(rt, alloc, row, way, settings, given, own);
+    // No gate can be given where there is no engine.
+    if !given {
+        without_engine(rt, alloc, row, way, settings, own);
+    }
+}
+
+/// Expects what a row answers over an image, with the engine's own gate or with one given.
+pub(super) fn over_image<R: Abort + Threads + Wait + Sync>(
+    rt: &R,
+    alloc: Global,
+    row: &Row,
+    way: Way,
+    settings: Settings,
+    given: bool,
+    image: Image<'_>,
+) {
+    let engine = EngineOver::new(alloc, image, settings).ok();
+    let mut engine = with_given(engine.expect(rt, "no memory"), given);
+    expect_from(rt, alloc, row, way, &mut engine);
 }
 
 /// The caller's memory has the bytes of an image of its own pages, and 0 where a page is absent.
@@ -64,16 +90,14 @@ fn over_lent<R: Abort + Threads + Wait + Sync>(
     settings: Settings,
     given: bool,
     own: &Image,
-) -> Option<()> {
-    let (present, mut content) = blank_pages(alloc, row.pages, row.present)?;
+) {
+    let blank = blank_pages(alloc, row.pages, row.present);
+    let (present, mut content) = blank.expect(rt, "no memory");
     let mut lent = lent(rt, present.as_slice(), content.as_mut_slice());
-    let image = bring_pages(lent.take(), row)?;
-    let mut engine = with_given(EngineOver::new(alloc, image, settings).ok()?, given);
-    expect_from(rt, alloc, row, way, &mut engine)?;
-    drop(engine);
+    let image = bring_pages(lent.take(), row).expect(rt, "no page");
+    over_image(rt, alloc, row, way, settings, given, image);
     drop(lent);
     expect_same(rt, row, own, content.as_slice());
-    Some(())
 }
 
 /// The pages of a row that are present, one behind the other.
@@ -101,19 +125,38 @@ fn in_one_piece<R: Abort + Threads + Wait + Sync>(
     settings: Settings,
     given: bool,
     own: &Image,
-) -> Option<()> {
+) {
     if !is_whole(row) {
-        return Some(());
+        return;
     }
-    let mut content = piece_of(alloc, row)?;
+    let mut content = piece_of(alloc, row).expect(rt, "no memory");
     let mut whole = Whole::new(content.as_mut_slice());
     assert!(rt; whole.is_memory());
-    let mut engine = with_given(EngineOver::new(alloc, whole.take(), settings).ok()?, given);
-    expect_from(rt, alloc, row, way, &mut engine)?;
-    drop(engine);
+    over_image(rt, alloc, row, way, settings, given, whole.take());
     drop(whole);
     expect_same(rt, row, own, content.as_slice());
-    Some(())
+}
+
+/// Carries out a row's jobs without an engine, and expects its answers.
+fn expect_run<R: Abort + Threads + Wait + Sync>(
+    rt: &R,
+    alloc: Global,
+    row: &Row,
+    way: Way,
+    settings: Settings,
+    content: &mut [u8],
+) {
+    assert!(rt; are_whole_pages(content));
+    let records = match way {
+        Way::List => run_list_over(rt, alloc, content, settings, row.jobs).expect(rt, row.name),
+        Way::Batch => {
+            let batch = run_batch_over(rt, alloc, content, settings, row.jobs);
+            let (own, records) = batch.expect(rt, row.name);
+            expect_own(rt, row.name, own, row.status, row.jobs.len());
+            records
+        }
+    };
+    expect_records(rt, row.name, &records, row.records);
 }
 
 /// The same without an engine.
@@ -124,21 +167,11 @@ fn without_engine<R: Abort + Threads + Wait + Sync>(
     way: Way,
     settings: Settings,
     own: &Image,
-) -> Option<()> {
+) {
     if !is_whole(row) {
-        return Some(());
+        return;
     }
-    let mut content = piece_of(alloc, row)?;
-    assert!(rt; are_whole_pages(&content));
-    let records = match way {
-        Way::List => run_list_over(rt, alloc, &mut content, settings, row.jobs).ok()?,
-        Way::Batch => {
-            let (own, records) = run_batch_over(rt, alloc, &mut content, settings, row.jobs).ok()?;
-            expect_own(rt, row.name, own, row.status, row.jobs.len());
-            records
-        }
-    };
-    expect_records(rt, row.name, &records, row.records);
+    let mut content = piece_of(alloc, row).expect(rt, "no memory");
+    expect_run(rt, alloc, row, way, settings, content.as_mut_slice());
     expect_same(rt, row, own, content.as_slice());
-    Some(())
 }

@@ -1,5 +1,6 @@
 //! Lists and batches at many settings, all with the same answers.
 
+use super::claims::{holds, same};
 use super::rows::{Row, expect, expect_as_list, plain_row};
 use super::{USUAL, answer, engine, full_image};
 use dml_engine::{Engine, SubmitError};
@@ -8,7 +9,6 @@ use dml_types::{Job, Record, Settings, Status};
 use std::alloc::Global;
 use std::process::Abort;
 use std::sync::Wait;
-use std::test::Fail;
 use std::thread::Threads;
 
 /// An opcode that no job has.
@@ -24,7 +24,7 @@ const BAD_OPCODE: Job = Job {
 };
 
 #[test]
-fn batch_with_bad_opcode(rt: HostRuntime) -> Result<(), Fail> {
+fn batch_with_bad_opcode(rt: HostRuntime) {
     let row = Row {
         jobs: &[Job::fill(1, 0, 8), BAD_OPCODE, Job::fill(2, 8, 8)],
         records: &[
@@ -36,11 +36,11 @@ fn batch_with_bad_opcode(rt: HostRuntime) -> Result<(), Fail> {
         left: &[(0, &[1, 0, 0, 0, 0, 0, 0, 0, 2, 0, 0, 0, 0, 0, 0, 0])],
         ..plain_row("batch_with_bad_opcode")
     };
-    expect(&rt, rt.alloc(), &row)
+    expect(&rt, rt.alloc(), &row);
 }
 
 #[test]
-fn staging_refusal_and_two_waves(rt: HostRuntime) -> Result<(), Fail> {
+fn staging_refusal_and_two_waves(rt: HostRuntime) {
     let row = Row {
         staging: 64,
         bytes: &[(0, &[9])],
@@ -58,11 +58,11 @@ fn staging_refusal_and_two_waves(rt: HostRuntime) -> Result<(), Fail> {
         left: &[(256, &[9, 0]), (512, &[0]), (1024, &[9, 0])],
         ..plain_row("staging_refusal_and_two_waves")
     };
-    expect(&rt, rt.alloc(), &row)
+    expect(&rt, rt.alloc(), &row);
 }
 
 #[test]
-fn conflict_chain(rt: HostRuntime) -> Result<(), Fail> {
+fn conflict_chain(rt: HostRuntime) {
     let row = Row {
         bytes: &[(0, &[1, 2, 3, 4, 5, 6, 7, 8])],
         jobs: &[
@@ -78,12 +78,12 @@ fn conflict_chain(rt: HostRuntime) -> Result<(), Fail> {
         ],
         ..plain_row("conflict_chain")
     };
-    expect(&rt, rt.alloc(), &row)
+    expect(&rt, rt.alloc(), &row);
 }
 
 /// The fence of the fourth job is refused in a list. A batch accepts it, so that its row has the first three.
 #[test]
-fn flags_before_size(rt: HostRuntime) -> Result<(), Fail> {
+fn flags_before_size(rt: HostRuntime) {
     let jobs = [
         Job::move_bytes(0, 0, 1_048_577).with_flags(0x10),
         Job::move_bytes(0, 0, 1_048_577),
@@ -103,13 +103,13 @@ fn flags_before_size(rt: HostRuntime) -> Result<(), Fail> {
         status: Status::BatchFailed,
         ..plain_row("flags_before_size")
     };
-    expect_as_list(&rt, rt.alloc(), &row)?;
+    expect_as_list(&rt, rt.alloc(), &row);
     let without_fence = Row {
         jobs: &jobs[..3],
         records: &records[..3],
         ..row
     };
-    expect(&rt, rt.alloc(), &without_fence)?;
+    expect(&rt, rt.alloc(), &without_fence);
     let empty = Row {
         name: "empty batch",
         jobs: &[],
@@ -117,13 +117,13 @@ fn flags_before_size(rt: HostRuntime) -> Result<(), Fail> {
         status: Status::Success,
         ..row
     };
-    expect(&rt, rt.alloc(), &empty)
+    expect(&rt, rt.alloc(), &empty);
 }
 
 /// A chunk stops inside each of these: a fill at an absent page, a move with its source there, and a compare at the
 /// first byte that differs. What comes after them in list order sees what they left.
 #[test]
-fn stopped_jobs(rt: HostRuntime) -> Result<(), Fail> {
+fn stopped_jobs(rt: HostRuntime) {
     let row = Row {
         jobs: &[
             Job::fill(0x0101_0101_0101_0101, 4080, 40),
@@ -149,7 +149,7 @@ fn stopped_jobs(rt: HostRuntime) -> Result<(), Fail> {
         ],
         ..plain_row("stopped_jobs")
     };
-    expect(&rt, rt.alloc(), &row)
+    expect(&rt, rt.alloc(), &row);
 }
 
 /// A list and a batch that are refused, and leave the image as it was.
@@ -160,22 +160,22 @@ fn expect_too_many<R: Abort + Threads + Wait + Sync>(
     jobs: &[Job],
 ) {
     let list = engine.submit_list(rt, alloc, jobs).err();
-    assert_eq!(rt; list, Some(SubmitError::TooMany));
+    same(rt, list, Some(SubmitError::TooMany));
     let batch = engine.submit_batch(rt, alloc, jobs).err();
-    assert_eq!(rt; batch, Some(SubmitError::TooMany));
-    assert_eq!(rt; engine.image().byte(0), Some(7));
+    same(rt, batch, Some(SubmitError::TooMany));
+    same(rt, engine.image().byte(0), Some(7));
 }
 
 #[test]
-fn too_many_jobs(rt: HostRuntime) -> Result<(), Fail> {
+fn too_many_jobs(rt: HostRuntime) {
     let jobs = [Job::fill(1, 0, 8); 1025];
-    let mut engine = engine(rt.alloc()).ok_or("no memory")?;
-    engine.bring(0, &[7; 4096])?;
+    let mut engine = engine(rt.alloc()).expect(&rt, "no memory");
+    same(&rt, engine.bring(0, &[7; 4096]), Ok(()));
     expect_too_many(&rt, rt.alloc(), &mut engine, &jobs);
-    let records = engine.submit_list(&rt, rt.alloc(), &jobs[1..])?;
-    assert_eq!(rt; records.len(), 1024);
-    assert_eq!(rt; engine.image().byte(0), Some(1));
-    Ok(())
+    let records = engine.submit_list(&rt, rt.alloc(), &jobs[1..]);
+    let records = records.expect(&rt, "refused");
+    same(&rt, records.len(), 1024);
+    same(&rt, engine.image().byte(0), Some(1));
 }
 
 const MEBIBYTE: u32 = 1_048_576;
@@ -202,19 +202,19 @@ fn moves_of_a_mebibyte() -> [Job; 3] {
 /// The moves were carried out.
 fn expect_moved(rt: &impl Abort, engine: &Engine, records: &[Record]) {
     let want = [answer(Status::Success, 0, MEBIBYTE, 0); 3];
-    assert_eq!(rt; records, want.as_slice());
+    same(rt, records, want.as_slice());
     for page in 0..512 {
         let byte = engine.image().byte(4096 * (512 + page));
-        assert_eq!(rt; byte, Some((page % 256) as u8));
+        same(rt, byte, Some((page % 256) as u8));
     }
 }
 
 #[test]
-fn large_moves(rt: HostRuntime) -> Result<(), Fail> {
-    let mut engine = engine_of_numbers(rt.alloc()).ok_or("no memory")?;
-    let records = engine.submit_list(&rt, rt.alloc(), &moves_of_a_mebibyte())?;
+fn large_moves(rt: HostRuntime) {
+    let mut engine = engine_of_numbers(rt.alloc()).expect(&rt, "no memory");
+    let records = engine.submit_list(&rt, rt.alloc(), &moves_of_a_mebibyte());
+    let records = records.expect(&rt, "refused");
     expect_moved(&rt, &engine, &records);
-    Ok(())
 }
 
 /// An engine over two mebibytes full of 5, but for one page.
@@ -229,35 +229,31 @@ fn engine_of_fives(alloc: Global) -> Option<Engine> {
 }
 
 /// Compares of more than four mebibytes in all. Half of them meet a byte that differs.
-fn expect_compares<R: Abort + Threads + Wait + Sync>(
-    rt: &R,
-    alloc: Global,
-    engine: &mut Engine,
-) -> Result<(), SubmitError> {
+fn expect_compares<R: Abort + Threads + Wait + Sync>(rt: &R, alloc: Global, engine: &mut Engine) {
     let equal = Job::compare(0, 0, MEBIBYTE);
     let other = Job::compare(0, u64::from(MEBIBYTE), MEBIBYTE);
     let jobs = [equal, other, other, equal, equal, other, equal, other];
-    let records = engine.submit_list(rt, alloc, &jobs)?;
-    let same = answer(Status::Success, 0, MEBIBYTE, 0);
+    let records = engine.submit_list(rt, alloc, &jobs).expect(rt, "refused");
+    let alike = answer(Status::Success, 0, MEBIBYTE, 0);
     let differs = answer(Status::Success, 1, 44 * 4096, 0);
-    let want = [same, differs, differs, same, same, differs, same, differs];
-    assert_eq!(rt; records.as_slice(), want.as_slice());
-    Ok(())
+    let want = [
+        alike, differs, differs, alike, alike, differs, alike, differs,
+    ];
+    same(rt, records.as_slice(), want.as_slice());
 }
 
 /// They go to several workers without a gate that was given.
 #[test]
-fn large_compares(rt: HostRuntime) -> Result<(), Fail> {
-    let mut engine = engine_of_fives(rt.alloc()).ok_or("no memory")?;
+fn large_compares(rt: HostRuntime) {
+    let mut engine = engine_of_fives(rt.alloc()).expect(&rt, "no memory");
     for _ in 0..10 {
-        expect_compares(&rt, rt.alloc(), &mut engine)?;
+        expect_compares(&rt, rt.alloc(), &mut engine);
     }
-    Ok(())
 }
 
 /// Four jobs of three levels: a fill, a move of it, a fill elsewhere, and a move of that over the first.
 #[test]
-fn levels_of_four_jobs(rt: HostRuntime) -> Result<(), Fail> {
+fn levels_of_four_jobs(rt: HostRuntime) {
     let row = Row {
         jobs: &[
             Job::fill(1, 0, 8),
@@ -269,7 +265,7 @@ fn levels_of_four_jobs(rt: HostRuntime) -> Result<(), Fail> {
         left: &[(0, &[2, 0]), (64, &[1, 0]), (512, &[2, 0])],
         ..plain_row("levels_of_four_jobs")
     };
-    expect(&rt, rt.alloc(), &row)
+    expect(&rt, rt.alloc(), &row);
 }
 
 #[test]
@@ -279,6 +275,6 @@ fn texts_of_errors(rt: HostRuntime) {
         (SubmitError::NoMemory, "out of memory"),
     ] {
         let text = format!(in rt.alloc(); "{error}");
-        assert!(rt; text.is_ok_and(|text| text.as_str() == words));
+        holds(&rt, text.is_ok_and(|text| text.as_str() == words));
     }
 }

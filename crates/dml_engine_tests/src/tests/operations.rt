@@ -3,7 +3,6 @@
 use super::answer;
 use super::rows::{Row, delta_answer, expect, plain_row};
 use dml_types::{Job, Status};
-use std::test::Fail;
 
 /// The pokes of the rows of deltas.
 const FIRST: (u64, &[u8]) = (72, &[1, 2, 3, 4, 5, 6, 7, 8]);
@@ -13,7 +12,7 @@ const SECOND: (u64, &[u8]) = (88, &[0x11, 0x12, 0x13, 0x14, 0x15, 0x16, 0x17, 0x
 const THIRD: (u64, &[u8]) = (64, &[0xff]);
 
 #[test]
-fn fill_into_absent_page(rt: HostRuntime) -> Result<(), Fail> {
+fn fill_into_absent_page(rt: HostRuntime) {
     let row = Row {
         pages: 2,
         jobs: &[Job::fill(0x0807_0605_0403_0201, 4090, 12)],
@@ -22,11 +21,11 @@ fn fill_into_absent_page(rt: HostRuntime) -> Result<(), Fail> {
         left: &[(4088, &[0, 0, 1, 2, 3, 4, 5, 6])],
         ..plain_row("fill_into_absent_page")
     };
-    expect(&rt, rt.alloc(), &row)
+    expect(&rt, rt.alloc(), &row);
 }
 
 #[test]
-fn backward_move_into_absent_page(rt: HostRuntime) -> Result<(), Fail> {
+fn backward_move_into_absent_page(rt: HostRuntime) {
     let row = Row {
         pages: 2,
         bytes: &[(0, &[1, 2, 3, 4, 5])],
@@ -36,11 +35,11 @@ fn backward_move_into_absent_page(rt: HostRuntime) -> Result<(), Fail> {
         left: &[(0, &[1, 2, 3, 4, 5, 0, 0, 0])],
         ..plain_row("backward_move_into_absent_page")
     };
-    expect(&rt, rt.alloc(), &row)
+    expect(&rt, rt.alloc(), &row);
 }
 
 #[test]
-fn forward_move_over_itself(rt: HostRuntime) -> Result<(), Fail> {
+fn forward_move_over_itself(rt: HostRuntime) {
     let row = Row {
         bytes: &[
             (
@@ -64,11 +63,11 @@ fn forward_move_over_itself(rt: HostRuntime) -> Result<(), Fail> {
         ],
         ..plain_row("forward_move_over_itself")
     };
-    expect(&rt, rt.alloc(), &row)
+    expect(&rt, rt.alloc(), &row);
 }
 
 #[test]
-fn backward_move_stops_at_page_edge(rt: HostRuntime) -> Result<(), Fail> {
+fn backward_move_stops_at_page_edge(rt: HostRuntime) {
     let row = Row {
         pages: 3,
         present: &[0, 2],
@@ -79,11 +78,11 @@ fn backward_move_stops_at_page_edge(rt: HostRuntime) -> Result<(), Fail> {
         left: &[(8192, &[1, 2, 0, 0, 0, 0, 0, 0, 1, 2, 0, 0])],
         ..plain_row("backward_move_stops_at_page_edge")
     };
-    expect(&rt, rt.alloc(), &row)
+    expect(&rt, rt.alloc(), &row);
 }
 
 #[test]
-fn end_of_address_space(rt: HostRuntime) -> Result<(), Fail> {
+fn end_of_address_space(rt: HostRuntime) {
     let last = 0xffff_ffff_ffff_fff0;
     let row = Row {
         present: &[],
@@ -95,11 +94,11 @@ fn end_of_address_space(rt: HostRuntime) -> Result<(), Fail> {
         status: Status::BatchFailed,
         ..plain_row("end_of_address_space")
     };
-    expect(&rt, rt.alloc(), &row)
+    expect(&rt, rt.alloc(), &row);
 }
 
 #[test]
-fn dualcast_refusals(rt: HostRuntime) -> Result<(), Fail> {
+fn dualcast_refusals(rt: HostRuntime) {
     let row = Row {
         pages: 4,
         jobs: &[
@@ -115,11 +114,11 @@ fn dualcast_refusals(rt: HostRuntime) -> Result<(), Fail> {
         status: Status::BatchFailed,
         ..plain_row("dualcast_refusals")
     };
-    expect(&rt, rt.alloc(), &row)
+    expect(&rt, rt.alloc(), &row);
 }
 
 #[test]
-fn dualcast_write_fault(rt: HostRuntime) -> Result<(), Fail> {
+fn dualcast_write_fault(rt: HostRuntime) {
     let row = Row {
         pages: 4,
         present: &[0, 1, 3],
@@ -130,11 +129,11 @@ fn dualcast_write_fault(rt: HostRuntime) -> Result<(), Fail> {
         left: &[(8190, &[1, 2]), (16_382, &[1, 2])],
         ..plain_row("dualcast_write_fault")
     };
-    expect(&rt, rt.alloc(), &row)
+    expect(&rt, rt.alloc(), &row);
 }
 
 #[test]
-fn mismatch_before_fault(rt: HostRuntime) -> Result<(), Fail> {
+fn mismatch_before_fault(rt: HostRuntime) {
     let row = Row {
         pages: 4,
         present: &[0, 2],
@@ -143,11 +142,11 @@ fn mismatch_before_fault(rt: HostRuntime) -> Result<(), Fail> {
         records: &[answer(Status::Success, 1, 4095, 0)],
         ..plain_row("mismatch_before_fault")
     };
-    expect(&rt, rt.alloc(), &row)
+    expect(&rt, rt.alloc(), &row);
 }
 
 #[test]
-fn compare_stops_at_page_edge(rt: HostRuntime) -> Result<(), Fail> {
+fn compare_stops_at_page_edge(rt: HostRuntime) {
     let row = Row {
         pages: 4,
         present: &[0, 2, 3],
@@ -157,11 +156,11 @@ fn compare_stops_at_page_edge(rt: HostRuntime) -> Result<(), Fail> {
         status: Status::BatchFailed,
         ..plain_row("compare_stops_at_page_edge")
     };
-    expect(&rt, rt.alloc(), &row)
+    expect(&rt, rt.alloc(), &row);
 }
 
 #[test]
-fn pattern_expected(rt: HostRuntime) -> Result<(), Fail> {
+fn pattern_expected(rt: HostRuntime) {
     let pattern = 0x0807_0605_0403_0201;
     let row = Row {
         bytes: &[(0, &[1, 2, 3, 4, 5, 6, 7, 8, 1, 2, 3])],
@@ -176,11 +175,11 @@ fn pattern_expected(rt: HostRuntime) -> Result<(), Fail> {
         status: Status::BatchFailed,
         ..plain_row("pattern_expected")
     };
-    expect(&rt, rt.alloc(), &row)
+    expect(&rt, rt.alloc(), &row);
 }
 
 #[test]
-fn expected_results(rt: HostRuntime) -> Result<(), Fail> {
+fn expected_results(rt: HostRuntime) {
     let row = Row {
         bytes: &[(64, &[0xff]), (72, &[0xff])],
         jobs: &[
@@ -198,11 +197,11 @@ fn expected_results(rt: HostRuntime) -> Result<(), Fail> {
         status: Status::BatchFailed,
         ..plain_row("expected_results")
     };
-    expect(&rt, rt.alloc(), &row)
+    expect(&rt, rt.alloc(), &row);
 }
 
 #[test]
-fn delta_record_and_overflow(rt: HostRuntime) -> Result<(), Fail> {
+fn delta_record_and_overflow(rt: HostRuntime) {
     let record = Row {
         bytes: &[FIRST, SECOND],
         jobs: &[Job::create_delta(0, 64, 32, 128, 20)],
@@ -213,7 +212,7 @@ fn delta_record_and_overflow(rt: HostRuntime) -> Result<(), Fail> {
         ],
         ..plain_row("delta_record")
     };
-    expect(&rt, rt.alloc(), &record)?;
+    expect(&rt, rt.alloc(), &record);
     let overflow = Row {
         name: "delta_overflow",
         bytes: &[FIRST, SECOND, THIRD],
@@ -224,11 +223,11 @@ fn delta_record_and_overflow(rt: HostRuntime) -> Result<(), Fail> {
         ],
         ..record
     };
-    expect(&rt, rt.alloc(), &overflow)
+    expect(&rt, rt.alloc(), &overflow);
 }
 
 #[test]
-fn overflow_before_write_fault(rt: HostRuntime) -> Result<(), Fail> {
+fn overflow_before_write_fault(rt: HostRuntime) {
     let row = Row {
         pages: 2,
         bytes: &[FIRST, SECOND, THIRD],
@@ -245,11 +244,11 @@ fn overflow_before_write_fault(rt: HostRuntime) -> Result<(), Fail> {
         status: Status::BatchFailed,
         ..plain_row("overflow_before_write_fault")
     };
-    expect(&rt, rt.alloc(), &row)
+    expect(&rt, rt.alloc(), &row);
 }
 
 #[test]
-fn delta_stops_at_absent_source(rt: HostRuntime) -> Result<(), Fail> {
+fn delta_stops_at_absent_source(rt: HostRuntime) {
     let row = Row {
         pages: 2,
         bytes: &[(4056, &[1]), (4072, &[2]), (4088, &[3])],
@@ -270,11 +269,11 @@ fn delta_stops_at_absent_source(rt: HostRuntime) -> Result<(), Fail> {
         ],
         ..plain_row("delta_stops_at_absent_source")
     };
-    expect(&rt, rt.alloc(), &row)
+    expect(&rt, rt.alloc(), &row);
 }
 
 #[test]
-fn apply_not_rising(rt: HostRuntime) -> Result<(), Fail> {
+fn apply_not_rising(rt: HostRuntime) {
     let row = Row {
         bytes: &[
             (2, &[0x11; 8]),
@@ -294,11 +293,11 @@ fn apply_not_rising(rt: HostRuntime) -> Result<(), Fail> {
         ],
         ..plain_row("apply_not_rising")
     };
-    expect(&rt, rt.alloc(), &row)
+    expect(&rt, rt.alloc(), &row);
 }
 
 #[test]
-fn apply_offset_range(rt: HostRuntime) -> Result<(), Fail> {
+fn apply_offset_range(rt: HostRuntime) {
     let row = Row {
         pages: 129,
         present: &[0, 128],
@@ -320,11 +319,11 @@ fn apply_offset_range(rt: HostRuntime) -> Result<(), Fail> {
         left: &[(528_376, &[0xaa; 8])],
         ..plain_row("apply_offset_range")
     };
-    expect(&rt, rt.alloc(), &row)
+    expect(&rt, rt.alloc(), &row);
 }
 
 #[test]
-fn empty_ranges(rt: HostRuntime) -> Result<(), Fail> {
+fn empty_ranges(rt: HostRuntime) {
     let row = Row {
         jobs: &[
             Job::apply_delta(0, 10, 256, 0),
@@ -339,11 +338,11 @@ fn empty_ranges(rt: HostRuntime) -> Result<(), Fail> {
         status: Status::BatchFailed,
         ..plain_row("empty_ranges")
     };
-    expect(&rt, rt.alloc(), &row)
+    expect(&rt, rt.alloc(), &row);
 }
 
 #[test]
-fn not_rising_before_fault(rt: HostRuntime) -> Result<(), Fail> {
+fn not_rising_before_fault(rt: HostRuntime) {
     let row = Row {
         pages: 3,
         present: &[0, 2],
@@ -359,5 +358,5 @@ fn not_rising_before_fault(rt: HostRuntime) -> Result<(), Fail> {
         left: &[(8192, &[0xaa; 8])],
         ..plain_row("not_rising_before_fault")
     };
-    expect(&rt, rt.alloc(), &row)
+    expect(&rt, rt.alloc(), &row);
 }

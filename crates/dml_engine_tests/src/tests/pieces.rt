@@ -1,14 +1,14 @@
 //! Lists and batches over memory that a caller lends in one piece.
 
+use super::claims::{holds, same};
 use super::rows::delta_answer;
 use super::{USUAL, answer};
 use dml_effect::are_whole_pages;
 use dml_engine::{RunError, run_batch_over, run_list_over};
 use dml_types::{Job, Record, Settings, Status};
-use std::alloc::{AllocError, Global};
+use std::alloc::Global;
 use std::process::Abort;
 use std::sync::Wait;
-use std::test::Fail;
 use std::thread::Threads;
 
 /// More pages than an image has of its own, of 0.
@@ -74,44 +74,40 @@ fn expect_content(rt: &impl Abort, content: &[u8], left: &[(u64, &[u8])]) {
     }
 }
 
+/// Pages of 0.
+fn far_content(rt: &impl Abort, alloc: Global) -> Vec<u8> {
+    vec![in alloc; 0; 4096 * PAGES].expect(rt, "no memory")
+}
+
 /// A list on pages that no image has of its own.
-fn expect_far_list<R: Abort + Threads + Wait + Sync>(
-    rt: &R,
-    alloc: Global,
-    settings: Settings,
-) -> Result<(), Fail> {
-    let mut content = vec![in alloc; 0; 4096 * PAGES]?;
+fn expect_far_list<R: Abort + Threads + Wait + Sync>(rt: &R, alloc: Global, settings: Settings) {
+    let mut content = far_content(rt, alloc);
     assert!(rt; are_whole_pages(&content));
-    let records = run_list_over(rt, alloc, &mut content, settings, &far_jobs())?;
-    assert_eq!(rt; records.as_slice(), far_records().as_slice());
+    let records = run_list_over(rt, alloc, &mut content, settings, &far_jobs());
+    let records = records.expect(rt, "refused");
+    same(rt, records.as_slice(), far_records().as_slice());
     expect_content(rt, &content, &LEFT);
-    Ok(())
 }
 
 /// The same of a batch.
-fn expect_far_batch<R: Abort + Threads + Wait + Sync>(
-    rt: &R,
-    alloc: Global,
-    settings: Settings,
-) -> Result<(), Fail> {
-    let mut content = vec![in alloc; 0; 4096 * PAGES]?;
+fn expect_far_batch<R: Abort + Threads + Wait + Sync>(rt: &R, alloc: Global, settings: Settings) {
+    let mut content = far_content(rt, alloc);
     assert!(rt; are_whole_pages(&content));
-    let (own, records) = run_batch_over(rt, alloc, &mut content, settings, &far_jobs())?;
-    assert_eq!(rt; (own.status, own.completed), (Status::BatchFailed, 6));
-    assert_eq!(rt; records.as_slice(), far_records().as_slice());
+    let batch = run_batch_over(rt, alloc, &mut content, settings, &far_jobs());
+    let (own, records) = batch.expect(rt, "refused");
+    same(rt, (own.status, own.completed), (Status::BatchFailed, 6));
+    same(rt, records.as_slice(), far_records().as_slice());
     expect_content(rt, &content, &LEFT);
-    Ok(())
 }
 
 /// With 1, 2 and 16 workers: all alike.
 #[test]
-fn pages_beyond_own_ones(rt: HostRuntime) -> Result<(), Fail> {
+fn pages_beyond_own_ones(rt: HostRuntime) {
     for workers in [1, 2, 16] {
         let settings = Settings { workers, ..USUAL };
-        expect_far_list(&rt, rt.alloc(), settings)?;
-        expect_far_batch(&rt, rt.alloc(), settings)?;
+        expect_far_list(&rt, rt.alloc(), settings);
+        expect_far_batch(&rt, rt.alloc(), settings);
     }
-    Ok(())
 }
 
 /// The bytes of a mebibyte.
@@ -141,12 +137,12 @@ fn shared_jobs() -> [Job; 7] {
 }
 
 /// Eight mebibytes, the first of them full of sevens.
-fn shared_content(alloc: Global) -> Result<Vec<u8>, AllocError> {
-    let mut content = vec![in alloc; 0; 8 * MIB]?;
+fn shared_content(rt: &impl Abort, alloc: Global) -> Vec<u8> {
+    let mut content = vec![in alloc; 0; 8 * MIB].expect(rt, "no memory");
     for byte in content.iter_mut().take(MIB) {
         *byte = 7;
     }
-    Ok(content)
+    content
 }
 
 /// These mebibytes are full of sevens, and the others of zeros.
@@ -160,90 +156,92 @@ fn expect_sevens(rt: &impl Abort, content: &[u8], full: &[usize]) {
 /// All of the jobs were done.
 fn expect_shared(rt: &impl Abort, content: &[u8], records: &[Record]) {
     let want = [answer(Status::Success, 0, 1_048_576, 0); 7];
-    assert_eq!(rt; records, want.as_slice());
+    same(rt, records, want.as_slice());
     expect_sevens(rt, content, &[0, 4, 5]);
 }
 
 /// A list of work enough for several workers.
-fn expect_shared_list<R: Abort + Threads + Wait + Sync>(
-    rt: &R,
-    alloc: Global,
-    workers: u32,
-) -> Result<(), Fail> {
-    let mut content = shared_content(alloc)?;
+fn expect_shared_list<R: Abort + Threads + Wait + Sync>(rt: &R, alloc: Global, workers: u32) {
+    let mut content = shared_content(rt, alloc);
     let settings = Settings { workers, ..SHARED };
     assert!(rt; are_whole_pages(&content));
-    let records = run_list_over(rt, alloc, &mut content, settings, &shared_jobs())?;
+    let records = run_list_over(rt, alloc, &mut content, settings, &shared_jobs());
+    let records = records.expect(rt, "refused");
     expect_shared(rt, &content, &records);
-    Ok(())
 }
 
 /// With 1, 2 and 16 workers: all alike. How many of them are started is counted beside the tests.
 #[test]
-fn list_on_workers_over_one_piece(rt: HostRuntime) -> Result<(), Fail> {
+fn list_on_workers_over_one_piece(rt: HostRuntime) {
     for workers in [1, 2, 16] {
-        expect_shared_list(&rt, rt.alloc(), workers)?;
+        expect_shared_list(&rt, rt.alloc(), workers);
     }
-    Ok(())
 }
 
 /// A batch of work enough for several workers.
-fn expect_shared_batch<R: Abort + Threads + Wait + Sync>(
-    rt: &R,
-    alloc: Global,
-    workers: u32,
-) -> Result<(), Fail> {
-    let mut content = shared_content(alloc)?;
+fn expect_shared_batch<R: Abort + Threads + Wait + Sync>(rt: &R, alloc: Global, workers: u32) {
+    let mut content = shared_content(rt, alloc);
     let settings = Settings { workers, ..SHARED };
     assert!(rt; are_whole_pages(&content));
-    let (own, records) = run_batch_over(rt, alloc, &mut content, settings, &shared_jobs())?;
-    assert_eq!(rt; (own.status, own.completed), (Status::Success, 7));
+    let batch = run_batch_over(rt, alloc, &mut content, settings, &shared_jobs());
+    let (own, records) = batch.expect(rt, "refused");
+    same(rt, (own.status, own.completed), (Status::Success, 7));
     expect_shared(rt, &content, &records);
-    Ok(())
 }
 
 /// With 1, 2 and 16 workers: all alike. How many of them are started is counted beside the tests.
 #[test]
-fn batch_on_workers_over_one_piece(rt: HostRuntime) -> Result<(), Fail> {
+fn batch_on_workers_over_one_piece(rt: HostRuntime) {
     for workers in [1, 2, 16] {
-        expect_shared_batch(&rt, rt.alloc(), workers)?;
+        expect_shared_batch(&rt, rt.alloc(), workers);
     }
-    Ok(())
+}
+
+/// A list and a batch over a piece are refused so, and leave it as it was.
+fn expect_refusal<R: Abort + Threads + Wait + Sync>(
+    rt: &R,
+    alloc: Global,
+    settings: Settings,
+    jobs: &[Job],
+    error: RunError,
+) {
+    let mut content = [0; 8192];
+    assert!(rt; are_whole_pages(&content));
+    let list = run_list_over(rt, alloc, &mut content, settings, jobs);
+    same(rt, list.err(), Some(error));
+    assert!(rt; are_whole_pages(&content));
+    let batch = run_batch_over(rt, alloc, &mut content, settings, jobs);
+    same(rt, batch.err(), Some(error));
+    same(rt, content[0], 0);
 }
 
 /// Nothing is carried out where the settings, or else the number of jobs, are out of their limits.
 #[test]
-fn refusals_over_one_piece(rt: HostRuntime) -> Result<(), Fail> {
-    let mut content = [0; 8192];
+fn refusals_over_one_piece(rt: HostRuntime) {
     let bad = Settings { chunk: 12, ..USUAL };
     let fill = [Job::fill(1, 0, 8)];
     let many = [Job::fill(1, 0, 8); 1025];
-    for (settings, jobs, error) in [
-        (bad, fill.as_slice(), RunError::BadSettings),
-        (bad, many.as_slice(), RunError::BadSettings),
-        (USUAL, many.as_slice(), RunError::TooMany),
-    ] {
-        assert!(rt; are_whole_pages(&content));
-        let list = run_list_over(&rt, rt.alloc(), &mut content, settings, jobs);
-        assert!(rt; list.is_err_and(|answer| answer == error));
-        assert!(rt; are_whole_pages(&content));
-        let batch = run_batch_over(&rt, rt.alloc(), &mut content, settings, jobs);
-        assert!(rt; batch.is_err_and(|answer| answer == error));
-        assert_eq!(rt; content[0], 0);
-    }
+    expect_refusal(&rt, rt.alloc(), bad, &fill, RunError::BadSettings);
+    expect_refusal(&rt, rt.alloc(), bad, &many, RunError::BadSettings);
+    expect_refusal(&rt, rt.alloc(), USUAL, &many, RunError::TooMany);
     for (error, text) in [
         (RunError::BadSettings, "the settings are out of range"),
         (RunError::TooMany, "too many jobs"),
         (RunError::NoMemory, "out of memory"),
     ] {
-        assert_eq!(rt; format!(in rt.alloc(); "{error}")?.as_str(), text);
+        expect_text(&rt, rt.alloc(), error, text);
     }
-    Ok(())
+}
+
+/// An error has this text.
+fn expect_text(rt: &impl Abort, alloc: Global, error: RunError, text: &str) {
+    let shown = format!(in alloc; "{error}").expect(rt, "no memory");
+    same(rt, shown.as_str(), text);
 }
 
 /// The right records, or want of memory with nothing changed.
 #[test]
-fn refused_run_list_over(rt: HostRuntime) -> Result<(), Fail> {
+fn refused_run_list_over(rt: HostRuntime) {
     let mut content = [0; 8192];
     let jobs = [Job::fill(1, 0, 16), Job::move_bytes(0, 4090, 12)];
     match run_list_over(&rt, rt.alloc(), &mut content, USUAL, &jobs) {
@@ -252,20 +250,19 @@ fn refused_run_list_over(rt: HostRuntime) -> Result<(), Fail> {
                 answer(Status::Success, 0, 16, 0),
                 answer(Status::Success, 0, 12, 0),
             ];
-            assert_eq!(rt; records.as_slice(), want.as_slice());
-            assert_eq!(rt; (content[8], content[4098]), (1, 1));
+            same(&rt, records.as_slice(), want.as_slice());
+            same(&rt, (content[8], content[4098]), (1, 1));
         }
         Err(error) => {
-            assert_eq!(rt; error, RunError::NoMemory);
-            assert_eq!(rt; content, [0; 8192]);
+            same(&rt, error, RunError::NoMemory);
+            same(&rt, content, [0; 8192]);
         }
     }
-    Ok(())
 }
 
 /// The right records, or want of memory with nothing changed.
 #[test]
-fn refused_run_batch_over(rt: HostRuntime) -> Result<(), Fail> {
+fn refused_run_batch_over(rt: HostRuntime) {
     let mut content = [0; 8192];
     let jobs = [
         Job::fill(1, 0, 16),
@@ -279,55 +276,51 @@ fn refused_run_batch_over(rt: HostRuntime) -> Result<(), Fail> {
                 answer(Status::WriteFault, 0, 2, 8192),
                 answer(Status::Abandoned, 0, 0, 0),
             ];
-            assert_eq!(rt; (own.status, own.completed), (Status::BatchFailed, 2));
-            assert_eq!(rt; records.as_slice(), want.as_slice());
-            assert_eq!(rt; (content[8], content[4098]), (1, 0));
+            same(&rt, (own.status, own.completed), (Status::BatchFailed, 2));
+            same(&rt, records.as_slice(), want.as_slice());
+            same(&rt, (content[8], content[4098]), (1, 0));
         }
         Err(error) => {
-            assert_eq!(rt; error, RunError::NoMemory);
-            assert_eq!(rt; content, [0; 8192]);
+            same(&rt, error, RunError::NoMemory);
+            same(&rt, content, [0; 8192]);
         }
     }
-    Ok(())
 }
 
 /// What the calls on workers do before.
 #[test]
-fn set_up_of_run_list_over_on_workers(rt: HostRuntime) -> Result<(), Fail> {
-    let content = shared_content(rt.alloc())?;
+fn set_up_of_run_list_over_on_workers(rt: HostRuntime) {
+    let content = shared_content(&rt, rt.alloc());
     expect_sevens(&rt, &content, &[0]);
-    Ok(())
 }
 
 /// Nothing was done for want of memory.
 fn expect_refused(rt: &impl Abort, content: &[u8], error: RunError) {
-    assert_eq!(rt; error, RunError::NoMemory);
+    same(rt, error, RunError::NoMemory);
     expect_sevens(rt, content, &[0]);
 }
 
 /// The right records, with workers or without, or want of memory with nothing changed.
 #[test]
-fn refused_run_list_over_on_workers(rt: HostRuntime) -> Result<(), Fail> {
-    let mut content = shared_content(rt.alloc())?;
+fn refused_run_list_over_on_workers(rt: HostRuntime) {
+    let mut content = shared_content(&rt, rt.alloc());
     assert!(rt; are_whole_pages(&content));
     match run_list_over(&rt, rt.alloc(), &mut content, SHARED, &shared_jobs()) {
         Ok(records) => expect_shared(&rt, &content, &records),
         Err(error) => expect_refused(&rt, &content, error),
     }
-    Ok(())
 }
 
 /// The right records, with workers or without, or want of memory with nothing changed.
 #[test]
-fn refused_run_batch_over_on_workers(rt: HostRuntime) -> Result<(), Fail> {
-    let mut content = shared_content(rt.alloc())?;
+fn refused_run_batch_over_on_workers(rt: HostRuntime) {
+    let mut content = shared_content(&rt, rt.alloc());
     assert!(rt; are_whole_pages(&content));
     match run_batch_over(&rt, rt.alloc(), &mut content, SHARED, &shared_jobs()) {
         Ok((own, records)) => {
-            assert_eq!(rt; (own.status, own.completed), (Status::Success, 7));
+            same(&rt, (own.status, own.completed), (Status::Success, 7));
             expect_shared(&rt, &content, &records);
         }
         Err(error) => expect_refused(&rt, &content, error),
     }
-    Ok(())
 }

@@ -1,6 +1,7 @@
 //! Jobs that a page fault stops: submitted, the page brought, and the rest submitted, at many settings with the same
 //! answers. Beside each goes the whole job with the page there from the start. The expected values are the profile's.
 
+use super::claims::{same, same_for};
 use super::rows::{expect_bytes, settings, with_given};
 use super::{USUAL, answer, engine_with, expect_at, full_image, page_of};
 use dml_desc::rest;
@@ -10,7 +11,6 @@ use dml_types::{Job, Record, Settings, Status};
 use std::alloc::Global;
 use std::process::Abort;
 use std::sync::Wait;
-use std::test::Fail;
 use std::thread::Threads;
 
 /// A job that a page fault stops, and what is left of it once the page is there.
@@ -45,21 +45,22 @@ fn engine_of(
     Engine::new(alloc, image, settings).ok()
 }
 
+/// Brings the row's page.
+fn bring(rt: &impl Abort, row: &Row, engine: &mut Engine) {
+    let (page, opening) = row.brought;
+    let brought = engine.bring(page, &page_of(opening));
+    brought.expect(rt, "not brought");
+}
+
 /// Submits the row's job, brings the page, and submits the rest.
-fn go_on<R: Abort + Threads + Wait + Sync>(
-    rt: &R,
-    alloc: Global,
-    row: &Row,
-    engine: &mut Engine,
-) -> Option<()> {
+fn go_on<R: Abort + Threads + Wait + Sync>(rt: &R, alloc: Global, row: &Row, engine: &mut Engine) {
     let stopped = engine.submit(rt, alloc, row.job);
-    assert_eq!(rt; stopped, row.stopped, "{:?}", row.job);
+    same_for(rt, row.job, stopped, row.stopped);
     let left = rest(&row.job, &stopped);
-    assert_eq!(rt; left, Some(row.left), "{:?}", row.job);
-    engine.bring(row.brought.0, &page_of(row.brought.1)).ok()?;
+    same_for(rt, row.job, left, Some(row.left));
+    bring(rt, row, engine);
     let resumed = engine.submit(rt, alloc, row.left);
-    assert_eq!(rt; resumed, row.resumed, "{:?}", row.left);
-    Some(())
+    same_for(rt, row.left, resumed, row.resumed);
 }
 
 /// Brings the page first, and submits the whole job.
@@ -68,11 +69,10 @@ fn go_at_once<R: Abort + Threads + Wait + Sync>(
     alloc: Global,
     row: &Row,
     engine: &mut Engine,
-) -> Option<()> {
-    engine.bring(row.brought.0, &page_of(row.brought.1)).ok()?;
+) {
+    bring(rt, row, engine);
     let whole = engine.submit(rt, alloc, row.job);
-    assert_eq!(rt; whole, row.whole, "{:?}", row.job);
-    Some(())
+    same_for(rt, row.job, whole, row.whole);
 }
 
 /// Both images are the same, and the row's bytes stand there.
@@ -96,27 +96,27 @@ fn expect_with<R: Abort + Threads + Wait + Sync>(
     row: &Row,
     settings: Settings,
     given: bool,
-) -> Option<()> {
-    let mut parts = with_given(engine_of(alloc, row.pages, row.present, settings)?, given);
-    let mut whole = with_given(engine_of(alloc, row.pages, row.present, settings)?, given);
+) {
+    let parts = engine_of(alloc, row.pages, row.present, settings);
+    let mut parts = with_given(parts.expect(rt, "no memory"), given);
+    let whole = engine_of(alloc, row.pages, row.present, settings);
+    let mut whole = with_given(whole.expect(rt, "no memory"), given);
     cite_law(&parts, row);
-    go_on(rt, alloc, row, &mut parts)?;
-    go_at_once(rt, alloc, row, &mut whole)?;
+    go_on(rt, alloc, row, &mut parts);
+    go_at_once(rt, alloc, row, &mut whole);
     expect_left(rt, row, parts.image(), whole.image());
-    Some(())
 }
 
 /// Expects a row's answers at all settings, with the engine's own gate and with one given.
-fn expect<R: Abort + Threads + Wait + Sync>(rt: &R, alloc: Global, row: &Row) -> Result<(), Fail> {
+fn expect<R: Abort + Threads + Wait + Sync>(rt: &R, alloc: Global, row: &Row) {
     for settings in settings(USUAL.staging) {
-        expect_with(rt, alloc, row, settings, false).ok_or("no memory")?;
-        expect_with(rt, alloc, row, settings, true).ok_or("no memory")?;
+        expect_with(rt, alloc, row, settings, false);
+        expect_with(rt, alloc, row, settings, true);
     }
-    Ok(())
 }
 
 #[test]
-fn resume_a_fill(rt: HostRuntime) -> Result<(), Fail> {
+fn resume_a_fill(rt: HostRuntime) {
     let row = Row {
         pages: 2,
         present: &[(0, &[])],
@@ -128,11 +128,11 @@ fn resume_a_fill(rt: HostRuntime) -> Result<(), Fail> {
         whole: answer(Status::Success, 0, 9, 0),
         shown: (4091, &[1, 2, 3, 4, 5, 6, 7, 8, 1, 0]),
     };
-    expect(&rt, rt.alloc(), &row)
+    expect(&rt, rt.alloc(), &row);
 }
 
 #[test]
-fn resume_a_compare(rt: HostRuntime) -> Result<(), Fail> {
+fn resume_a_compare(rt: HostRuntime) {
     let row = Row {
         pages: 2,
         present: &[(0, &[])],
@@ -144,11 +144,11 @@ fn resume_a_compare(rt: HostRuntime) -> Result<(), Fail> {
         whole: answer(Status::Success, 1, 5, 0),
         shown: (4096, &[0, 7]),
     };
-    expect(&rt, rt.alloc(), &row)
+    expect(&rt, rt.alloc(), &row);
 }
 
 #[test]
-fn resume_a_backward_move(rt: HostRuntime) -> Result<(), Fail> {
+fn resume_a_backward_move(rt: HostRuntime) {
     let row = Row {
         pages: 3,
         present: &[(0, &[]), (2, &[1, 2])],
@@ -160,12 +160,12 @@ fn resume_a_backward_move(rt: HostRuntime) -> Result<(), Fail> {
         whole: answer(Status::Success, 1, 12_272, 0),
         shown: (8192, &[0, 0, 0, 0, 0, 0, 0, 0, 1, 2]),
     };
-    expect(&rt, rt.alloc(), &row)
+    expect(&rt, rt.alloc(), &row);
 }
 
 /// What is left of a backward move keeps its addresses, and what is left of a forward one goes on.
 #[test]
-fn rest_of_moves(rt: HostRuntime) -> Result<(), Fail> {
+fn rest_of_moves(rt: HostRuntime) {
     let backward = Row {
         pages: 4,
         present: &[(0, &[1, 2, 3]), (1, &[]), (3, &[])],
@@ -177,7 +177,7 @@ fn rest_of_moves(rt: HostRuntime) -> Result<(), Fail> {
         whole: answer(Status::Success, 1, 8192, 0),
         shown: (4100, &[1, 2, 3, 0]),
     };
-    expect(&rt, rt.alloc(), &backward)?;
+    expect(&rt, rt.alloc(), &backward);
     let forward = Row {
         pages: 2,
         present: &[(0, &[])],
@@ -189,7 +189,7 @@ fn rest_of_moves(rt: HostRuntime) -> Result<(), Fail> {
         whole: answer(Status::Success, 0, 50, 0),
         shown: (8, &[4, 5, 0]),
     };
-    expect(&rt, rt.alloc(), &forward)
+    expect(&rt, rt.alloc(), &forward);
 }
 
 /// Nothing is left of a create, whose differing blocks are no more known, nor of a job that was done or refused.
@@ -224,18 +224,17 @@ fn expect_rest<R: Abort + Threads + Wait + Sync>(
     left: Option<Job>,
 ) {
     let answer = engine.submit(rt, alloc, job);
-    assert_eq!(rt; (answer, rest(&job, &answer)), (want, left), "{job:?}");
+    same_for(rt, job, (answer, rest(&job, &answer)), (want, left));
 }
 
 #[test]
-fn nothing_is_left(rt: HostRuntime) -> Result<(), Fail> {
+fn nothing_is_left(rt: HostRuntime) {
     for settings in settings(USUAL.staging) {
-        let mut engine = engine_with(rt.alloc(), 2, settings).ok_or("no memory")?;
+        let mut engine = engine_with(rt.alloc(), 2, settings).expect(&rt, "no memory");
         for (job, want) in table_of_nothing_left() {
             expect_rest(&rt, rt.alloc(), &mut engine, job, want, None);
         }
     }
-    Ok(())
 }
 
 /// Jobs on an image of 4,096 pages that are all absent, and whether the whole job is left of each.
@@ -266,19 +265,24 @@ fn expect_absent<R: Abort + Threads + Wait + Sync>(rt: &R, alloc: Global, engine
         expect_rest(rt, alloc, engine, job, want, goes_on.then_some(job));
     }
     for addr in [0, 1, 16_777_215] {
-        assert_eq!(rt; engine.image().byte(addr), None);
+        same(rt, engine.image().byte(addr), None);
     }
 }
 
 #[test]
-fn every_page_absent(rt: HostRuntime) -> Result<(), Fail> {
+fn every_page_absent(rt: HostRuntime) {
     for settings in settings(USUAL.staging) {
         for given in [false, true] {
-            let engine = engine_of(rt.alloc(), 4096, &[], settings).ok_or("no memory")?;
+            let engine = engine_of(rt.alloc(), 4096, &[], settings).expect(&rt, "no memory");
             expect_absent(&rt, rt.alloc(), &mut with_given(engine, given));
         }
     }
-    Ok(())
+}
+
+/// Brings the page of an address, full of `Z`.
+fn bring_at(rt: &impl Abort, engine: &mut Engine, addr: u64) {
+    let page = u32::try_from(addr / 4096).expect(rt, "no such page");
+    engine.bring(page, &[0x5a; 4096]).expect(rt, "not brought");
 }
 
 /// Submits a job, and brings the page of its fault, full of `Z`. Answers what is left.
@@ -288,15 +292,14 @@ fn next_part<R: Abort + Threads + Wait + Sync>(
     engine: &mut Engine,
     now: Job,
     want: &Record,
-) -> Result<Option<Job>, Fail> {
+) -> Option<Job> {
     let answer = engine.submit(rt, alloc, now);
-    assert_eq!(rt; answer, *want, "{now:?}");
+    same_for(rt, now, answer, *want);
     let left = rest(&now, &answer);
     if left.is_some() {
-        let page = u32::try_from(answer.fault / 4096).ok();
-        engine.bring(page.ok_or("no such page")?, &[0x5a; 4096])?;
+        bring_at(rt, engine, answer.fault);
     }
-    Ok(left)
+    left
 }
 
 /// Submits a job on four absent pages, and then what is left of it, each time with the page of the fault brought.
@@ -307,16 +310,16 @@ fn on_demand<R: Abort + Threads + Wait + Sync>(
     engine: &mut Engine,
     job: Job,
     records: &[Record],
-) -> Result<u64, Fail> {
+) -> u64 {
     let mut next = Some(job);
     let mut done = 0_u64;
     for want in records {
-        let now = next.ok_or("nothing is left")?;
-        next = next_part(rt, alloc, engine, now, want)?;
+        let now = next.expect(rt, "nothing is left");
+        next = next_part(rt, alloc, engine, now, want);
         done = done.saturating_add(u64::from(want.completed));
     }
-    assert_eq!(rt; next, None, "{job:?}");
-    Ok(done)
+    same_for(rt, job, next, None);
+    done
 }
 
 /// Carries out the whole job on the engine that has all pages: its record is that of the last part, but for the bytes
@@ -330,12 +333,12 @@ fn expect_whole<R: Abort + Threads + Wait + Sync>(
     done: u64,
 ) {
     let answer = whole.submit(rt, alloc, job);
-    assert_eq!(rt; done, u64::from(answer.completed), "{job:?}");
+    same_for(rt, job, done, u64::from(answer.completed));
     let want = Record {
         completed: job.size,
         ..*last
     };
-    assert_eq!(rt; answer, want, "{job:?}");
+    same_for(rt, job, answer, want);
 }
 
 /// Both leave the same bytes, and no page that was not brought is touched.
@@ -355,12 +358,11 @@ fn expect_parts<R: Abort + Threads + Wait + Sync>(
     whole: &mut Engine,
     job: Job,
     records: &[Record],
-) -> Result<(), Fail> {
-    let done = on_demand(rt, alloc, parts, job, records)?;
-    let last = records.last().ok_or("no record")?;
+) {
+    let done = on_demand(rt, alloc, parts, job, records);
+    let last = records.last().expect(rt, "no record");
     expect_whole(rt, alloc, whole, job, last, done);
     expect_same(rt, parts.image(), whole.image());
-    Ok(())
 }
 
 /// An engine with four pages, all absent or all full of `Z`.
@@ -383,12 +385,11 @@ fn expect_on_demand_with<R: Abort + Threads + Wait + Sync>(
     shown: &[(u64, u8)],
     settings: Settings,
     given: bool,
-) -> Result<(), Fail> {
-    let mut parts = engine_of_four(alloc, settings, false, given).ok_or("no memory")?;
-    let mut whole = engine_of_four(alloc, settings, true, given).ok_or("no memory")?;
-    expect_parts(rt, alloc, &mut parts, &mut whole, job, records)?;
+) {
+    let mut parts = engine_of_four(alloc, settings, false, given).expect(rt, "no memory");
+    let mut whole = engine_of_four(alloc, settings, true, given).expect(rt, "no memory");
+    expect_parts(rt, alloc, &mut parts, &mut whole, job, records);
     expect_at(rt, &parts, shown);
-    Ok(())
 }
 
 /// The same at all settings, with the engine's own gate and with one given.
@@ -398,13 +399,12 @@ fn expect_on_demand<R: Abort + Threads + Wait + Sync>(
     job: Job,
     records: &[Record],
     shown: &[(u64, u8)],
-) -> Result<(), Fail> {
+) {
     for settings in settings(USUAL.staging) {
         for given in [false, true] {
-            expect_on_demand_with(rt, alloc, job, records, shown, settings, given)?;
+            expect_on_demand_with(rt, alloc, job, records, shown, settings, given);
         }
     }
-    Ok(())
 }
 
 /// A read fault, and the record of a job that is done.
@@ -421,7 +421,7 @@ fn ends(completed: u32) -> Record {
 }
 
 #[test]
-fn pages_of_a_fill_on_demand(rt: HostRuntime) -> Result<(), Fail> {
+fn pages_of_a_fill_on_demand(rt: HostRuntime) {
     let job = Job::fill(0x0807_0605_0403_0201, 4090, 4200);
     let records = [
         writes(0, 4090),
@@ -439,11 +439,11 @@ fn pages_of_a_fill_on_demand(rt: HostRuntime) -> Result<(), Fail> {
         (8289, 8),
         (8290, 0x5a),
     ];
-    expect_on_demand(&rt, rt.alloc(), job, &records, &shown)
+    expect_on_demand(&rt, rt.alloc(), job, &records, &shown);
 }
 
 #[test]
-fn pages_of_moves_on_demand(rt: HostRuntime) -> Result<(), Fail> {
+fn pages_of_moves_on_demand(rt: HostRuntime) {
     let forward = [
         reads(0, 0),
         writes(0, 8192),
@@ -457,7 +457,7 @@ fn pages_of_moves_on_demand(rt: HostRuntime) -> Result<(), Fail> {
         Job::move_bytes(0, 8192, 8192),
         &forward,
         &[(8192, 0x5a), (16_383, 0x5a)],
-    )?;
+    );
     let backward = [
         answer(Status::ReadFault, 1, 0, 8191),
         answer(Status::WriteFault, 1, 0, 8195),
@@ -470,11 +470,11 @@ fn pages_of_moves_on_demand(rt: HostRuntime) -> Result<(), Fail> {
         Job::move_bytes(0, 4, 8192),
         &backward,
         &[(0, 0x5a), (8195, 0x5a)],
-    )
+    );
 }
 
 #[test]
-fn pages_of_compares_on_demand(rt: HostRuntime) -> Result<(), Fail> {
+fn pages_of_compares_on_demand(rt: HostRuntime) {
     let both = [
         reads(0, 4090),
         reads(0, 12_282),
@@ -482,7 +482,7 @@ fn pages_of_compares_on_demand(rt: HostRuntime) -> Result<(), Fail> {
         reads(0, 12_288),
         ends(6),
     ];
-    expect_on_demand(&rt, rt.alloc(), Job::compare(4090, 12_282, 12), &both, &[])?;
+    expect_on_demand(&rt, rt.alloc(), Job::compare(4090, 12_282, 12), &both, &[]);
     let pattern = Job::compare_pattern(4090, 0x5a5a_5a5a_5a5a_5a5a, 12);
     expect_on_demand(
         &rt,
@@ -490,11 +490,11 @@ fn pages_of_compares_on_demand(rt: HostRuntime) -> Result<(), Fail> {
         pattern,
         &[reads(0, 4090), reads(6, 4096), ends(6)],
         &[],
-    )
+    );
 }
 
 #[test]
-fn pages_of_a_dualcast_on_demand(rt: HostRuntime) -> Result<(), Fail> {
+fn pages_of_a_dualcast_on_demand(rt: HostRuntime) {
     let job = Job::dualcast(4088, 8184, 12_280, 16);
     let records = [
         reads(0, 4088),
@@ -509,5 +509,5 @@ fn pages_of_a_dualcast_on_demand(rt: HostRuntime) -> Result<(), Fail> {
         job,
         &records,
         &[(8184, 0x5a), (12_295, 0x5a)],
-    )
+    );
 }

@@ -1,6 +1,7 @@
 //! Rows: an image, jobs on it, what they answer and what they leave. Each is submitted as a list and as a batch, at
 //! many settings, all with the same answers.
 
+use super::claims::same_in;
 use super::kinds::everywhere;
 use super::{USUAL, answer, put};
 use dml_engine::{Engine, EngineOver};
@@ -10,7 +11,6 @@ use dml_types::{BatchRecord, Job, Record, Settings, Status};
 use std::alloc::Global;
 use std::process::Abort;
 use std::sync::Wait;
-use std::test::Fail;
 use std::thread::Threads;
 
 /// A list of jobs on an image of so many pages, with those that are present and bytes that are put into them; what the
@@ -106,25 +106,25 @@ pub(super) fn expect_from<R: Abort + Threads + Wait + Sync>(
     row: &Row,
     way: Way,
     engine: &mut EngineOver<'_>,
-) -> Option<()> {
+) {
     match way {
         Way::List => {
-            let records = engine.submit_list(rt, alloc, row.jobs).ok()?;
-            expect_records(rt, row.name, &records, row.records);
+            let records = engine.submit_list(rt, alloc, row.jobs);
+            expect_records(rt, row.name, &records.expect(rt, row.name), row.records);
         }
         Way::Batch => {
-            let (own, records) = engine.submit_batch(rt, alloc, row.jobs).ok()?;
+            let batch = engine.submit_batch(rt, alloc, row.jobs);
+            let (own, records) = batch.expect(rt, row.name);
             expect_records(rt, row.name, &records, row.records);
             expect_own(rt, row.name, own, row.status, row.jobs.len());
         }
     }
     expect_left(rt, row, engine.image());
-    Some(())
 }
 
 /// Expects the records of a row's jobs.
 pub(super) fn expect_records(rt: &impl Abort, name: &str, records: &[Record], want: &[Record]) {
-    assert_eq!(rt; records, want, "{name}");
+    same_in(rt, name, records, want);
 }
 
 /// Expects the record of a row's batch: its status, and how many jobs are carried out.
@@ -135,11 +135,8 @@ pub(super) fn expect_own(
     status: Status,
     completed: usize,
 ) {
-    assert_eq!(rt;
-        (own.status, own.completed as usize),
-        (status, completed),
-        "{name}"
-    );
+    let found = (own.status, own.completed as usize);
+    same_in(rt, name, found, (status, completed));
 }
 
 /// Expects the bytes that a row leaves.
@@ -177,22 +174,12 @@ pub(super) fn with_given(engine: EngineOver<'_>, given: bool) -> EngineOver<'_> 
 }
 
 /// Expects a row's answers at all settings, as a list and as a batch.
-pub(super) fn expect<R: Abort + Threads + Wait + Sync>(
-    rt: &R,
-    alloc: Global,
-    row: &Row,
-) -> Result<(), Fail> {
-    everywhere(rt, alloc, row, Way::List).ok_or("no memory")?;
-    everywhere(rt, alloc, row, Way::Batch).ok_or("no memory")?;
-    Ok(())
+pub(super) fn expect<R: Abort + Threads + Wait + Sync>(rt: &R, alloc: Global, row: &Row) {
+    everywhere(rt, alloc, row, Way::List);
+    everywhere(rt, alloc, row, Way::Batch);
 }
 
 /// Expects a row's answers at all settings, as a list alone.
-pub(super) fn expect_as_list<R: Abort + Threads + Wait + Sync>(
-    rt: &R,
-    alloc: Global,
-    row: &Row,
-) -> Result<(), Fail> {
-    everywhere(rt, alloc, row, Way::List).ok_or("no memory")?;
-    Ok(())
+pub(super) fn expect_as_list<R: Abort + Threads + Wait + Sync>(rt: &R, alloc: Global, row: &Row) {
+    everywhere(rt, alloc, row, Way::List);
 }

@@ -1,10 +1,10 @@
 //! Lists and batches over memory in segments: the rows, cut at each choice of their pages, and jobs over eight segments
 //! with holes between them, with workers and without.
-ghost use Rattle.std.specs.Prelude.{IfOk};
 ghost use Rattle.dml_image.specs.Pieces.{AreSegments, pieces_of};
 
-use super::kinds::expect_same;
-use super::rows::{Row, Way, delta_answer, expect_from, page_of, with_given};
+use super::claims::{holds, same};
+use super::kinds::{expect_same, over_image};
+use super::rows::{Row, Way, delta_answer, page_of};
 use super::{USUAL, answer, put};
 use dml_engine::EngineOver;
 use dml_image::{Image, Segment, are_segments};
@@ -13,7 +13,6 @@ use std::alloc::Global;
 use std::mem;
 use std::process::Abort;
 use std::sync::Wait;
-use std::test::Fail;
 use std::thread::Threads;
 
 /// Bytes of a row's pages, one behind the other, those of absent pages 0.
@@ -70,15 +69,14 @@ fn expect_cut<R: Abort + Threads + Wait + Sync>(
     settings: Settings,
     given: bool,
     cuts: u32,
-) -> Option<Vec<u8>> {
-    let mut content = content_of(alloc, row)?;
-    let segments = segments_of(alloc, row, content.as_mut_slice(), cuts)?;
+) -> Vec<u8> {
+    let mut content = content_of(alloc, row).expect(rt, "no memory");
+    let segments = segments_of(alloc, row, content.as_mut_slice(), cuts);
+    let segments = segments.expect(rt, "no segments");
     assert!(rt; are_segments(&segments));
     let image = Image::over_segments(segments);
-    let mut engine = with_given(EngineOver::new(alloc, image, settings).ok()?, given);
-    expect_from(rt, alloc, row, way, &mut engine)?;
-    drop(engine);
-    Some(content)
+    over_image(rt, alloc, row, way, settings, given, image);
+    content
 }
 
 /// How many choices there are of pages in front of which a row is cut: of those behind the first, of three at most.
@@ -101,15 +99,14 @@ pub(super) fn over_segments<R: Abort + Threads + Wait + Sync>(
     settings: Settings,
     given: bool,
     own: &Image,
-) -> Option<()> {
+) {
     let choices = choices(row);
     for choice in 0..choices {
         if !given || choice + 1 == choices {
-            let content = expect_cut(rt, alloc, row, way, settings, given, choice << 1)?;
+            let content = expect_cut(rt, alloc, row, way, settings, given, choice << 1);
             expect_same(rt, row, own, content.as_slice());
         }
     }
-    Some(())
 }
 
 /// How many segments there are.
@@ -126,26 +123,22 @@ fn large(segment: u64) -> u64 {
 }
 
 /// The segments of a memory that is cut in eight, so many pages apart.
-fn eight<'a>(
-    rt: &impl Abort,
-    alloc: Global,
-    content: &'a mut [u8],
-    apart: u32,
-) -> Result<Vec<Segment<'a>>, Fail>
-    ensures { IfOk result (λ list. AreSegments (pieces_of list.items)) }
+fn eight<'a>(rt: &impl Abort, alloc: Global, content: &'a mut [u8], apart: u32) -> Vec<Segment<'a>>
+    ensures { AreSegments (pieces_of result.items) }
 {
-    let mut segments = Vec::with_capacity(alloc, SEGMENTS)?;
+    let mut segments = Vec::with_capacity(alloc, SEGMENTS).expect(rt, "no memory");
     let len = content.len() / SEGMENTS;
     let mut rest = content;
     for number in 0..8_u32 {
         let (front, back) = mem::take(&mut rest)
             .split_at_mut_checked(len)
-            .ok_or("too few bytes")?;
-        segments.push(Segment::new(number.wrapping_mul(apart), front))?;
+            .expect(rt, "too few bytes");
+        let segment = Segment::new(number.wrapping_mul(apart), front);
+        holds(rt, segments.push(segment).is_ok());
         rest = back;
     }
     assert!(rt; are_segments(&segments));
-    Ok(segments)
+    segments
 }
 
 /// A pattern of sevens.
@@ -201,51 +194,45 @@ fn fill_with_sevens(bytes: &mut [u8], from: usize, to: usize) {
 }
 
 /// A list over eight segments, which are taken back from the engine.
-fn expect_small_list<R: Abort + Threads + Wait + Sync>(
-    rt: &R,
-    alloc: Global,
-    settings: Settings,
-) -> Result<(), Fail> {
+fn expect_small_list<R: Abort + Threads + Wait + Sync>(rt: &R, alloc: Global, settings: Settings) {
     let mut content = [0; 65_536];
-    let image = Image::over_segments(eight(rt, alloc, &mut content, 4)?);
+    let image = Image::over_segments(eight(rt, alloc, &mut content, 4));
     let Ok(mut engine) = EngineOver::new(alloc, image, settings) else {
-        return Err("no memory".into());
+        rt.panic("no memory");
     };
     law_of_loans();
-    let records = engine.submit_list(rt, alloc, &small_jobs())?;
-    assert_eq!(rt; records.as_slice(), small_records().as_slice());
-    assert_eq!(rt; engine.into_image().into_segments().len(), SEGMENTS);
-    assert!(rt; content == small_left());
-    Ok(())
+    let Ok(records) = engine.submit_list(rt, alloc, &small_jobs()) else {
+        rt.panic("refused");
+    };
+    same(rt, records.as_slice(), small_records().as_slice());
+    same(rt, engine.into_image().into_segments().len(), SEGMENTS);
+    holds(rt, content == small_left());
 }
 
 /// The same of a batch. Its apply waits for the create, and the last job, behind a job that faults, is abandoned.
-fn expect_small_batch<R: Abort + Threads + Wait + Sync>(
-    rt: &R,
-    alloc: Global,
-    settings: Settings,
-) -> Result<(), Fail> {
+fn expect_small_batch<R: Abort + Threads + Wait + Sync>(rt: &R, alloc: Global, settings: Settings) {
     let mut content = [0; 65_536];
-    let image = Image::over_segments(eight(rt, alloc, &mut content, 4)?);
+    let image = Image::over_segments(eight(rt, alloc, &mut content, 4));
     let Ok(mut engine) = EngineOver::new(alloc, image, settings) else {
-        return Err("no memory".into());
+        rt.panic("no memory");
     };
     let (mut jobs, mut want) = (small_jobs(), small_records());
     jobs[5] = jobs[5].with_flags(0x01);
     jobs[7] = jobs[7].with_flags(0x01);
     want[7] = Record::refused(Status::Abandoned);
     law_of_loans();
-    let (own, records) = engine.submit_batch(rt, alloc, &jobs)?;
-    assert_eq!(rt; (own.status, own.completed), (Status::BatchFailed, 7));
-    assert_eq!(rt; records.as_slice(), want.as_slice());
-    assert_eq!(rt; engine.into_image().into_segments().len(), SEGMENTS);
-    assert!(rt; content == small_left());
-    Ok(())
+    let Ok((own, records)) = engine.submit_batch(rt, alloc, &jobs) else {
+        rt.panic("refused");
+    };
+    same(rt, (own.status, own.completed), (Status::BatchFailed, 7));
+    same(rt, records.as_slice(), want.as_slice());
+    same(rt, engine.into_image().into_segments().len(), SEGMENTS);
+    holds(rt, content == small_left());
 }
 
 /// With 1, 2 and 16 workers, and tasks of 8 bytes and of a page: all alike.
 #[test]
-fn jobs_over_eight_segments(rt: HostRuntime) -> Result<(), Fail> {
+fn jobs_over_eight_segments(rt: HostRuntime) {
     for workers in [1, 2, 16] {
         for chunk in [8, 4096] {
             let settings = Settings {
@@ -253,11 +240,10 @@ fn jobs_over_eight_segments(rt: HostRuntime) -> Result<(), Fail> {
                 chunk,
                 ..USUAL
             };
-            expect_small_list(&rt, rt.alloc(), settings)?;
-            expect_small_batch(&rt, rt.alloc(), settings)?;
+            expect_small_list(&rt, rt.alloc(), settings);
+            expect_small_batch(&rt, rt.alloc(), settings);
         }
     }
-    Ok(())
 }
 
 /// Jobs of a mebibyte each, of two levels and worth several workers.
@@ -274,37 +260,33 @@ fn large_jobs() -> [Job; 7] {
 }
 
 /// A list of work enough for several workers.
-fn expect_large_list<R: Abort + Threads + Wait + Sync>(
-    rt: &R,
-    alloc: Global,
-    settings: Settings,
-) -> Result<(), Fail> {
-    let mut content = vec![in alloc; 0; SEGMENTS * 1_048_576]?;
-    let image = Image::over_segments(eight(rt, alloc, content.as_mut_slice(), 512)?);
+fn expect_large_list<R: Abort + Threads + Wait + Sync>(rt: &R, alloc: Global, settings: Settings) {
+    let content = vec![in alloc; 0; SEGMENTS * 1_048_576];
+    let mut content = content.expect(rt, "no memory");
+    let image = Image::over_segments(eight(rt, alloc, content.as_mut_slice(), 512));
     let Ok(mut engine) = EngineOver::new(alloc, image, settings) else {
-        return Err("no memory".into());
+        rt.panic("no memory");
     };
-    let records = engine.submit_list(rt, alloc, &large_jobs())?;
+    let records = engine.submit_list(rt, alloc, &large_jobs());
+    let records = records.expect(rt, "refused");
     let want = [answer(Status::Success, 0, 1_048_576, 0); 7];
-    assert_eq!(rt; records.as_slice(), want.as_slice());
+    same(rt, records.as_slice(), want.as_slice());
     drop(engine);
     for (segment, bytes) in content.chunks_exact(1_048_576).enumerate() {
         let byte = if segment == 0 || segment == 4 { 7 } else { 0 };
         assert!(rt; bytes.iter().all(|there| *there == byte), "{segment}");
     }
-    Ok(())
 }
 
 /// With 1, 2 and 16 workers: all alike. How many of them are started is counted beside the tests.
 #[test]
-fn list_on_workers_over_eight_segments(rt: HostRuntime) -> Result<(), Fail> {
+fn list_on_workers_over_eight_segments(rt: HostRuntime) {
     for workers in [1, 2, 16] {
         let settings = Settings {
             workers,
             chunk: 65_536,
             ..USUAL
         };
-        expect_large_list(&rt, rt.alloc(), settings)?;
+        expect_large_list(&rt, rt.alloc(), settings);
     }
-    Ok(())
 }

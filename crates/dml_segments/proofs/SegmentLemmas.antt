@@ -138,42 +138,47 @@ module _ (list : List Segment) (middle address : ℕ) (segment : Segment) (order
   begins_behind high k back inside =
       omega (arith, high, ap (λ (p : Piece). p.first) middle_is, first_rises 0 (pieces_of list) middle k no_piece order back (omega (arith, inside, pieces_length list)))
 
--- how many segments begin at an address or before says where it is, or that it is in none
-module _ (items : List Segment) (address n : ℕ) (order : AreInOrder 0 (pieces_of items)) (within : n ≤ length items) (before : (k : ℕ) → k < n → 4096 * (piece_at (pieces_of items) k).first ≤ address) (behind : (k : ℕ) → n ≤ k → k < length items → address < 4096 * (piece_at (pieces_of items) k).first) where
-  pub in_none : n ≡ 0 → has (pieces_memory (pieces_of items)) address ≡ false
-  in_none none =
+-- the last segment that begins at an address or before, or the first one, says where it is, or that it is in none
+pub in_no_segment : (items : List Segment) (address : ℕ) → AreInOrder 0 (pieces_of items) → length items ≡ 0 → has (pieces_memory (pieces_of items)) address ≡ false
+in_no_segment items address order none = has_out (pieces_of items) order address (λ k below inside. absurd (omega (arith, below, pieces_length items, none)))
+
+module _ (items : List Segment) (address r : ℕ) (order : AreInOrder 0 (pieces_of items)) (within : r < length items) (begins : 0 < r → 4096 * (piece_at (pieces_of items) r).first ≤ address) (behind : (k : ℕ) → r < k → k < length items → address < 4096 * (piece_at (pieces_of items) k).first) (segment : Segment) (seen : segment ≡ get_or items r segment) where
+  near_is : piece_at (pieces_of items) r ≡ piece_of segment
+  near_is = piece_is items r segment within seen
+
+  in_pieces : r < length (pieces_of items)
+  in_pieces = omega (arith, within, pieces_length items)
+
+  pub before_near : address < 4096 * segment.first → has (pieces_memory (pieces_of items)) address ≡ false
+  before_near high =
       has_out (pieces_of items) order address (λ k below inside.
-      absurd (omega (arith, inside.0, behind k (omega arith) (omega (arith, below, pieces_length items)))))
+      ⊎_elim
+      (λ front. absurd (omega (arith, high, begins (omega (arith, front)), ap (λ (p : Piece). p.first) near_is)))
+      (λ back. absurd (omega (arith, high, inside.0, ap (λ (p : Piece). p.first) near_is, first_rises 0 (pieces_of items) r k no_piece order back below)))
+      (cases_lt k r))
 
-  module _ (segment : Segment) (some : 0 < n) (seen : segment ≡ get_or items (n - 1) segment) where
-    last_is : piece_at (pieces_of items) (n - 1) ≡ piece_of segment
-    last_is = piece_is items (n - 1) segment (omega arith) seen
+  pub behind_near : 4096 * segment.first + length segment.content.now ≤ address → has (pieces_memory (pieces_of items)) address ≡ false
+  behind_near past =
+      has_out (pieces_of items) order address (λ k below inside.
+      ⊎_elim
+      (λ front. absurd (omega (arith, inside.1, end_low 0 (pieces_of items) k r no_piece order front in_pieces, whole_piece 0 (pieces_of items) k no_piece order below, begins (omega (arith, front)))))
+      (λ rest.
+      ⊎_elim
+      (λ high. absurd (omega (arith, inside.0, behind k high (omega (arith, below, pieces_length items)))))
+      (λ low.
+      let here : piece_at (pieces_of items) k ≡ piece_of segment = ap (piece_at (pieces_of items)) (omega (arith, low, rest)) ∙ near_is in
+      absurd (omega (arith, inside.1, past, ap (λ (p : Piece). 4096 * p.first + length p.bytes) here)))
+      (cases_lt r k))
+      (cases_lt k r))
 
-    pub start_low : 4096 * segment.first ≤ address
-    start_low = omega (arith, before (n - 1) (omega arith), ap (λ (p : Piece). p.first) last_is)
-
-    pub past_it : 4096 * segment.first + length segment.content.now ≤ address → has (pieces_memory (pieces_of items)) address ≡ false
-    past_it past =
-        has_out (pieces_of items) order address (λ k below inside.
-        ⊎_elim
-        (λ front. absurd (omega (arith, inside.1, end_low 0 (pieces_of items) k (n - 1) no_piece order front (omega (arith, pieces_length items)), whole_piece 0 (pieces_of items) k no_piece order below, before (n - 1) (omega arith))))
-        (λ rest.
-        ⊎_elim
-        (λ high. absurd (omega (arith, inside.0, behind k (omega arith) (omega (arith, below, pieces_length items)))))
-        (λ low.
-        let here : piece_at (pieces_of items) k ≡ piece_of segment = ap (piece_at (pieces_of items)) (omega arith) ∙ last_is in
-        absurd (omega (arith, inside.1, past, ap (λ (p : Piece). 4096 * p.first + length p.bytes) here)))
-        (cases_lt (n - 1) k))
-        (cases_lt k (n - 1)))
-
-    pub in_it : (place room : ℕ) → place ≡ address - 4096 * segment.first → room ≡ length segment.content.now - place → place < length segment.content.now → IsAt (pieces_of items) (record { segment = n - 1; place = place; room = room }) address
-    in_it place room at rest inside =
-        record {
-          below = omega (arith, pieces_length items);
-          some = omega (arith, rest, inside);
-          room = omega (arith, rest, inside) ∙ sym (ap (λ (p : Piece). length p.bytes) last_is);
-          here = omega (arith, at, start_low, ap (λ (p : Piece). p.first) last_is);
-        }
+  pub in_near : (place room : ℕ) → 4096 * segment.first ≤ address → place ≡ address - 4096 * segment.first → room ≡ length segment.content.now - place → place < length segment.content.now → IsAt (pieces_of items) (record { segment = r; place = place; room = room }) address
+  in_near place room low at rest inside =
+      record {
+        below = in_pieces;
+        some = omega (arith, rest, inside);
+        room = omega (arith, rest, inside) ∙ sym (ap (λ (p : Piece). length p.bytes) near_is);
+        here = omega (arith, at, low, ap (λ (p : Piece). p.first) near_is);
+      }
 
 -- bytes of a segment that are copied: of the one that they are copied to, or of another beside it
 pub piece_at_is : (list : List Segment) (k : ℕ) (d : Segment) → k < length list → piece_at (pieces_of list) k ≡ piece_of (get_or list k d)

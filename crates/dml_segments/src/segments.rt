@@ -1,5 +1,5 @@
 //! Segments of memory that a caller lends, in lists.
-ghost use Rattle.std.specs.Prelude.{◌≡◌, ℕ, ◌+◌, ◌*◌, ◌<◌, ◌≤◌, ◌↔◌, None, [], false, length, slice_range, IfSome, IsTrue};
+ghost use Rattle.std.specs.Prelude.{◌≡◌, ℕ, ◌+◌, ◌*◌, ◌<◌, ◌≤◌, ◌↔◌, ◌⊎◌, None, [], false, length, slice_range, IfSome, IsTrue};
 ghost use Rattle.dml_types.specs.Memory.{has};
 ghost use Rattle.dml_segments.specs.Copied.{IsOneCopy};
 ghost use Rattle.dml_segments.specs.Pieces.{AreInOrder, AreSegments, IsAt, piece_at, pieces_memory, pieces_of, written};
@@ -89,13 +89,13 @@ pub fn find(list: &[Segment<'_>], addr: u64) -> Option<Spot>
     ensures found { IfSome result (λ spot. IsAt (pieces_of list.now) spot addr) }
     ensures outside { result ≡ None → has (pieces_memory (pieces_of list.now)) addr ≡ false }
 {
-    let behind = begun(list, addr);
-    if behind == 0 {
+    let segment = nearest(list, addr);
+    let here = list.get(segment)?;
+    let start = here.start();
+    if addr < start {
         return None;
     }
-    let segment = behind - 1;
-    let here = &list[segment];
-    let place = addr - here.start();
+    let place = addr - start;
     let len = here.content.len();
     if place >= len as u64 {
         return None;
@@ -131,32 +131,27 @@ pub fn spot_of(list: &[Segment<'_>], addr: u64) -> Spot
     }
 }
 
-/// How many segments begin at an address or before.
+/// The last segment that begins at an address or before, or the first one.
 #[inline(always)]
-fn begun(list: &[Segment<'_>], addr: u64) -> usize
+fn nearest(list: &[Segment<'_>], addr: u64) -> usize
     requires { AreInOrder 0 (pieces_of list.now) }
-    ensures within { result ≤ length list.now }
+    ensures within { (result < length list.now) ⊎ (length list.now ≡ 0) }
     ensures before { (k : ℕ) → k < result → 4096 * (piece_at (pieces_of list.now) k).first ≤ addr }
-    ensures behind { (k : ℕ) → result ≤ k → k < length list.now
+    ensures begins { 0 < result → 4096 * (piece_at (pieces_of list.now) result).first ≤ addr }
+    ensures behind { (k : ℕ) → result < k → k < length list.now
         → addr < 4096 * (piece_at (pieces_of list.now) k).first }
 {
     let mut low = 0;
-    let mut left = list.len();
-    while left > 1 {
-        let half = left / 2;
-        let middle = low + half;
-        left -= half;
+    let mut high = list.len();
+    while high - low > 1 {
+        let middle = low + (high - low) / 2;
         if list[middle].start() <= addr {
             low = middle;
+        } else {
+            high = middle;
         }
     }
-    if left == 0 {
-        return low;
-    }
-    if addr < list[low].start() {
-        return low;
-    }
-    low + 1
+    low
 }
 
 /// Copies `len` bytes from one place of a list's segments to another.

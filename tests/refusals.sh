@@ -49,8 +49,8 @@ is_plain() { # STATUS: the last run is as the plain run was
 }
 
 # The tests whose calls take no memory. All others that are found take some.
-take_none='dml_image:refused_second_bring dml_image:refused_evict dml_engine:refused_submit
-dml_engine:refused_second_bring'
+take_none='dml_image:refused_second_bring dml_image:refused_bring_over_segments dml_image:refused_evict
+dml_engine:refused_submit dml_engine:refused_second_bring'
 
 # The tests that make nothing before their call.
 make_nothing='dml_arena:refused_new dml_image:refused_new dml_image:refused_take dml_grammar:refused_read_script

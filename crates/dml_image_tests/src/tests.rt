@@ -4,7 +4,7 @@ mod segments;
 
 ghost use Rattle.std.specs.Prelude.{◌≡◌};
 
-use dml_image::{Image, ImageError, Lent, Whole};
+use dml_image::{Image, ImageError, Lent, Segment, Whole, are_segments};
 use dml_types::Direction;
 use std::alloc::Global;
 use std::process::Abort;
@@ -548,6 +548,30 @@ fn set_up_of_second_bring(rt: HostRuntime) -> Result<(), Fail> {
 #[test]
 fn refused_second_bring(rt: HostRuntime) -> Result<(), Fail> {
     let mut image = image_with(rt.alloc(), 3, &[0])?;
+    expect_bring(&rt, &mut image, 0, 0x5a, Ok(()));
+    check_page(&rt, &image, Some(0x5a));
+    Ok(())
+}
+
+/// What `refused_bring_over_segments` does before its call.
+#[test]
+fn set_up_of_bring_over_segments(rt: HostRuntime) -> Result<(), Fail> {
+    let mut bytes = [0; 4096];
+    let mut list = Vec::with_capacity(rt.alloc(), 1)?;
+    list.push(Segment::new(0, &mut bytes))?;
+    assert!(rt; are_segments(&list));
+    check_page(&rt, &Image::over_segments(list), Some(0));
+    Ok(())
+}
+
+/// Nor does a page of a segment.
+#[test]
+fn refused_bring_over_segments(rt: HostRuntime) -> Result<(), Fail> {
+    let mut bytes = [0; 4096];
+    let mut list = Vec::with_capacity(rt.alloc(), 1)?;
+    list.push(Segment::new(0, &mut bytes))?;
+    assert!(rt; are_segments(&list));
+    let mut image = Image::over_segments(list);
     expect_bring(&rt, &mut image, 0, 0x5a, Ok(()));
     check_page(&rt, &image, Some(0x5a));
     Ok(())

@@ -87,6 +87,11 @@ length_entry memory job b =
 pub length_entries : (memory : Memory) (job : Job) (passes : ℕ → Bool) (a n : ℕ) → length (gathered (block_entry memory job) passes a n) ≤ 10 * n
 length_entries memory job passes a n = length_gathered (block_entry memory job) passes 10 (length_entry memory job) a n
 
+-- what is held and gathered, behind what was before
+pub so_far : (old entries here more : List ℕ) → here ++ more ≡ old ++ entries → length here + length more ≡ length old + length entries
+so_far old entries here more is =
+    omega (arith, ap (λ (xs : List ℕ). length xs) is, length-append here more, length-append old entries)
+
 -- none passes
 pub gathered_none : (f : ℕ → List ℕ) (passes : ℕ → Bool) (a n : ℕ) → ((i : ℕ) → i < n → passes (a + i) ≡ false) → gathered f passes a n ≡ []
 gathered_none f passes a zero none = refl

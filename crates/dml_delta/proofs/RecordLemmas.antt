@@ -1,7 +1,7 @@
 -- The entries of a record that an apply reads.
 use Rattle.std.proofs.Common.{◌≡◌, ◌≢◌, ℕ, ◌+◌, ◌-◌, ◌*◌, ◌/◌, ◌%◌, ◌<◌, ◌≤◌, Bool, true, false, not, ◌&&◌, ◌||◌, List, [], ◌∷◌, ◌++◌, length, get_or, take, Option, None, Some, is_some, cond, eqb, nat_lt, nat_le, refl, sym, ◌∙◌, ap, ap₂, arith, rules, ⊎_elim}
 use Rattle.std.specs.Prelude.{find, option_map}
-use Rattle.std.proofs.lemmas.Bool.{cases_Bool, cases_eq, cases_lt, not-false, not-true, and_left, and_right, eq-eqb, ne_eqb, lt-ltb, le-ltb, le-leb, lt-leb, false_from_ne_true, false≢true}
+use Rattle.std.proofs.lemmas.Bool.{cases_eq, cases_lt, not-false, not-true, and_left, and_right, eq-eqb, ne_eqb, lt-ltb, le-ltb, le-leb, lt-leb, false_from_ne_true, false≢true}
 use Rattle.dml_types.specs.declared.jobs.Job.{Job}
 use Rattle.std.proofs.lemmas.List.{places, same_lists}
 use Rattle.dml_segments.proofs.RangeLemmas.{bytes_at_append}
@@ -17,6 +17,7 @@ use Rattle.std.specs.Int.{from_le_bytes, w16}
 use Rattle.std.specs.Prelude.{slice_range}
 use Rattle.dml_types.proofs.FirstLemmas.{first_is, first_le, fails_before, passes_at}
 use Rattle.dml_types.proofs.MemoryLemmas.{has_all_at, has_all_from, has_all_within, present_front}
+use Rattle.dml_delta.proofs.UnitLemmas.{block_in_page}
 
 -- the first cause of four
 abbrev cause_of : Bool → Fault → Bool → Fault → Bool → Fault → Bool → Fault → Option Fault
@@ -81,10 +82,6 @@ found_alike (Some bad) None x same = absurd (cc)
 pub none_found : (p : Option Fault) → is_some p ≡ false → p ≡ None
 none_found None none = refl
 none_found (Some fault) none = absurd (cc)
-
-pub none_behind : (a n : ℕ) → eqb (a + n) a ≡ eqb n 0
-none_behind a n =
-    ⊎_elim (λ none. eq-eqb (a + n) a (omega arith) ∙ sym (eq-eqb n 0 none)) (λ some. ne_eqb (a + n) a (λ same. some (omega arith)) ∙ sym (ne_eqb n 0 some)) (cases_eq n 0)
 
 -- an entry among present ones
 pub entry_present : (memory : Memory) (address from n x : ℕ) → has_all memory (address + 10 * from) (10 * n) ≡ true → from ≤ x → x < from + n → has_all memory (address + 10 * x) 10 ≡ true
@@ -186,13 +183,16 @@ judged_present memory job from x order all =
 offset_read : (memory : Memory) (address n i : ℕ) → 10 * i + 2 ≤ n → slice_range (bytes_at memory address n) (10 * i) (10 * i + 2) ≡ bytes_at memory (address + 10 * i) 2
 offset_read memory address n i within = same_lists _ _ (search (rules, places)) (λ k d h. grind (arith, places))
 
+pub offset_of_read : (memory : Memory) (job : Job) (x n i : ℕ) (entries : List ℕ) → entries ≡ bytes_at memory (job.source + 10 * x) n → 10 * i + 2 ≤ n → block_number entries i ≡ entry_offset memory job (x + i)
+offset_of_read memory job x n i entries read within =
+    let place : job.source + 10 * x + 10 * i ≡ job.source + 10 * (x + i) = omega arith in
+    ap (from_le_bytes w16)
+    (ap (λ (xs : List ℕ). slice_range xs (10 * i) (10 * i + 2)) read
+    ∙ (offset_read memory (job.source + 10 * x) n i within ∙ ap (λ (a : ℕ). bytes_at memory a 2) place))
+
 module _ (memory : Memory) (job : Job) (from x least : ℕ) (entries : List ℕ) (order : from ≤ x) (behind : least ≡ least_from memory job from x) (read : entries ≡ bytes_at memory (job.source + 10 * x) (length entries)) (all : has_all memory (job.source + 10 * x) (length entries) ≡ true) where
   offset_told : (i : ℕ) → 10 * i + 2 ≤ length entries → block_number entries i ≡ entry_offset memory job (x + i)
-  offset_told i within =
-      let place : job.source + 10 * x + 10 * i ≡ job.source + 10 * (x + i) = omega arith in
-      ap (from_le_bytes w16)
-      (ap (λ (xs : List ℕ). slice_range xs (10 * i) (10 * i + 2)) read
-      ∙ (offset_read memory (job.source + 10 * x) (length entries) i within ∙ ap (λ (a : ℕ). bytes_at memory a 2) place))
+  offset_told i within = offset_of_read memory job x (length entries) i entries read within
 
   pub least_told : (i : ℕ) → 10 * i ≤ length entries → least_in least entries i ≡ least_from memory job from (x + i)
   least_told i within =
@@ -240,23 +240,6 @@ good_none memory job from to same = omega (arith, first_le (to - from) (λ i. is
 -- a front of what was read is read alone
 pub front_read : (memory : Memory) (address n m : ℕ) → m ≤ n → take m (bytes_at memory address n) ≡ bytes_at memory address m
 front_read memory address n m short = same_lists _ _ (search (rules, places)) (λ k d h. grind (arith, places))
-
--- a block at a multiple of 8 lies in one page
-pub block_in_page : (memory : Memory) (address : ℕ) → address % 8 ≡ 0 → has memory address ≡ has_all memory address 8
-block_in_page memory address aligned =
-    ⊎_elim (λ here. here ∙ sym (has_all_from memory address 8 (λ i below. same i below ∙ here)))
-    (λ gone.
-    gone
-    ∙ sym (false_from_ne_true (has_all memory address 8)
-    (λ all.
-    let start : address ≡ address + 0 = omega arith in
-    false≢true (sym gone ∙ (ap (has memory) start ∙ has_all_at memory address 8 0 all (omega arith))))))
-    (cases_Bool (has memory address))
-  where
-    same : (i : ℕ) → i < 8 → has memory (address + i) ≡ has memory address
-    same i below =
-        let page : (address + i) / 4096 ≡ address / 4096 = omega arith in
-        ap (λ (p : ℕ). get_or memory.present p false) page
 
 -- the blocks of a page, by the byte at which one of them begins
 pub no_block : (memory : Memory) (job : Job) (offset : ℕ) → job.size / 8 ≤ offset → is_block memory job offset ≡ false

@@ -1,12 +1,12 @@
 -- Runs of whole blocks or entries, by runs of present bytes.
-use Rattle.std.proofs.Common.{◌≡◌, ℕ, ◌+◌, ◌-◌, ◌*◌, ◌/◌, ◌%◌, ◌<◌, ◌≤◌, min, true, false, not, List, length, sym, ◌∙◌, ap, ap₂, arith}
-use Rattle.std.proofs.lemmas.Bool.{false≢true, not-false, not-true, and_parts, false_from_ne_true, eq-eqb}
+use Rattle.std.proofs.Common.{◌≡◌, ℕ, ◌+◌, ◌-◌, ◌*◌, ◌/◌, ◌%◌, ◌<◌, ◌≤◌, Bool, true, false, not, ◌&&◌, List, length, get_or, sym, ◌∙◌, ap, ap₂, arith, ⊎_elim}
+use Rattle.std.proofs.lemmas.Bool.{cases_Bool, cases_lt, false≢true, not-false, not-true, and_left, and_right, false_from_ne_true, eq-eqb}
 use Rattle.dml_types.specs.declared.jobs.Job.{Job}
-use Rattle.dml_types.specs.Memory.{first, Memory, has, has_all, bytes_at, present_bytes}
-use Rattle.dml_types.specs.Delta.{readable_blocks, block_bytes, has_block, is_readable}
-use Rattle.dml_types.proofs.FirstLemmas.{first_le, first_is, first_agree, fails_before, passes_at}
+use Rattle.dml_types.specs.Memory.{first, Memory, has, has_all, present_bytes}
+use Rattle.dml_types.specs.Delta.{readable_blocks, has_block, is_readable}
+use Rattle.dml_types.proofs.FirstLemmas.{first_le, first_is, fails_before, passes_at}
 use Rattle.dml_types.proofs.MemoryLemmas.{has_all_at, has_all_from}
-use Rattle.dml_image.proofs.RunLemmas.{first_both}
+use Rattle.dml_segments.specs.Present.{IsPartOfPage}
 
 -- units of w bytes: of n bytes from an address on, the first `run` are present, which are k whole units and no further one
 pub units_is : (memory : Memory) (address w count n k : ℕ) → k ≤ count → ((i : ℕ) → i < k → w * i + w ≤ present_bytes memory address n) → (k < count → (w * k ≤ present_bytes memory address n) × (present_bytes memory address n < w * k + w) × (present_bytes memory address n < n)) → first count (λ i. not (has_all memory (address + w * i) w)) ≡ k
@@ -30,73 +30,79 @@ units_is memory address w count n k within before here =
         false_from_ne_true (has_all memory (address + w * k) w)
         (λ all. false≢true (sym gone ∙ (ap (has memory) (sym place) ∙ has_all_at memory (address + w * k) w (m - w * k) all (omega arith))))
 
--- of a range of blocks, and of the entries of a record
-pub blocks_in_run : (memory : Memory) (address from n : ℕ) → first n (λ i. not (has_block memory address (from + i))) ≡ present_bytes memory (address + 8 * from) (8 * n) / 8
-blocks_in_run memory address from n =
-    let run = present_bytes memory (address + 8 * from) (8 * n) in
-    let most : run ≤ 8 * n = first_le (8 * n) (λ i. not (has memory (address + 8 * from + i))) in
-    first_agree n (λ i. not (has_block memory address (from + i))) (λ i. not (has_all memory (address + 8 * from + 8 * i) 8))
-    (λ i below.
-    let place : address + 8 * (from + i) ≡ address + 8 * from + 8 * i = omega arith in
-    ap (λ (a : ℕ). not (has_all memory a 8)) place)
-    ∙ units_is memory (address + 8 * from) 8 n (8 * n) (run / 8) (omega arith) (λ i low. omega arith) (λ below. (omega arith, omega arith, omega arith))
-
--- how many blocks come before the first that is not readable, by the runs of both sources
-pub readable_in_runs : (memory : Memory) (job : Job) (from to : ℕ) → readable_blocks memory job from to ≡ min (present_bytes memory (job.source + 8 * from) (8 * (to - from))) (present_bytes memory (job.target + 8 * from) (8 * (to - from))) / 8
-readable_in_runs memory job from to =
-    let a = present_bytes memory (job.source + 8 * from) (8 * (to - from)) in
-    let b = present_bytes memory (job.target + 8 * from) (8 * (to - from)) in
-    first_both (to - from) (λ i. has_block memory job.source (from + i)) (λ i. has_block memory job.target (from + i))
-    ∙ (ap₂ min (blocks_in_run memory job.source from (to - from)) (blocks_in_run memory job.target from (to - from))
-    ∙ lesser a b)
+-- a block at a multiple of 8 lies in one page
+pub block_in_page : (memory : Memory) (address : ℕ) → address % 8 ≡ 0 → has memory address ≡ has_all memory address 8
+block_in_page memory address aligned =
+    ⊎_elim (λ here. here ∙ sym (has_all_from memory address 8 (λ i below. same i below ∙ here)))
+    (λ gone.
+    gone
+    ∙ sym (false_from_ne_true (has_all memory address 8)
+    (λ all.
+    let start : address ≡ address + 0 = omega arith in
+    false≢true (sym gone ∙ (ap (has memory) start ∙ has_all_at memory address 8 0 all (omega arith))))))
+    (cases_Bool (has memory address))
   where
-    lesser : (a b : ℕ) → min (a / 8) (b / 8) ≡ min a b / 8
-    lesser a b = omega arith
+    same : (i : ℕ) → i < 8 → has memory (address + i) ≡ has memory address
+    same i below =
+        let page : (address + i) / 4096 ≡ address / 4096 = omega arith in
+        ap (λ (p : ℕ). get_or memory.present p false) page
 
-pub readable_none : (memory : Memory) (job : Job) (from to : ℕ) → from ≡ to → 0 ≡ readable_blocks memory job from to
-readable_none memory job from to same =
-    omega (arith, same, first_le (to - from) (λ i. not (is_readable memory job (from + i))))
+-- the bytes from a block on to the end of its page, or fewer, are whole blocks, and all of them are present
+pub record AreWhole (memory : Memory) (address n : ℕ) (bytes : List ℕ) : Type 0 where
+  pub whole : length bytes % 8 ≡ 0
+  pub some : 8 ≤ length bytes
+  pub within : length bytes ≤ n
+  pub here : (i : ℕ) → 8 * i < length bytes → has_all memory (address + 8 * i) 8 ≡ true
 
-pub readable_is : (memory : Memory) (job : Job) (from to start n : ℕ) → start ≡ 8 * from → n ≡ 8 * (to - from) → min (present_bytes memory (job.source + start) n) (present_bytes memory (job.target + start) n) / 8 ≡ readable_blocks memory job from to
-readable_is memory job from to start n at is =
-    ap₂ (λ (s k : ℕ). min (present_bytes memory (job.source + s) k) (present_bytes memory (job.target + s) k) / 8) at is
-    ∙ sym (readable_in_runs memory job from to)
+pub part_whole : (memory : Memory) (address k : ℕ) (bytes : List ℕ) → IsPartOfPage memory address (8 * k) bytes → address % 8 ≡ 0 → 0 < k → AreWhole memory address (8 * k) bytes
+part_whole memory address k bytes part aligned some = record {
+  whole = omega (arith, part.size, aligned);
+  some = omega (arith, part.size, aligned, some);
+  within = omega (arith, part.size);
+  here = λ i below.
+      let page : (address + 8 * i) / 4096 ≡ address / 4096 = omega (arith, part.size, below) in
+      sym (block_in_page memory (address + 8 * i) (omega (arith, aligned)))
+      ∙ (ap (λ (p : ℕ). get_or memory.present p false) page ∙ part.present);
+}
+
+-- how many blocks come before the first that is not readable
+pub readable_at : (memory : Memory) (job : Job) (from to k : ℕ) → k ≤ to - from → ((i : ℕ) → i < k → is_readable memory job (from + i) ≡ true) → (k < to - from → is_readable memory job (from + k) ≡ false) → k ≡ readable_blocks memory job from to
+readable_at memory job from to k within before stops =
+    sym (first_is (to - from) (λ i. not (is_readable memory job (from + i))) k within (λ i below. ap not (before i below)) (λ below. ap not (stops below)))
+
+-- readable blocks in front, and blocks that are present in both sources behind
+pub readable_more : (memory : Memory) (job : Job) (from done n : ℕ) → ((i : ℕ) → i < done → is_readable memory job (from + i) ≡ true) → ((i : ℕ) → i < n → has_all memory (job.source + 8 * (from + done) + 8 * i) 8 ≡ true) → ((i : ℕ) → i < n → has_all memory (job.target + 8 * (from + done) + 8 * i) 8 ≡ true) → (i : ℕ) → i < done + n → is_readable memory job (from + i) ≡ true
+readable_more memory job from done n before source target i below =
+    ⊎_elim (λ low. before i low)
+    (λ high.
+    let one : job.source + 8 * (from + i) ≡ job.source + 8 * (from + done) + 8 * (i - done) = omega arith in
+    let other : job.target + 8 * (from + i) ≡ job.target + 8 * (from + done) + 8 * (i - done) = omega arith in
+    ap₂ (λ (a b : Bool). a && b)
+    (ap (λ (a : ℕ). has_all memory a 8) one ∙ source (i - done) (omega arith))
+    (ap (λ (a : ℕ). has_all memory a 8) other ∙ target (i - done) (omega arith)))
+    (cases_lt i done)
+
+-- a block whose first byte is absent in a source
+pub source_absent : (memory : Memory) (job : Job) (b number : ℕ) → number ≡ b → job.source % 8 ≡ 0 → has memory (job.source + 8 * number) ≡ false → is_readable memory job b ≡ false
+source_absent memory job b number is aligned gone =
+    and_left (has_block memory job.source b) (has_block memory job.target b)
+    (sym (block_in_page memory (job.source + 8 * b) (omega (arith, aligned))) ∙ (ap (λ (n : ℕ). has memory (job.source + 8 * n)) (sym is) ∙ gone))
+
+pub target_absent : (memory : Memory) (job : Job) (b number : ℕ) → number ≡ b → job.target % 8 ≡ 0 → has memory (job.target + 8 * number) ≡ false → is_readable memory job b ≡ false
+target_absent memory job b number is aligned gone =
+    and_right (has_block memory job.source b) (has_block memory job.target b)
+    (sym (block_in_page memory (job.target + 8 * b) (omega (arith, aligned))) ∙ (ap (λ (n : ℕ). has memory (job.target + 8 * n)) (sym is) ∙ gone))
 
 -- the blocks before the first that is not readable are present in both sources
 pub readable_here : (memory : Memory) (job : Job) (from to i : ℕ) → i < readable_blocks memory job from to → is_readable memory job (from + i) ≡ true
 readable_here memory job from to i below =
     not-false (is_readable memory job (from + i)) (fails_before (to - from) (λ j. not (is_readable memory job (from + j))) i below)
 
-blocks_present : (memory : Memory) (address from n : ℕ) → ((i : ℕ) → i < n → has_block memory address (from + i) ≡ true) → has_all memory (address + 8 * from) (8 * n) ≡ true
-blocks_present memory address from n present =
-    has_all_from memory (address + 8 * from) (8 * n)
-    (λ j below.
-    let place : address + 8 * from + j ≡ address + 8 * (from + j / 8) + j % 8 = omega arith in
-    ap (has memory) place ∙ has_all_at memory (address + 8 * (from + j / 8)) 8 (j % 8) (present (j / 8) (omega arith)) (omega arith))
-
-pub readable_source : (memory : Memory) (job : Job) (from to n : ℕ) → n ≡ readable_blocks memory job from to → has_all memory (job.source + 8 * from) (8 * n) ≡ true
-readable_source memory job from to n is =
-    blocks_present memory job.source from n (λ i below. (and_parts _ _ (readable_here memory job from to i (omega arith))).0)
-
-pub readable_target : (memory : Memory) (job : Job) (from to n : ℕ) → n ≡ readable_blocks memory job from to → has_all memory (job.target + 8 * from) (8 * n) ≡ true
-readable_target memory job from to n is =
-    blocks_present memory job.target from n (λ i below. (and_parts _ _ (readable_here memory job from to i (omega arith))).1)
-
 -- and the next one, if the chunk has it, is not
 pub not_readable : (memory : Memory) (job : Job) (from to n : ℕ) → n ≡ readable_blocks memory job from to → from + n < to → is_readable memory job (from + n) ≡ false
 not_readable memory job from to n is below =
     let stops = passes_at (to - from) (λ i. not (is_readable memory job (from + i))) (omega arith) in
     ap (λ (k : ℕ). is_readable memory job (from + k)) is ∙ not-true _ stops
-
--- the first byte of a block of present ones, and a block that is read at once
-pub block_here : (memory : Memory) (address from count b : ℕ) → has_all memory (address + 8 * from) (8 * count) ≡ true → from ≤ b → b < from + count → has memory (address + 8 * b) ≡ true
-block_here memory address from count b all low high =
-    let place : address + 8 * b ≡ address + 8 * from + 8 * (b - from) = omega arith in
-    ap (has memory) place ∙ has_all_at memory (address + 8 * from) (8 * count) (8 * (b - from)) all (omega arith)
-
-pub block_read : (memory : Memory) (address b : ℕ) (part : List ℕ) → part ≡ bytes_at memory (address + 8 * b) (length part) → length part ≡ min 8 (4096 - (address + 8 * b) % 4096) → address % 8 ≡ 0 → part ≡ block_bytes memory address b
-block_read memory address b part is long aligned =
-    let eight : length part ≡ 8 = omega arith in is ∙ ap (λ (n : ℕ). bytes_at memory (address + 8 * b) n) eight
 
 -- parts of a range of present bytes
 pub has_front : (memory : Memory) (address m n : ℕ) → has_all memory address n ≡ true → m ≤ n → has_all memory address m ≡ true

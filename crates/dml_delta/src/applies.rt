@@ -12,7 +12,7 @@ use crate::record::{entries_at, judge};
 use dml_arena::Region;
 use dml_desc::Checked;
 use dml_image::Image;
-use dml_types::{Job, Status};
+use dml_types::{Job, Status, block_number};
 
 /// The first bad entry of a chunk of an apply.
 #[derive(Clone, Copy, PartialEq, Eq, Debug)]
@@ -47,7 +47,7 @@ pub struct ApplyPiece<'a> {
 /// An entry is bad where a byte of it is absent, where its offset is not above that of the entry before it in the
 /// chunk or is behind the destination, or where a byte of its destination block is absent. The region is empty, with
 /// room for 10 bytes an entry, and keeps its place and its room.
-#[tactic(auto, using(crate::proofs::PieceLemmas::apply_last_is, crate::proofs::PieceLemmas::apply_staged_is))]
+#[tactic(auto, using(crate::proofs::PieceLemmas::apply_staged_is))]
 pub fn scan_apply<'a>(
     image: &Image,
     job: &Checked,
@@ -67,14 +67,18 @@ pub fn scan_apply<'a>(
     ensures staged { result.staged.bytes ≡ apply_staged image.now job.now from to }
     ensures place { SamePlace room.entry result.staged }
 {
+    let _pages = image.pages(); // says what every image keeps
     let mut staged = room;
     let good = stage_good(image, job, from, to, &mut staged);
+    let bad = first_bad(image, job, from, from + good, to);
+    let first = first_offset(image, job, from, to, staged.bytes());
+    let last = last_offset(staged.bytes());
     ApplyPiece {
         from,
         to,
-        bad: first_bad(image, job, from, from + good, to),
-        first: first_offset(image, job, from, to),
-        last: last_offset(image, job, from, from + good),
+        bad,
+        first,
+        last,
         staged,
     }
 }
@@ -91,13 +95,19 @@ fn entry_offset(image: &Image, job: &Checked, entry: u32) -> u16
     u16::from_le_bytes(bytes)
 }
 
-/// The offset of a chunk's first entry, where it has one and all bytes of it are present.
-fn first_offset(image: &Image, job: &Checked, from: u32, to: u32) -> Option<u16>
+/// The offset of a chunk's first entry, where it has one and all bytes of it are present: that of the first good one,
+/// if it has any.
+fn first_offset(image: &Image, job: &Checked, from: u32, to: u32, good: &[u8]) -> Option<u16>
     requires operation { op_of job.now ≡ Some ApplyDelta }
     requires order { from ≤ to }
     requires within { to ≤ job.now.delta_size / 10 }
+    requires good { good.now ≡ apply_staged image.now job.now from to }
     ensures { result ≡ apply_first image.now job.now from to }
 {
+    let _pages = image.pages(); // says what every image keeps
+    if good.len() >= 10 {
+        return Some(block_number(good, 0));
+    }
     if from == to {
         return None; // its address may be 2^64
     }
@@ -108,18 +118,16 @@ fn first_offset(image: &Image, job: &Checked, from: u32, to: u32) -> Option<u16>
     Some(entry_offset(image, job, from))
 }
 
-/// The offset of the last one of the entries from `from` up to `end`, if there is one.
-fn last_offset(image: &Image, job: &Checked, from: u32, end: u32) -> Option<u16>
-    requires operation { op_of job.now ≡ Some ApplyDelta }
-    requires order { from ≤ end }
-    requires within { end ≤ job.now.delta_size / 10 }
-    requires present { IsTrue (has_all image.now (job.now.source + 10 * from) (10 * (end - from))) }
-    ensures { result ≡ (if end == from then None else Some (delta.entry_offset image.now job.now (end - 1))) }
+/// The offset of the last one of some entries, if there is one.
+fn last_offset(entries: &[u8]) -> Option<u16>
+    ensures { result ≡ (if length entries.now / 10 == 0 then None
+        else Some (delta.block_number entries.now (length entries.now / 10 - 1))) }
 {
-    if end == from {
+    let count = entries.len() / 10;
+    if count == 0 {
         return None;
     }
-    Some(entry_offset(image, job, end - 1))
+    Some(block_number(entries, count - 1))
 }
 
 /// The entry behind a chunk's good ones, with its fault, if the chunk has it.

@@ -1,8 +1,7 @@
-ghost use Rattle.std.specs.Prelude.{◌≡◌, ◌+◌, ◌-◌, ◌*◌, ◌/◌, ◌<◌, ◌≤◌, ◌==◌, ◌++◌, false, None, Some, [], length, if◌then◌else◌, IsTrue};
+ghost use Rattle.std.specs.Prelude.{◌≡◌, ◌+◌, ◌-◌, ◌*◌, ◌/◌, ◌<◌, ◌≤◌, ◌==◌, ◌++◌, false, None, Some, [], length, if◌then◌else◌};
 ghost use Rattle.dml_arena.specs.Piece.{SamePlace};
 ghost use Rattle.dml_types.specs.declared.operations.Op.TheVariants.{CreateDelta};
 ghost use Rattle.dml_types.specs.Job.{op_of};
-ghost use Rattle.dml_types.specs.Memory.{has_all};
 ghost use Rattle.dml_types.specs.Delta.{block_fault, differs, block_entry, is_readable};
 ghost use Rattle.dml_types.specs.Delta as delta;
 ghost use Rattle.dml_types.specs.Chunk.{create_fault, create_staged};
@@ -50,33 +49,13 @@ pub fn scan_create<'a>(
     ensures place { SamePlace room.entry result.staged }
 {
     let mut staged = room;
-    let readable = readable_blocks(image, job, from, to);
-    stage_differing(image, job, from, readable, &mut staged);
+    let readable = stage_differing(image, job, from, to, &mut staged);
     CreatePiece {
         from,
         to,
         fault: fault_at(image, job, from + readable, to),
         staged,
     }
-}
-
-/// How many of the blocks come before the first with an absent byte in a source.
-fn readable_blocks(image: &Image, job: &Checked, from: u32, to: u32) -> u32
-    requires operation { op_of job.now ≡ Some CreateDelta }
-    requires order { from ≤ to }
-    requires within { to ≤ job.now.size / 8 }
-    ensures value { result ≡ delta.readable_blocks image.now job.now from to }
-    ensures within { result ≤ to - from }
-{
-    if from == to {
-        return 0; // its addresses may be 2^64
-    }
-    let job = job.job();
-    let first = 8 * u64::from(from);
-    let len = 8 * (to - from);
-    let in_source = image.present_bytes(job.source + first, len);
-    let in_target = image.present_bytes(job.target + first, len);
-    in_source.min(in_target) / 8
 }
 
 /// The block that is not readable, if it is one of those below `to`, with the address of its first absent byte.
@@ -100,28 +79,59 @@ fn fault_at(image: &Image, job: &Checked, block: u32, to: u32) -> Option<(u32, u
     Some((block, job.target + first + u64::from(in_target)))
 }
 
-/// Stages the entries of those of `count` readable blocks whose two contents differ.
-fn stage_differing(image: &Image, job: &Checked, from: u32, count: u32, room: &mut Region<'_>)
+/// Stages the entries of the blocks whose two contents differ, up to the first block with an absent byte in a source.
+/// Returns how many come before that one.
+fn stage_differing(image: &Image, job: &Checked, from: u32, to: u32, room: &mut Region<'_>) -> u32
     requires operation { op_of job.now ≡ Some CreateDelta }
-    requires within { from + count ≤ job.now.size / 8 }
-    requires source { IsTrue (has_all image.now (job.now.source + 8 * from) (8 * count)) }
-    requires target { IsTrue (has_all image.now (job.now.target + 8 * from) (8 * count)) }
-    requires fits { length room.old.bytes + 10 * count ≤ room.old.room }
+    requires order { from ≤ to }
+    requires within { to ≤ job.now.size / 8 }
+    requires fits { length room.old.bytes + 10 * (to - from) ≤ room.old.room }
+    ensures value { result ≡ delta.readable_blocks image.now job.now from to }
+    ensures within { result ≤ to - from }
     ensures place { SamePlace room.old room.new }
     ensures bytes { room.new.bytes ≡ room.old.bytes
-        ++ gathered (block_entry image.now job.now) (differs image.now job.now) from count }
+        ++ gathered (block_entry image.now job.now) (differs image.now job.now) from result }
+{
+    let mut entries = Entries::new();
+    let readable = add_readable(image, job, from, to, &mut entries, room);
+    entries.flush(room);
+    readable
+}
+
+/// Adds the entries of those blocks, a part of a page at a time: each is looked up once for each source.
+fn add_readable(
+    image: &Image,
+    job: &Checked,
+    from: u32,
+    to: u32,
+    entries: &mut Entries,
+    room: &mut Region<'_>,
+) -> u32
+    requires operation { op_of job.now ≡ Some CreateDelta }
+    requires order { from ≤ to }
+    requires within { to ≤ job.now.size / 8 }
+    requires fits { length room.old.bytes + length entries.old + 10 * (to - from) ≤ room.old.room }
+    ensures value { result ≡ delta.readable_blocks image.now job.now from to }
+    ensures within { result ≤ to - from }
+    ensures place { SamePlace room.old room.new }
+    ensures bytes { room.new.bytes ++ entries.new ≡ (room.old.bytes ++ entries.old)
+        ++ gathered (block_entry image.now job.now) (differs image.now job.now) from result }
 {
     let job = job.job();
-    let mut entries = Entries::new();
+    let count = to - from;
     let mut done = 0;
     while done < count {
         let first = 8 * u64::from(from + done);
         let left = 8 * (count - done);
-        let one = image.part(job.source + first, left);
-        let other = image.part(job.target + first, left);
+        let Some(one) = image.present_part(job.source + first, left) else {
+            return done;
+        };
+        let Some(other) = image.present_part(job.target + first, left) else {
+            return done;
+        };
         let len = one.len().min(other.len());
-        add_differing(&mut entries, &one[..len], &other[..len], from + done, room);
+        add_differing(entries, &one[..len], &other[..len], from + done, room);
         done += len as u32 / 8;
     }
-    entries.flush(room);
+    done
 }

@@ -2,8 +2,13 @@ use Rattle.std.proofs.Common.{◌≡◌, ℕ, ◌+◌, ◌*◌, ap₂, ◌∙◌
 use Rattle.dml_types.specs.declared.jobs.Job.{Job}
 use Rattle.dml_types.specs.Memory.{present_bytes}
 use Rattle.dml_delta.proofs.UnitLemmas.{all_counted, has_front}
+use Rattle.dml_delta.proofs.PieceLemmas.{first_of_good}
 use Rattle.dml_delta.proofs.RecordLemmas.{first_of_none, first_of_absent, first_of_present}
 use Rattle.dml_delta.proofs.applies.first_offset.Goals as goal
+
+pub returns-then-good-ge10 : goal.returns-then-good-ge10
+returns-then-good-ge10 c =
+    first_of_good c.args.image.now c.args.job.now c.args.from c.args.to c.pages-pages.ensures.memory.whole c.args.good.now c.requires.good c.block_number.result (omega (arith, c.if-good-ge10.true)) c.block_number.ensures
 
 pub returns-then-from-to : goal.returns-then-from-to
 returns-then-from-to c = first_of_none c.args.image.now c.args.job.now c.args.from c.args.to c.if-from-to.true

@@ -32,7 +32,7 @@ fill_made memory job n bytes =
     ∙ sym (ap (put memory job.target) (ap (pattern_bytes job.source) nothing ∙ sym (pattern_bytes_none job.source)) ∙ put_nil memory job.target))
     (cases_lt 0 n)
 
-by_offsets : (job : Job) → op_of job ≡ Some Fill → GoesByOffsets job
+pub by_offsets : (job : Job) → op_of job ≡ Some Fill → GoesByOffsets job
 by_offsets job is = (λ (e : op_of job ≡ Some CreateDelta). absurd (cc), λ (e : op_of job ≡ Some ApplyDelta). absurd (cc))
 
 module _ (memory : Memory) (job given : Job) (answer : Record) (same : given ≡ job) (checked : IsChecked job) (operation : op_of job ≡ Some Fill) (here : has_all memory given.target given.size ≡ true) (told : answer ≡ scanned_record Fill given Forward All) where

@@ -3,6 +3,7 @@ pub mod ApplyChunkLemmas
 pub mod BatchLemmas
 pub mod ChunkLemmas
 pub mod ChunkListLemmas
+pub mod CompareLemmas
 pub mod CreateChunkLemmas
 pub mod CreateJoinLemmas
 pub mod CreatedLemmas

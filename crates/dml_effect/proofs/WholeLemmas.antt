@@ -366,7 +366,7 @@ idle_done_whole memory op job direction k bytes other none nothing =
     either true = refl
     either false = none
 
-puts_compared : (op : Op) (memory : Memory) (job : Job) → (compared op memory job).puts ≡ []
+pub puts_compared : (op : Op) (memory : Memory) (job : Job) → (compared op memory job).puts ≡ []
 unfolding compared
 puts_compared op memory job = refl
 

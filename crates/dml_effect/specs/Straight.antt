@@ -3,7 +3,7 @@ use Rattle.std.specs.Prelude.{◌≡◌, ◌⊎◌, ℕ, ◌<◌, ◌≤◌, Non
 use Rattle.dml_types.specs.declared.findings.Found.{Found}
 use Rattle.dml_types.specs.declared.jobs.Job.{Job}
 use Rattle.dml_types.specs.declared.operations.Op.{Op}
-use Rattle.dml_types.specs.declared.operations.Op.TheVariants.{ApplyDelta, Compare, ComparePattern, CreateDelta, Fill}
+use Rattle.dml_types.specs.declared.operations.Op.TheVariants.{ApplyDelta, Compare, ComparePattern, CreateDelta}
 use Rattle.dml_types.specs.Chunk.{scan_found, scan_size}
 use Rattle.dml_types.specs.Job.{op_of}
 use Rattle.dml_types.specs.Memory.{Memory}
@@ -17,10 +17,8 @@ abbrev pub TakesStaging : Job → ℕ → Type 0
 TakesStaging job staging =
     IsDelta job × (refusal job staging ≡ None) × (0 < need job) × (need job ≤ staging)
 
--- a fill or a compare
-abbrev pub IsScanned : Job → Type 0
-IsScanned job =
-    (op_of job ≡ Some Fill) ⊎ (op_of job ≡ Some Compare) ⊎ (op_of job ≡ Some ComparePattern)
+abbrev pub IsCompare : Job → Type 0
+IsCompare job = (op_of job ≡ Some Compare) ⊎ (op_of job ≡ Some ComparePattern)
 
 -- how the scan of a whole job ends
 abbrev pub IsWholeFound : Memory → Job → Found → Type 0

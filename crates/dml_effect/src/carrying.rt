@@ -1,7 +1,6 @@
 //! Jobs carried out on an image, each as one chunk.
 ghost use Rattle.std.specs.Prelude.{◌≡◌, ◌≢◌, ◌↔◌, ◌⊎◌, ◌<◌, ◌≤◌, ℕ, List, [], None, Some, IsTrue};
-ghost use Rattle.dml_types.specs.declared.operations.Op.TheVariants.{Compare, ComparePattern, Dualcast, Fill, Move};
-ghost use Rattle.dml_types.specs.declared.operations.Op.TheVariants.{ApplyDelta, CreateDelta};
+ghost use Rattle.dml_types.specs.declared.operations.Op.TheVariants.{ApplyDelta, CreateDelta, Dualcast, Fill, Move};
 ghost use Rattle.dml_types.specs.Job.{op_of, unfenced};
 ghost use Rattle.dml_types.specs.Memory.{puts_made};
 ghost use Rattle.dml_types.specs.Refusal.{need, refusal};
@@ -10,12 +9,12 @@ ghost use Rattle.dml_desc.specs.Checked.{checked_step};
 ghost use Rattle.dml_types.specs.declared.operations.Direction.TheVariants.{Forward};
 ghost use Rattle.dml_effect.specs.Effects.{are_present, puts_of};
 ghost use Rattle.dml_effect.specs.Joined as joined;
-ghost use Rattle.dml_effect.specs.Straight.{IsDelta, IsScanned, IsWholeFound, TakesStaging};
+ghost use Rattle.dml_effect.specs.Straight.{IsCompare, IsDelta, IsWholeFound, TakesStaging};
 
 use crate::applying::{self, join_apply};
 use crate::creating::{self, join_create};
 use crate::effects::{Effect, Puts, commit};
-use crate::records::{by_fields, copied_record, ended, scanned_record};
+use crate::records::{by_fields, compared_record, copied_record, ended, scanned_record};
 use dml_arena::{Arena, Region};
 use dml_delta::{scan_apply, scan_create};
 use dml_desc::{Checked, check, check_in_batch};
@@ -170,7 +169,8 @@ fn carry_out_other_straight(image: &mut Image, job: &Checked) -> Record
         Op::Move => unreachable!(),
         Op::Dualcast => by_fields(dualcast_straight(image, job)),
         Op::Fill => by_fields(fill_straight(image, job)),
-        _ => carry_out_effect(image, job),
+        Op::Compare | Op::ComparePattern => by_fields(compare_straight(image, job)),
+        Op::CreateDelta | Op::ApplyDelta => carry_out_effect(image, job),
     }
 }
 
@@ -189,17 +189,40 @@ fn fill_straight(image: &mut Image, job: &Checked) -> Record
     carry_out_effect(image, job)
 }
 
-/// Carries out a fill, a compare, or an empty create or apply, apart from the jobs that have no effect to commit.
+/// Carries out a compare, which changes nothing.
+#[inline(never)]
+fn compare_straight(image: &Image, job: &Checked) -> Record
+    requires operation { IsCompare job.now }
+    ensures image { image.now ≡ (checked_step image.now job.now).0 }
+    ensures answer { result ≡ (checked_step image.now job.now).1 }
+{
+    let found = whole_found(image, job);
+    compared_record(job.job(), found)
+}
+
+/// How the scan of a whole compare ends.
+fn whole_found(image: &Image, job: &Checked) -> Found
+    requires operation { IsCompare job.now }
+    ensures { IsWholeFound image.now job.now result }
+{
+    let size = job.job().size;
+    match job.op() {
+        Op::Compare => compare_found(image, job, 0, size),
+        _ => compare_pattern_found(image, job, 0, size),
+    }
+}
+
+/// Carries out a fill that does not lie in one page, or an empty create or apply.
 #[inline(never)]
 fn carry_out_effect(image: &mut Image, job: &Checked) -> Record
-    requires operation { IsDelta job.now ⊎ IsScanned job.now }
+    requires operation { IsDelta job.now ⊎ (op_of job.now ≡ Some Fill) }
     requires staging { IsDelta job.now → need job.now ≡ 0 }
     ensures image { image.new ≡ (checked_step image.old job.now).0 }
     ensures answer { result ≡ (checked_step image.old job.now).1 }
 {
     let effect = match job.op() {
         Op::CreateDelta | Op::ApplyDelta => empty_in(image, job),
-        _ => scan_in(image, job),
+        _ => fill_in(image, job),
     };
     by_fields(commit(image, effect))
 }
@@ -274,41 +297,26 @@ fn dualcast_straight(image: &mut Image, job: &Checked) -> Record
     answer
 }
 
-/// The effect of a whole fill or compare, which stages nothing.
-fn scan_in<'a>(image: &Image, job: &Checked) -> Effect<'a>
-    requires operation { IsScanned job.now }
+/// The effect of a whole fill, which stages nothing.
+fn fill_in<'a>(image: &Image, job: &Checked) -> Effect<'a>
+    requires operation { op_of job.now ≡ Some Fill }
     ensures answer { result.answer ≡ (checked_step image.now job.now).1 }
     ensures image { puts_made image.now result.puts ≡ (checked_step image.now job.now).0 }
     ensures present { IsTrue (are_present image.now result.puts) }
 {
     let _pages = image.pages(); // says what every image keeps
-    let found = whole_found(image, job);
-    let op = job.op();
-    let job = job.job();
-    let answer = scanned_record(op, job, Direction::Forward, found);
-    let puts = scanned_puts(op, job, answer.completed);
+    let given = job.job();
+    let found = fill_found(image, job, 0, given.size);
+    let answer = scanned_record(Op::Fill, given, Direction::Forward, found);
+    let puts = filled_puts(given, answer.completed);
     Effect { answer, puts }
 }
 
-/// How the scan of a whole fill or compare ends.
-fn whole_found(image: &Image, job: &Checked) -> Found
-    requires operation { IsScanned job.now }
-    ensures { IsWholeFound image.now job.now result }
+/// The puts of a fill that did `done` bytes of its range.
+fn filled_puts<'a>(job: &Job, done: u32) -> Puts<'a>
+    ensures { (bytes : List ℕ) → puts_of result ≡ joined.scanned_puts Fill job.now Forward done bytes }
 {
-    let size = job.job().size;
-    match job.op() {
-        Op::Compare => compare_found(image, job, 0, size),
-        Op::ComparePattern => compare_pattern_found(image, job, 0, size),
-        _ => fill_found(image, job, 0, size),
-    }
-}
-
-/// The puts of a fill or a compare that did `done` bytes of its range.
-fn scanned_puts<'a>(op: Op, job: &Job, done: u32) -> Puts<'a>
-    requires { (op ≡ Fill) ⊎ (op ≡ Compare) ⊎ (op ≡ ComparePattern) }
-    ensures { (bytes : List ℕ) → puts_of result ≡ joined.scanned_puts op job.now Forward done bytes }
-{
-    if op == Op::Fill && done > 0 {
+    if done > 0 {
         Puts::Pattern {
             addr: job.target,
             len: done,

@@ -94,13 +94,14 @@ repeated() {
 # ends_of KEY: the steps at which such a test ends: those of a row whose lists grow, and then its last fetch, whose plan
 # takes several growths. A submit in front of a fetch that is not allowed is taken back before, and grows its list again
 # behind the plan. The list of a client that submits one job after another from step 1 on holds 4 jobs at first,
-# and then twice as many each time. A row of 2,048 steps has one plan; a fetch behind it has its own.
+# and then twice as many each time. A row of 2,048 steps has one plan; a fetch behind it has its own, for whose places
+# there is room then.
 ends_of() {
     doubling='0 1 5 9 17 33 65 129 257 513 1025'
     case $1 in
         dml_core:refused_row) echo 0 1 5 6 $(repeated 15 7) ;;
         dml_core:refused_longest_row) echo $doubling $(repeated 10 2047) ;;
-        dml_core:refused_longer_row) echo $doubling $(repeated 10 2047) $(repeated 10 2048) ;;
+        dml_core:refused_longer_row) echo $doubling $(repeated 10 2047) $(repeated 9 2048) ;;
         dml_core:refused_cut_row) echo 0 2 $(repeated 10 1) 2 ;;
         *) echo none ;;
     esac

@@ -13,6 +13,7 @@ use Rattle.dml_core.specs.declared.errors.StepFault.TheVariants.{NotAllowed}
 use Rattle.dml_core.specs.Replay.{StopsAt}
 use Rattle.dml_core.specs.World.{Kept, World, after, is_allowed, is_empty, no_hand, Reaches}
 use Rattle.dml_core.specs.Gather.{Lists, lists, lists_of, is_fetch, is_idle, may_join, next_of, grown, shorter, ungrown, AreGathered, FetchesAt, IsRefused, NoneFetches, gathered, is_of_row}
+use Rattle.dml_core.proofs.OpenLemmas.{IsLonger, pushed_longer}
 use Rattle.dml_core.proofs.ReplayLemmas.{reaches_append, reaches_first, replay_refused}
 use Rattle.dml_core.proofs.StepFacts.{world}
 
@@ -88,6 +89,26 @@ pub gather_more : (first now next : Lists) (steps : List Step) (i : ℕ) (d : St
 gather_more first now next steps i d below before may is =
     subst (λ (list : List Step). AreGathered first list next) (sym (take_more steps i d below))
     (gathered_more (take i steps) first now next (get_or steps i d) before may is)
+
+-- the entries that were there stand in front
+same_longer : (fetched : List Fetched) → IsLonger fetched fetched
+same_longer fetched = (omega arith, λ i below. refl)
+
+longer_twice : (old mid new : List Fetched) → IsLonger old mid → IsLonger mid new → IsLonger old new
+longer_twice old mid new first second =
+    (omega (arith, first.0, second.0), λ i below. second.1 i (omega (arith, below, first.0)) ∙ first.1 i below)
+
+grown_longer : (now : Lists) (s : Step) → IsLonger now.fetched (grown now s).fetched
+grown_longer now (Submit client job) = same_longer now.fetched
+grown_longer now (Fetch client) = pushed_longer now.fetched _
+grown_longer now (Take worker) = same_longer now.fetched
+grown_longer now (Finish worker) = same_longer now.fetched
+grown_longer now Commit = same_longer now.fetched
+
+pub gathered_longer : (steps : List Step) (first last : Lists) → AreGathered first steps last → IsLonger first.fetched last.fetched
+gathered_longer [] first last all = subst (λ (l : Lists). IsLonger first.fetched l.fetched) all (same_longer first.fetched)
+gathered_longer (s ∷ steps) first last all =
+    longer_twice first.fetched (grown first s).fetched last.fetched (grown_longer first s) (gathered_longer steps (grown first s) last all.1)
 
 -- taken back
 shorter_push : {X : Type 0} (xs : List X) (x : X) → shorter (xs ++ x ∷ []) ≡ xs

@@ -7,9 +7,12 @@ pub mod KeepsLemmas
 pub mod WaveLemmas
 pub mod LoopLemmas
 pub mod PlanFacts
+pub mod FewWaves
 pub mod StepFacts
+pub mod HandLemmas
 pub mod ReplayLemmas
 pub mod CountLemmas
+pub mod OpenLemmas
 pub mod GatherLemmas
 pub mod RoundLemmas
 pub mod JoinFacts

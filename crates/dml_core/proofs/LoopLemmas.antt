@@ -1,5 +1,6 @@
 -- One step of a loop.
-use Rattle.std.proofs.Common.{◌≡◌, ℕ, ◌+◌, ◌<◌, Bool, true, false, cond, List, [], ◌∷◌, ◌++◌, length, get_or, map, filter, take, refl, sym, ◌∙◌, ap}
+use Rattle.std.proofs.Common.{◌≡◌, ℕ, ◌+◌, ◌-◌, ◌<◌, ◌≤◌, Bool, true, false, cond, List, [], ◌∷◌, ◌++◌, length, get_or, map, filter, take, refl, sym, ◌∙◌, ap, arith}
+use Rattle.std.proofs.Math.Seq.{take-append_seam}
 use Rattle.std.proofs.lemmas.List.{append_assoc, append-nil, map-append, map_more, take_more}
 use Rattle.std.proofs.lemmas.List.Elements.{filter-append}
 use Rattle.std.proofs.lemmas.List.Concat.{flat_map-append}
@@ -9,6 +10,7 @@ use Rattle.dml_types.specs.Job.{no_op_job}
 use Rattle.dml_types.specs.Refusal.{refusal}
 use Rattle.dml_desc.specs.Checked.{operation_of}
 use Rattle.dml_order.proofs.LevelLemmas.{range_more}
+use Rattle.dml_order.proofs.OrderLemmas.{range_split}
 use Rattle.dml_levels.specs.Laws.{unless_refused}
 use Rattle.dml_levels.specs.Waves.{job_at}
 use Rattle.dml_core.specs.Types.{Job, Task}
@@ -16,6 +18,15 @@ use Rattle.dml_core.specs.Plan.{chunks_of, task_for, chunk_tasks, tasks_of}
 
 pub kept_more : (p : ℕ → Bool) (n : ℕ) → filter p (range_with_len 0 (n + 1)) ≡ filter p (range_with_len 0 n) ++ cond (p n) (n ∷ []) []
 kept_more p n = ap (filter p) (range_more n) ∙ filter-append p (range_with_len 0 n) (n ∷ [])
+
+pub kept_front : (p : ℕ → Bool) (from n : ℕ) → from ≤ n → take (length (filter p (range_with_len 0 from))) (filter p (range_with_len 0 n)) ≡ filter p (range_with_len 0 from)
+kept_front p from n low =
+    let front = filter p (range_with_len 0 from) in
+    let rest = filter p (range_with_len (0 + from) (n - from)) in
+    let whole : filter p (range_with_len 0 n) ≡ front ++ rest =
+    ap (λ k. filter p (range_with_len 0 k)) (let e : n ≡ from + (n - from) = omega (arith, low) in e)
+    ∙ (ap (filter p) (range_split 0 from (n - from)) ∙ filter-append p (range_with_len 0 from) (range_with_len (0 + from) (n - from))) in
+    ap (take (length front)) whole ∙ take-append_seam front rest
 
 pub chunks_more : (list before : List Task) (place size last k : ℕ) → list ≡ before ++ map (task_for place size last) (range_with_len 0 k) → list ++ task_for place size last k ∷ [] ≡ before ++ map (task_for place size last) (range_with_len 0 (k + 1))
 chunks_more list before place size last k is =

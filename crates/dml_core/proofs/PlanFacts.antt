@@ -100,7 +100,7 @@ levels_unfenced staging f places jobs is =
     sym (first_levels jobs (length jobs) (omega arith) (λ k above below. ap (λ (list : List Job). is_fenced (job_at list k)) is ∙ none_fenced staging f places k))
     ∙ ap levels (take_all (length jobs - 0) jobs (omega arith))
 
-few_kept : (p : ℕ → Bool) (xs : List ℕ) → length (filter p xs) ≤ length xs
+pub few_kept : (p : ℕ → Bool) (xs : List ℕ) → length (filter p xs) ≤ length xs
 few_kept p [] = omega arith
 few_kept p (x ∷ xs) =
     elim (p x) as (λ b. length (cond b (x ∷ filter p xs) (filter p xs)) ≤ suc (length xs)) [

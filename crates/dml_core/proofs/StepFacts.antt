@@ -1,17 +1,17 @@
 -- What the steps of the code rest on.
-use Rattle.std.proofs.Common.{◌≡◌, ℕ, ◌+◌, ◌<◌, ◌≤◌, Bool, true, false, not, cond, List, [], ◌∷◌, ◌++◌, length, get_or, filter, map, take, drop, sym, ◌∙◌, ap, arith, Option, None, Some}
-use Rattle.std.proofs.lemmas.List.{length-append, length-map, length_push, nil_from_length, length-drop, drop-drop, drop_all, get_or-drop, take_all, get_or_append_left}
+use Rattle.std.proofs.Common.{◌≡◌, ℕ, ◌+◌, ◌<◌, ◌≤◌, All, Bool, true, false, not, cond, List, [], ◌∷◌, ◌++◌, length, get_or, filter, map, drop, set, subst, sym, ◌∙◌, ap, arith, Option, None, Some}
+use Rattle.std.proofs.lemmas.List.{length-append, length-map, length_push, nil_from_length, length-drop, drop-drop, drop_all, get_or-drop, get_or_append_left}
 use Rattle.std.proofs.Math.Seq.{get_or-append_seam}
-use Rattle.std.proofs.lemmas.List.Elements.{filter_more}
+use Rattle.std.proofs.lemmas.List.Elements.{All-nil, All-set}
 use Rattle.std.proofs.lemmas.Bool.{and_from, and_parts, eq-eqb, eqb-true, ne_eqb}
-use Rattle.std.specs.Prelude.{nat_eq, is_none, ◌&&◌}
+use Rattle.std.specs.Prelude.{is_none, ◌&&◌}
 use Rattle.std.specs.List.{list_all, range_with_len}
 use Rattle.dml_order.specs.Order.{run_all}
 use Rattle.dml_order.proofs.OrderLemmas.{filter_range_same}
 use Rattle.dml_types.specs.Memory.{Memory}
 use Rattle.dml_core.specs.Types.{Job, Settings, Fetched, Task, Fetch, Commit}
 use Rattle.dml_core.specs.Plan.{no_entry, jobs_of, is_open, open_places, plan_of, tasks_of}
-use Rattle.dml_core.specs.World.{Kept, World, Progress, after, carry_out, new_entry, is_empty, next_job, part_of, progress, wave_at}
+use Rattle.dml_core.specs.World.{Kept, World, Progress, after, carry_out, new_entry, is_empty, next_job, progress, wave_at}
 use Rattle.dml_core.proofs.FoldLemmas.{jobs_stay}
 use Rattle.dml_core.proofs.LoopLemmas.{kept_more}
 
@@ -26,18 +26,6 @@ one_more xs false x = let cut = length-append xs [] in omega (arith, cut)
 at_most_one : (b : Bool) → cond b 1 0 ≤ 1
 at_most_one true = omega arith
 at_most_one false = omega arith
-
-pub part_counted : (fetched : List Fetched) (client i : ℕ) (entry : Fetched) → i < length fetched → entry ≡ get_or fetched i entry → length (part_of client (take (i + 1) fetched)) ≡ length (part_of client (take i fetched)) + cond (nat_eq entry.client client) 1 0
-part_counted fetched client i entry below here =
-    ap length (filter_more (λ (e : Fetched). nat_eq e.client client) fetched i entry below)
-    ∙ (one_more (part_of client (take i fetched)) (nat_eq (get_or fetched i entry).client client) (get_or fetched i entry)
-    ∙ ap (λ (e : Fetched). length (part_of client (take i fetched)) + cond (nat_eq e.client client) 1 0) (sym here))
-
-pub part_all : (fetched : List Fetched) (client i : ℕ) → length fetched ≤ i → part_of client (take i fetched) ≡ part_of client fetched
-part_all fetched client i past = ap (part_of client) (take_all i fetched past)
-
-pub open_counted : (fetched : List Fetched) (i : ℕ) → length (filter (is_open fetched) (range_with_len 0 (i + 1))) ≡ length (filter (is_open fetched) (range_with_len 0 i)) + cond (is_open fetched i) 1 0
-open_counted fetched i = ap length (kept_more (is_open fetched) i) ∙ one_more (filter (is_open fetched) (range_with_len 0 i)) (is_open fetched i) i
 
 -- one entry more opens one place at most
 pub opened_more : (fetched : List Fetched) (entry : Fetched) → length (open_places (fetched ++ entry ∷ [])) ≤ length (open_places fetched) + 1
@@ -77,6 +65,12 @@ next_tasks fetched before after staging chunk places wave done same =
 
 pub waves_left : (waves : List (List ℕ)) (committed : ℕ) → drop 1 (drop committed waves) ≡ drop (committed + 1) waves
 waves_left waves committed = drop-drop 1 committed waves
+
+-- a wave that is forgotten has no place outside
+pub forgotten_inside : (waves : List (List ℕ)) (i n m : ℕ) (wave : List ℕ) → wave ≡ [] → m ≡ n → All (All (λ k. k < n)) waves → All (All (λ k. k < m)) (set waves i wave)
+forgotten_inside waves i n m wave none same inside =
+    subst (λ (size : ℕ). All (All (λ k. k < size)) (set waves i wave)) (sym same)
+    (All-set (All (λ k. k < n)) waves i wave (subst (All (λ k. k < n)) (sym none) (All-nil (λ k. k < n))) inside)
 
 -- the world that a commit leaves, by the fields of the code
 pub commit_view : (settings : Settings) (image : Memory) (sent : List (List Job)) (fetched : List Fetched) (waves : List (List ℕ)) (committed : ℕ) (to_do : List Task) (hands : List (Option Task)) (finished : List Kept) (new_image : Memory) (new_fetched : List Fetched) (tasks : List Task) (wave : List ℕ) → progress new_image new_fetched ≡ run_all (carry_out settings.staging) (progress image fetched) wave → wave ≡ get_or waves committed [] → tasks ≡ tasks_of (jobs_of fetched) settings.staging settings.chunk (get_or waves (committed + 1) []) → world settings new_image sent new_fetched (drop (committed + 1) waves) tasks hands [] ≡ after (world settings image sent fetched (drop committed waves) to_do hands finished) Commit

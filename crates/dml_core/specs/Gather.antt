@@ -1,8 +1,9 @@
 -- Submits and fetches in a row, with one plan behind the last of them: the lists that they make longer, and the
 -- world that they leave.
-use Rattle.std.specs.Prelude.{◌≡◌, ℕ, ◌-◌, ◌<◌, ◌≤◌, Bool, true, false, ◌&&◌, ◌||◌, IfSome, List, [], ◌∷◌, ◌++◌, Option, None, length, is_some, if◌then◌else◌, nat_lt, slice_get, slice_index_or, slice_set, take}
-use Rattle.dml_core.specs.Types.{Job, Fetched, Step, Submit, Fetch}
-use Rattle.dml_core.specs.Plan.{open_places, plan_of}
+use Rattle.std.specs.Prelude.{◌≡◌, ℕ, ◌+◌, ◌-◌, ◌<◌, ◌≤◌, All, Bool, true, false, ◌&&◌, ◌||◌, IfSome, List, [], ◌∷◌, ◌++◌, Option, filter, length, is_some, if◌then◌else◌, map, nat_lt, slice_get, slice_index, slice_index_or, slice_set, take}
+use Rattle.std.specs.List.{range_with_len}
+use Rattle.dml_core.specs.Types.{Job, Fetched, Task, Step, Submit, Fetch}
+use Rattle.dml_core.specs.Plan.{is_open, open_places, plan_of}
 use Rattle.dml_core.specs.World.{World, is_allowed, is_empty, new_entry, no_hand, part_of, set_out}
 
 -- what the clients sent, and what was fetched
@@ -20,9 +21,32 @@ lists_of w = lists w.sent w.fetched
 abbrev pub next_of : List (List Job) → List Fetched → ℕ → Option Job
 next_of sent fetched client = slice_get (slice_index_or sent client []) (length (part_of client fetched))
 
--- where a client's count is kept, so many of its jobs were fetched
-pub record AreParts (parts : List (Option ℕ)) (fetched : List Fetched) : Type 0 where
-  pub each : (client : ℕ) → IfSome (slice_index_or parts client None) (λ count. count ≡ length (part_of client fetched))
+-- what a client sent, and a count of these jobs
+pub record Counted : Type 0 where
+  pub jobs : List Job
+  pub count : ℕ
+
+abbrev pub counted : List Job → ℕ → Counted
+counted jobs count = record { jobs = jobs; count = count }
+
+-- of each client in turn
+abbrev pub jobs_sent : List Counted → List (List Job)
+jobs_sent sent = map (λ own. own.jobs) sent
+
+abbrev pub counts_of : List Counted → List ℕ
+counts_of sent = map (λ own. own.count) sent
+
+abbrev pub listed : List Counted → List Fetched → Lists
+listed sent fetched = lists (jobs_sent sent) fetched
+
+-- of each client that is counted so many jobs were fetched
+pub record AreParts (parts : List ℕ) (fetched : List Fetched) : Type 0 where
+  pub each : (client : ℕ) → client < length parts → slice_index parts client ≡ length (part_of client fetched)
+
+-- places of the fetched list, of which the open ones are all that are open below a place
+pub record HoldOpen (places : List ℕ) (fetched : List Fetched) (below : ℕ) : Type 0 where
+  pub inside : All (λ i. i < length fetched) places
+  pub open_ones : filter (is_open fetched) places ≡ filter (is_open fetched) (range_with_len 0 below)
 
 abbrev pub is_fetch : Step → Bool
 is_fetch (Fetch client) = true
@@ -61,6 +85,11 @@ fetch_follows clients (s ∷ steps) = is_fetch s || (is_sent clients s && fetch_
 -- the step behind so many is not allowed
 abbrev pub IsRefused : World → List Step → ℕ → Type 0
 IsRefused w steps taken = (taken < length steps) × IfSome (slice_get steps taken) (λ s. is_allowed w s ≡ false)
+
+-- how many tasks are in hand
+abbrev pub in_hands : List (Option Task) → ℕ
+in_hands [] = 0
+in_hands (hand ∷ hands) = (if is_some hand then 1 else 0) + in_hands hands
 
 -- no task is in hand or finished
 abbrev pub is_idle : World → Bool

@@ -1,17 +1,17 @@
 //! Submits and fetches in a row, with one plan behind the last of them.
 ghost use Rattle.std.specs.Prelude.{◌≡◌, ◌⊎◌, ℕ, ◌||◌, ◌&&◌, ◌+◌, ◌-◌, ◌≤◌, ◌<◌, IfErr, IfOk, IfSome, OnSome, Some, drop, false, is_some, length, nat_lt, not, slice_get, slice_index_or, slice_set, take, true, []};
 ghost use Rattle.dml_core.specs.Plan.{open_places};
-ghost use Rattle.dml_core.specs.World.{Reaches, World, part_of};
+ghost use Rattle.dml_core.specs.World.{Reaches, World};
 ghost use Rattle.dml_core.specs.Replay.{StopsAt};
 ghost use Rattle.dml_core.specs.Types.{Fetch};
-ghost use Rattle.dml_core.specs.Gather.{AreGathered, AreParts, EndsWithLastFetch, FetchesAt, IsRefused, Lists, NoneFetches, fetch_follows, gathered, grown, is_idle, lists, may_fetch, may_join, more_fetched, more_sent, next_of, shorter, ungrown};
+ghost use Rattle.dml_core.specs.Gather.{AreGathered, AreParts, EndsWithLastFetch, FetchesAt, IsRefused, Lists, NoneFetches, fetch_follows, counts_of, gathered, grown, is_idle, jobs_sent, listed, may_fetch, may_join, more_fetched, more_sent, next_of, shorter, ungrown};
 ghost use Rattle.dml_core.specs.Gather as word;
 
-use crate::counts::{count_one, first_count, next_counted};
+use crate::counts::{count_one, next_counted, uncount_one};
 use crate::errors::StepFault;
 use crate::lists::SentJobs;
 use crate::rooms::Rooms;
-use crate::stepping::{MAX_OPEN, Next, Outset, Refusal, one_if, set_out};
+use crate::stepping::{MAX_OPEN, Outset, Refusal, one_if, set_out};
 use crate::values::{Fetched, Step};
 use crate::worlds::World;
 use dml_types::Job;
@@ -96,19 +96,18 @@ impl World {
         };
         self.forget_committed();
         let most = steps.len().min(MOST_STEPS);
-        self.gather_row(alloc, client, &next, &steps[..most])
+        self.gather_row(alloc, next.open_jobs, &steps[..most])
     }
 
-    /// Takes submits and fetches, as far as they can be taken, up to the last fetch. Of the client of the first it is
-    /// known what is next. Only the plan behind the last fetch is made, since each fetch plans all open jobs anew; by
-    /// then the lists hold no more than they do behind that fetch. Where the allocator has no memory left for it, the
-    /// steps are taken back, and the room that the lists grew by.
-    fn gather_row(&mut self, alloc: Global, client: u32, next: &Next, steps: &[Step]) -> Turn
+    /// Takes submits and fetches, as far as they can be taken, up to the last fetch. So many of the fetched jobs are
+    /// open. Only the plan behind the last fetch is made, since each fetch plans all open jobs anew; by then the lists
+    /// hold no more than they do behind that fetch. Where the allocator has no memory left for it, the steps are taken
+    /// back, and the room that the lists grew by.
+    fn gather_row(&mut self, alloc: Global, open_jobs: usize, steps: &[Step]) -> Turn
         requires some { 0 < length steps.now }
         requires fetch { FetchesAt steps.now 0 }
         requires idle { is_idle self.old ≡ true }
-        requires part { next.now.part ≡ length (part_of client self.old.fetched) }
-        requires open_jobs { next.now.open_jobs ≡ length (open_places self.old.fetched) }
+        requires open_jobs { open_jobs ≡ length (open_places self.old.fetched) }
         ensures within { result.taken + result.alone ≤ length steps.now }
         ensures onward { result.is_refused ≡ false → 0 < result.taken + result.alone }
         ensures reached { Reaches self.old (take result.taken steps.now) self.new }
@@ -117,24 +116,18 @@ impl World {
         ensures tried { result.taken ≡ 0 → 0 < result.tried
             → EndsWithLastFetch (take result.tried steps.now) result.alone }
     {
-        let mut parts = first_count(client, next.part);
+        let from = self.fetched.len();
         let before = Rooms::of(&self.sent, &self.fetched);
         let mut rooms = before;
         let row = push_steps(
             &mut self.sent,
             &mut self.fetched,
-            next.open_jobs,
-            &mut parts,
+            open_jobs,
             &mut rooms,
             steps,
         );
         if row.count == 0 {
-            return Turn {
-                taken: 0,
-                alone: 1,
-                tried: one_if(row.wants_memory),
-                is_refused: false,
-            };
+            return Turn::first_alone(row.wants_memory);
         }
         let end = end_with_fetch(
             &mut self.sent,
@@ -142,12 +135,13 @@ impl World {
             &rooms,
             &steps[..row.count],
         );
-        match set_out(alloc, self.fetched.as_slice(), &self.settings) {
+        match set_out(alloc, &mut self.places, &self.fetched, from, &self.settings) {
             Ok(Outset { waves, tasks }) => {
                 self.waves = waves;
                 self.committed = 0;
                 self.tasks = tasks;
                 self.taken = 0;
+                self.finished = 0;
                 row.planned(end)
             }
             Err(_) => {
@@ -199,6 +193,21 @@ impl Turn {
             alone: 0,
             tried: 0,
             is_refused: true,
+        }
+    }
+
+    /// No step was taken. The first is to be taken by itself, and it may have been tried in vain.
+    fn first_alone(is_tried: bool) -> Turn
+        ensures taken { result.taken ≡ 0 }
+        ensures alone { result.alone ≡ 1 }
+        ensures tried { result.tried ≤ 1 }
+        ensures is_refused { result.is_refused ≡ false }
+    {
+        Turn {
+            taken: 0,
+            alone: 1,
+            tried: one_if(is_tried),
+            is_refused: false,
         }
     }
 
@@ -289,30 +298,30 @@ fn fetch_from(clients: usize, steps: &[Step], from: usize) -> usize
 }
 
 /// Makes the lists of an idle world longer by the steps, which begin with a fetch, up to the first that cannot be
-/// taken, or that no fetch follows. So many of the fetched jobs are open, and so many each client's; each fetch counts
-/// one more, so they are counted once at most. Where submits follow a fetch, the room that the lists have is noted.
+/// taken, or that no fetch follows. So many of the fetched jobs are open; each fetch counts one more, and one more of
+/// its client. Where submits follow a fetch, the room that the lists have is noted.
 fn push_steps(
     sent: &mut Vec<SentJobs>,
     fetched: &mut Vec<Fetched>,
     open_jobs: usize,
-    parts: &mut [Option<usize>],
     rooms: &mut Rooms,
     steps: &[Step],
 ) -> Row
     requires open_jobs { open_jobs ≡ length (open_places fetched.old.items) }
-    requires parts { AreParts parts.old fetched.old.items }
+    requires parts { AreParts (counts_of sent.old.items) fetched.old.items }
     requires fetch { FetchesAt steps.now 0 }
     ensures within { result.count ≤ length steps.now }
     ensures stops { result.count ≡ length steps.now → (result.wants_memory || result.is_refused) ≡ false }
     ensures wants_memory { IfSome (slice_get steps.now result.count) (λ step. result.wants_memory
-        ≡ (may_join (lists sent.new.items fetched.new.items) step
+        ≡ (may_join (listed sent.new.items fetched.new.items) step
         && fetch_follows (length sent.old.items) (drop result.count steps.now))) }
     ensures refused { IfSome (slice_get steps.now result.count) (λ step. result.is_refused
-        ≡ (word.is_of_row step && not (may_join (lists sent.new.items fetched.new.items) step))) }
+        ≡ (word.is_of_row step && not (may_join (listed sent.new.items fetched.new.items) step))) }
     ensures last { 0 < result.count → (result.wants_memory || result.is_refused) ≡ false
         → FetchesAt steps.now (result.count - 1) }
-    ensures gathered { AreGathered (lists sent.old.items fetched.old.items) (take result.count steps.now)
-        (lists sent.new.items fetched.new.items) }
+    ensures gathered { AreGathered (listed sent.old.items fetched.old.items) (take result.count steps.now)
+        (listed sent.new.items fetched.new.items) }
+    ensures parts { AreParts (counts_of sent.new.items) fetched.new.items }
     ensures few { 0 < result.count → length (open_places fetched.new.items) ≤ 1024 }
     ensures fixed { result.count ≡ 0 → fetched.new.items ≡ fetched.old.items }
 {
@@ -324,8 +333,8 @@ fn push_steps(
             end = fetch_from(clients, steps, i);
             rooms.note(sent, fetched, end > i + 1);
         }
-        if i == end || !push_step(sent, fetched, &mut open_jobs, parts, &steps[i]) {
-            let may = may_push(sent, fetched, open_jobs, parts, &steps[i]);
+        if i == end || !push_step(sent, fetched, &mut open_jobs, &steps[i]) {
+            let may = may_push(sent, fetched, open_jobs, &steps[i]);
             return Row {
                 count: i,
                 wants_memory: may && i < end,
@@ -347,25 +356,23 @@ fn is_known(sent: &[SentJobs], client: u32) -> bool
     (client as usize) < sent.len()
 }
 
-/// A client's next job, where it may be fetched. So many of the fetched jobs are open, and so many each client's.
+/// A client's next job, where it may be fetched. So many of the fetched jobs are open.
 fn next_to_join(
     sent: &[SentJobs],
     fetched: &[Fetched],
     open_jobs: usize,
-    parts: &mut [Option<usize>],
     client: u32,
 ) -> Option<Job>
     requires open_jobs { open_jobs ≡ length (open_places fetched.now) }
-    requires parts { AreParts parts.old fetched.now }
-    ensures may { is_some result ≡ may_fetch sent.now fetched.now client }
-    ensures next { IfSome result (λ job. next_of sent.now fetched.now client ≡ Some job) }
+    requires parts { AreParts (counts_of sent.now) fetched.now }
+    ensures may { is_some result ≡ may_fetch (jobs_sent sent.now) fetched.now client }
+    ensures next { IfSome result (λ job. next_of (jobs_sent sent.now) fetched.now client ≡ Some job) }
     ensures few { OnSome result (length (open_places fetched.now) < 1024) }
-    ensures parts { AreParts parts.new fetched.now }
 {
     if open_jobs >= MAX_OPEN {
         return None;
     }
-    next_counted(sent, fetched, parts, client)
+    next_counted(sent, fetched, client)
 }
 
 /// Whether a step is a submit or a fetch, and not one that may be taken.
@@ -376,20 +383,14 @@ fn is_denied(step: &Step, may: bool) -> bool
 }
 
 /// Whether a step makes the lists of an idle world longer where there is memory for it.
-fn may_push(
-    sent: &[SentJobs],
-    fetched: &[Fetched],
-    open_jobs: usize,
-    parts: &mut [Option<usize>],
-    step: &Step,
-) -> bool
+fn may_push(sent: &[SentJobs], fetched: &[Fetched], open_jobs: usize, step: &Step) -> bool
     requires open_jobs { open_jobs ≡ length (open_places fetched.now) }
-    requires parts { AreParts parts.old fetched.now }
-    ensures { result ≡ may_join (lists sent.now fetched.now) step.now }
+    requires parts { AreParts (counts_of sent.now) fetched.now }
+    ensures { result ≡ may_join (listed sent.now fetched.now) step.now }
 {
     match *step {
         Step::Submit { client, .. } => is_known(sent, client),
-        Step::Fetch { client } => next_to_join(sent, fetched, open_jobs, parts, client).is_some(),
+        Step::Fetch { client } => next_to_join(sent, fetched, open_jobs, client).is_some(),
         Step::Take { .. } | Step::Finish { .. } | Step::Commit => false,
     }
 }
@@ -400,33 +401,33 @@ fn push_step(
     sent: &mut Vec<SentJobs>,
     fetched: &mut Vec<Fetched>,
     open_jobs: &mut usize,
-    parts: &mut [Option<usize>],
     step: &Step,
 ) -> bool
     requires open_jobs { open_jobs.old ≡ length (open_places fetched.old.items) }
-    requires parts { AreParts parts.old fetched.old.items }
+    requires parts { AreParts (counts_of sent.old.items) fetched.old.items }
     ensures open_jobs { open_jobs.new ≡ length (open_places fetched.new.items) }
-    ensures parts { AreParts parts.new fetched.new.items }
-    ensures taken { result ≡ true → may_join (lists sent.old.items fetched.old.items) step.now ≡ true }
-    ensures more { result ≡ true → lists sent.new.items fetched.new.items
-        ≡ grown (lists sent.old.items fetched.old.items) step.now }
-    ensures same { result ≡ false → lists sent.new.items fetched.new.items
-        ≡ lists sent.old.items fetched.old.items }
+    ensures parts { AreParts (counts_of sent.new.items) fetched.new.items }
+    ensures taken { result ≡ true → may_join (listed sent.old.items fetched.old.items) step.now ≡ true }
+    ensures more { result ≡ true → listed sent.new.items fetched.new.items
+        ≡ grown (listed sent.old.items fetched.old.items) step.now }
+    ensures same { result ≡ false → listed sent.new.items fetched.new.items
+        ≡ listed sent.old.items fetched.old.items }
     ensures few { result ≡ true → word.is_fetch step.now ≡ true → length (open_places fetched.new.items) ≤ 1024 }
     ensures fixed { (word.is_fetch step.now ≡ true) ⊎ (fetched.new.items ≡ fetched.old.items) }
 {
     match *step {
         Step::Submit { client, job } => push_sent(sent, client, job),
-        Step::Fetch { client } => push_fetched(sent.as_slice(), fetched, open_jobs, parts, client),
+        Step::Fetch { client } => push_fetched(sent, fetched, open_jobs, client),
         Step::Take { .. } | Step::Finish { .. } | Step::Commit => false,
     }
 }
 
 /// Puts a job behind those that a client sent, and answers whether it could.
 fn push_sent(sent: &mut Vec<SentJobs>, client: u32, job: Job) -> bool
-    ensures known { result ≡ true → nat_lt client (length sent.old.items) ≡ true }
-    ensures more { result ≡ true → sent.new.items ≡ more_sent sent.old.items client job }
-    ensures same { result ≡ false → sent.new.items ≡ sent.old.items }
+    ensures counts { counts_of sent.new.items ≡ counts_of sent.old.items }
+    ensures known { result ≡ true → nat_lt client (length (jobs_sent sent.old.items)) ≡ true }
+    ensures more { result ≡ true → jobs_sent sent.new.items ≡ more_sent (jobs_sent sent.old.items) client job }
+    ensures same { result ≡ false → jobs_sent sent.new.items ≡ jobs_sent sent.old.items }
 {
     if !is_known(sent.as_slice(), client) {
         return false;
@@ -438,26 +439,27 @@ fn push_sent(sent: &mut Vec<SentJobs>, client: u32, job: Job) -> bool
     }
 }
 
-/// Puts a client's next job behind those that were fetched, of which so many are open, and so many each client's, and
+/// Puts a client's next job behind those that were fetched, of which so many are open, counts it of its client, and
 /// answers whether it could.
 #[tactic(auto, using(crate::proofs::StepFacts::few_open, crate::proofs::StepFacts::open_more))]
 fn push_fetched(
-    sent: &[SentJobs],
+    sent: &mut Vec<SentJobs>,
     fetched: &mut Vec<Fetched>,
     open_jobs: &mut usize,
-    parts: &mut [Option<usize>],
     client: u32,
 ) -> bool
     requires open_jobs { open_jobs.old ≡ length (open_places fetched.old.items) }
-    requires parts { AreParts parts.old fetched.old.items }
-    ensures may { result ≡ true → may_fetch sent.now fetched.old.items client ≡ true }
-    ensures more { result ≡ true → fetched.new.items ≡ more_fetched sent.now fetched.old.items client }
+    requires parts { AreParts (counts_of sent.old.items) fetched.old.items }
+    ensures jobs { jobs_sent sent.new.items ≡ jobs_sent sent.old.items }
+    ensures may { result ≡ true → may_fetch (jobs_sent sent.old.items) fetched.old.items client ≡ true }
+    ensures more { result ≡ true
+        → fetched.new.items ≡ more_fetched (jobs_sent sent.old.items) fetched.old.items client }
     ensures same { result ≡ false → fetched.new.items ≡ fetched.old.items }
     ensures few { result ≡ true → length (open_places fetched.new.items) ≤ 1024 }
     ensures open_jobs { open_jobs.new ≡ length (open_places fetched.new.items) }
-    ensures parts { AreParts parts.new fetched.new.items }
+    ensures parts { AreParts (counts_of sent.new.items) fetched.new.items }
 {
-    let next = next_to_join(sent, fetched.as_slice(), *open_jobs, parts, client);
+    let next = next_to_join(sent.as_slice(), fetched.as_slice(), *open_jobs, client);
     let Some(job) = next else {
         return false;
     };
@@ -469,7 +471,7 @@ fn push_fetched(
     match fetched.push(entry) {
         Ok(()) => {
             *open_jobs += 1;
-            count_one(parts, client);
+            count_one(sent, client);
             true
         }
         Err(_) => false,
@@ -486,9 +488,11 @@ fn end_with_fetch(
 ) -> usize
     requires some { 0 < length steps.now }
     requires fetch { FetchesAt steps.now 0 }
+    requires parts { AreParts (counts_of sent.old.items) fetched.old.items }
     ensures ends { EndsWithLastFetch steps.now result }
-    ensures gathered { (first : Lists) → AreGathered first steps.now (lists sent.old.items fetched.old.items)
-        → AreGathered first (take result steps.now) (lists sent.new.items fetched.new.items) }
+    ensures parts { AreParts (counts_of sent.new.items) fetched.new.items }
+    ensures gathered { (first : Lists) → AreGathered first steps.now (listed sent.old.items fetched.old.items)
+        → AreGathered first (take result steps.now) (listed sent.new.items fetched.new.items) }
     ensures fetched { fetched.new.items ≡ fetched.old.items }
     ensures whole { result ≡ length steps.now → sent.new.items ≡ sent.old.items }
 {
@@ -502,9 +506,11 @@ fn end_with_fetch(
 
 /// Takes back the steps that made the lists longer, from the last on, up to that at a place.
 fn take_back(sent: &mut Vec<SentJobs>, fetched: &mut Vec<Fetched>, steps: &[Step], from: usize)
-    requires { from ≤ length steps.now }
-    ensures gathered { (first : Lists) → AreGathered first steps.now (lists sent.old.items fetched.old.items)
-        → AreGathered first (take from steps.now) (lists sent.new.items fetched.new.items) }
+    requires from { from ≤ length steps.now }
+    requires parts { AreParts (counts_of sent.old.items) fetched.old.items }
+    ensures parts { AreParts (counts_of sent.new.items) fetched.new.items }
+    ensures gathered { (first : Lists) → AreGathered first steps.now (listed sent.old.items fetched.old.items)
+        → AreGathered first (take from steps.now) (listed sent.new.items fetched.new.items) }
     ensures fetched { NoneFetches steps.now from → fetched.new.items ≡ fetched.old.items }
 {
     let mut left = steps.len();
@@ -516,22 +522,38 @@ fn take_back(sent: &mut Vec<SentJobs>, fetched: &mut Vec<Fetched>, steps: &[Step
 
 /// Takes back the last step that made the lists longer.
 fn take_back_step(sent: &mut Vec<SentJobs>, fetched: &mut Vec<Fetched>, step: &Step)
-    ensures { lists sent.new.items fetched.new.items ≡ ungrown (lists sent.old.items fetched.old.items) step.now }
+    requires parts { AreParts (counts_of sent.old.items) fetched.old.items }
+    ensures lists { listed sent.new.items fetched.new.items
+        ≡ ungrown (listed sent.old.items fetched.old.items) step.now }
+    ensures parts { AreParts (counts_of sent.new.items) fetched.new.items }
 {
     match *step {
         Step::Submit { client, .. } => take_back_sent(sent, client),
-        Step::Fetch { .. } => fetched.truncate(fetched.len().saturating_sub(1)),
+        Step::Fetch { .. } => take_back_fetched(sent, fetched),
         Step::Take { .. } | Step::Finish { .. } | Step::Commit => {}
     }
 }
 
 /// Takes back the last job that a client sent.
-#[tactic(auto, using(std::proofs::lemmas::List::set_past))]
 fn take_back_sent(sent: &mut Vec<SentJobs>, client: u32)
-    ensures { sent.new.items ≡ slice_set sent.old.items client (shorter (slice_index_or sent.old.items client [])) }
+    ensures jobs { jobs_sent sent.new.items ≡ slice_set (jobs_sent sent.old.items) client
+        (shorter (slice_index_or (jobs_sent sent.old.items) client [])) }
+    ensures counts { counts_of sent.new.items ≡ counts_of sent.old.items }
 {
     let client = client as usize;
     if client < sent.len() {
         sent[client].take_back();
+    }
+}
+
+/// Takes back the last job that was fetched, which counts no more of its client.
+fn take_back_fetched(sent: &mut Vec<SentJobs>, fetched: &mut Vec<Fetched>)
+    requires parts { AreParts (counts_of sent.old.items) fetched.old.items }
+    ensures jobs { jobs_sent sent.new.items ≡ jobs_sent sent.old.items }
+    ensures less { fetched.new.items ≡ shorter fetched.old.items }
+    ensures parts { AreParts (counts_of sent.new.items) fetched.new.items }
+{
+    if let Some(entry) = fetched.pop() {
+        uncount_one(sent, entry.client);
     }
 }

@@ -1,5 +1,6 @@
 //! The waves of the jobs that are not committed.
-ghost use Rattle.std.specs.Prelude.{◌≡◌, ◌≤◌, ◌<◌, ◌++◌, ◌∷◌, ◌||◌, [], All, IfOk, OnOk, if◌then◌else◌, is_some, length, map, slice_index, true};
+ghost use Rattle.std.specs.Prelude.{◌≡◌, ◌≤◌, ◌<◌, ◌++◌, ◌∷◌, ◌||◌, [], All, IfOk, OnErr, OnOk, filter, if◌then◌else◌, is_some, length, map, slice_index, take, true};
+ghost use Rattle.std.specs.List.{range_with_len};
 ghost use Rattle.dml_types.specs.Job.{no_op_job};
 ghost use Rattle.dml_types.specs.Limits.{IsValid};
 ghost use Rattle.dml_types.specs.Refusal.{need, refusal};
@@ -33,32 +34,35 @@ impl From<LevelError> for NoMemory {
     }
 }
 
-/// The waves of the fetched jobs that are not committed.
+/// The waves of the fetched jobs that are not committed, which stand at these places.
 #[tactic(auto, using(crate::proofs::PlanFacts::places_inside))]
 pub(crate) fn plan(
     alloc: Global,
     fetched: &[Fetched],
+    places: &[usize],
     settings: &Settings,
 ) -> Result<Vec<Places>, NoMemory>
     requires valid { IsValid settings.now }
+    requires all_open { places.now ≡ word.open_places fetched.now }
     requires few { length (word.open_places fetched.now) ≤ 1024 }
     ensures waves { IfOk result (λ plan. plan.items
         ≡ word.plan_of fetched.now settings.now.staging settings.now.chunk) }
     ensures inside { IfOk result (λ plan. All (All (λ i. i < length fetched.now)) plan.items) }
+    ensures few_waves { IfOk result (λ plan. length plan.items ≤ 1025) }
 {
     let &Settings { staging, chunk, .. } = settings;
-    let places = open_places(alloc, fetched)?;
-    let accepted = accepted_places(alloc, fetched, places.as_slice(), staging)?;
+    let accepted = accepted_places(alloc, fetched, places, staging)?;
     let jobs = checked_jobs(alloc, fetched, accepted.as_slice(), staging)?;
     let levels = levels(alloc, jobs.as_slice())?;
     let waves = waves(alloc, jobs.as_slice(), levels.as_slice(), staging, chunk)?;
     let plan = to_places(alloc, accepted.as_slice(), waves.as_slice())?;
-    Ok(with_refused(alloc, fetched, places.as_slice(), staging, plan)?)
+    Ok(with_refused(alloc, fetched, places, staging, plan)?)
 }
 
 /// Puts a place behind those of a list, if it is to stand there.
 fn push_if(list: &mut Vec<usize>, place: usize, stands: bool) -> Result<(), AllocError>
-    ensures { OnOk result (list.new.items ≡ list.old.items ++ (if stands then place ∷ [] else [])) }
+    ensures ok { OnOk result (list.new.items ≡ list.old.items ++ (if stands then place ∷ [] else [])) }
+    ensures err { OnErr result (list.new.items ≡ list.old.items) }
 {
     if stands {
         list.push(place)?;
@@ -66,16 +70,39 @@ fn push_if(list: &mut Vec<usize>, place: usize, stands: bool) -> Result<(), Allo
     Ok(())
 }
 
-/// The places of the jobs that have no answer yet.
-#[tactic(auto, using(crate::proofs::LoopLemmas::kept_more))]
-fn open_places(alloc: Global, fetched: &[Fetched]) -> Result<Vec<usize>, AllocError>
-    ensures { IfOk result (λ places. places.items ≡ word.open_places fetched.now) }
+/// Whether the job at a place has no answer yet.
+pub(crate) fn is_open(fetched: &[Fetched], place: usize) -> bool
+    ensures { result ≡ word.is_open fetched.now place }
 {
-    let mut places = Vec::new(alloc);
-    for i in 0..fetched.len() {
-        push_if(&mut places, i, fetched[i].answer.is_none())?;
+    match fetched.get(place) {
+        Some(entry) => entry.answer.is_none(),
+        None => true,
     }
-    Ok(places)
+}
+
+/// Only those of the places stay whose jobs have no answer yet.
+pub(crate) fn keep_open(places: &mut Vec<usize>, fetched: &[Fetched])
+    ensures { places.new.items ≡ filter (word.is_open fetched.now) places.old.items }
+{
+    places.retain(|place| is_open(fetched, *place));
+}
+
+/// Puts the places from one on whose jobs have no answer yet behind those below it.
+#[tactic(auto, using(crate::proofs::LoopLemmas::kept_more, crate::proofs::LoopLemmas::kept_front))]
+pub(crate) fn push_open(
+    places: &mut Vec<usize>,
+    fetched: &[Fetched],
+    from: usize,
+) -> Result<(), AllocError>
+    requires from { from ≤ length fetched.now }
+    requires below { places.old.items ≡ filter (word.is_open fetched.now) (range_with_len 0 from) }
+    ensures all_open { OnOk result (places.new.items ≡ word.open_places fetched.now) }
+    ensures front { take (length places.old.items) places.new.items ≡ places.old.items }
+{
+    for i in from..fetched.len() {
+        push_if(places, i, is_open(fetched, i))?;
+    }
+    Ok(())
 }
 
 /// Whether a job is refused.
@@ -244,8 +271,8 @@ fn stands(job: &Job, staging: u32, place: usize, chosen: &[usize], is_known: boo
     is_known || is_refused(job, staging) || is_member(place, chosen)
 }
 
-/// Whether a place is the next chosen one, behind so many that were seen. They mostly stand in order, so it is looked at
-/// before all others.
+/// Whether a place is the next chosen one, behind so many that were seen. They mostly stand in order, so it is looked
+/// at before all others.
 #[tactic(auto, using(crate::proofs::FoldLemmas::member_here))]
 fn is_next(place: usize, chosen: &[usize], seen: usize) -> bool
     ensures { result ≡ true → is_in place chosen.now ≡ true }

@@ -1,14 +1,17 @@
 //! How much room the lists of a world have.
 ghost use Rattle.std.specs.Prelude.{◌≡◌, ◌≤◌, [], false, min, true, vec_capacity};
 
-use crate::counts::COUNTED;
 use crate::lists::SentJobs;
 use crate::values::Fetched;
+use crate::worlds::MAX_CLIENTS;
+
+/// How many clients' lists are looked at: those of all that a world may have.
+const NOTED: usize = MAX_CLIENTS as usize;
 
 /// How many jobs there is room for: in each client's list, and in that of the fetched ones.
 #[derive(Clone, Copy)]
 pub(crate) struct Rooms {
-    sent: [usize; COUNTED],
+    sent: [usize; NOTED],
     fetched: usize,
 }
 
@@ -17,8 +20,8 @@ impl Rooms {
     pub(crate) fn of(sent: &[SentJobs], fetched: &Vec<Fetched>) -> Rooms
         ensures { result.fetched ≡ vec_capacity fetched.now }
     {
-        let mut rooms = [0; COUNTED];
-        for i in 0..sent.len().min(COUNTED) {
+        let mut rooms = [0; NOTED];
+        for i in 0..sent.len().min(NOTED) {
             rooms[i] = sent[i].room();
         }
         Rooms {
@@ -52,7 +55,7 @@ impl Rooms {
     pub(crate) fn give_back_sent(&self, sent: &mut Vec<SentJobs>)
         ensures { sent.new.items ≡ sent.old.items }
     {
-        for i in 0..sent.len().min(COUNTED) {
+        for i in 0..sent.len().min(NOTED) {
             sent[i].give_back(self.sent[i]);
         }
     }

@@ -1,19 +1,19 @@
 //! The steps of a world.
-ghost use Rattle.std.specs.Prelude.{◌≡◌, ◌≤◌, ◌<◌, All, IfOk, IfSome, OnErr, OnOk, OnSome, Some, false, if◌then◌else◌, is_none, is_some, length, slice_get, slice_index_or, true, []};
-ghost use Rattle.std.specs.List.{list_all};
-ghost use Rattle.std.specs.Option.{option_map};
+ghost use Rattle.std.specs.Prelude.{◌≡◌, ◌≤◌, ◌<◌, All, IfOk, IfSome, OnErr, OnOk, OnSome, Some, false, filter, if◌then◌else◌, is_none, is_some, length, slice_index_or, take, true, []};
+ghost use Rattle.std.specs.List.{list_all, range_with_len};
 ghost use Rattle.dml_types.specs.Limits.{IsValid};
 ghost use Rattle.dml_core.specs.Plan as word;
 ghost use Rattle.dml_core.specs.Plan.{jobs_of, open_places, plan_of};
 ghost use Rattle.dml_core.specs.Replay.{may_grow};
 ghost use Rattle.dml_core.specs.Types.{Commit, Fetch, Finish, Submit, Take};
-ghost use Rattle.dml_core.specs.Gather.{is_idle};
+ghost use Rattle.dml_core.specs.Gather.{HoldOpen, is_idle};
 ghost use Rattle.dml_core.specs.World as state;
-ghost use Rattle.dml_core.specs.World.{after, is_allowed, part_of};
+ghost use Rattle.dml_core.specs.World.{after, is_allowed};
 
 use crate::carrying::carry_out_wave;
-use crate::lists::{Places, SentJobs};
-use crate::planning::{NoMemory, plan};
+use crate::counts::{count_one, next_counted};
+use crate::lists::Places;
+use crate::planning::{NoMemory, is_open, keep_open, plan, push_open};
 use crate::tasks::tasks_of;
 use crate::values::{Fetched, Step, Task};
 use crate::worlds::World;
@@ -30,11 +30,10 @@ pub(crate) enum Refusal {
     NoMemory,
 }
 
-/// A client's next job, how many of its jobs were fetched, and how many fetched jobs are open.
+/// A client's next job, and how many fetched jobs are open.
 #[derive(Clone, Copy)]
 pub(crate) struct Next {
     pub(crate) job: Job,
-    pub(crate) part: usize,
     pub(crate) open_jobs: usize,
 }
 
@@ -103,27 +102,23 @@ impl World {
     pub(crate) fn next_fetch(&self, client: u32) -> Option<Next>
         ensures allowed { is_some result ≡ is_allowed self.now (Fetch client) }
         ensures job { IfSome result (λ next. state.next_job self.now client ≡ Some next.job) }
-        ensures part { IfSome result (λ next. next.part ≡ length (part_of client self.now.fetched)) }
         ensures open_jobs { IfSome result (λ next. next.open_jobs ≡ length (open_places self.now.fetched)) }
         ensures idle { OnSome result (is_idle self.now ≡ true) }
         ensures few { OnSome result (length (open_places self.now.fetched) < 1024) }
     {
-        let next = next_job(self.sent.as_slice(), self.fetched.as_slice(), client);
-        let Some((job, part)) = next else {
+        let fetched = self.fetched.as_slice();
+        let next = next_counted(self.sent.as_slice(), fetched, client);
+        let Some(job) = next else {
             return None;
         };
-        if !all_free(self.hands.as_slice()) || !self.finished.is_empty() {
+        if !all_free(self.hands.as_slice()) || self.finished > 0 {
             return None;
         }
-        let open_jobs = count_open(self.fetched.as_slice());
+        let open_jobs = count_open(self.places.as_slice(), fetched);
         if open_jobs >= MAX_OPEN {
             return None;
         }
-        Some(Next {
-            job,
-            part,
-            open_jobs,
-        })
+        Some(Next { job, open_jobs })
     }
 
     /// A client sends a job.
@@ -138,10 +133,10 @@ impl World {
         if client >= self.sent.len() {
             return Err(Refusal::NotAllowed);
         }
-        match self.sent[client].push(job) {
-            Ok(()) => Ok(()),
-            Err(_) => Err(Refusal::NoMemory),
-        }
+        let Ok(()) = self.sent[client].push(job) else {
+            return Err(Refusal::NoMemory);
+        };
+        Ok(())
     }
 
     /// A client's next job is fetched, and the jobs that are not committed are planned anew.
@@ -170,7 +165,7 @@ impl World {
         ensures ok { OnOk result (self.new ≡ after self.old (Fetch client)) }
         ensures err { OnErr result (self.new ≡ self.old) }
     {
-        let (count, room) = (self.fetched.len(), self.fetched.capacity());
+        let (from, room) = (self.fetched.len(), self.fetched.capacity());
         let entry = Fetched {
             client,
             job,
@@ -179,16 +174,18 @@ impl World {
         if self.fetched.push(entry).is_err() {
             return Err(NoMemory);
         }
-        match set_out(alloc, self.fetched.as_slice(), &self.settings) {
+        match set_out(alloc, &mut self.places, &self.fetched, from, &self.settings) {
             Ok(Outset { waves, tasks }) => {
+                count_one(&mut self.sent, client);
                 self.waves = waves;
                 self.committed = 0;
                 self.tasks = tasks;
                 self.taken = 0;
+                self.finished = 0;
                 Ok(())
             }
             Err(error) => {
-                self.fetched.truncate(count);
+                self.fetched.truncate(from);
                 self.fetched.shrink_to(room);
                 Err(error)
             }
@@ -204,13 +201,14 @@ impl World {
         ensures no_memory { result ≡ Err Refusal.NoMemory → ⊥ }
     {
         let worker = worker as usize;
-        if worker >= self.hands.len()
-            || self.hands[worker].is_some()
-            || self.taken == self.tasks.len()
-        {
+        if worker >= self.hands.len() || self.hands[worker].is_some() {
             return Err(Refusal::NotAllowed);
         }
-        self.hands[worker] = Some(self.tasks[self.taken]);
+        if self.taken == self.tasks.len() {
+            return Err(Refusal::NotAllowed);
+        }
+        let Task { place, from, to } = self.tasks[self.taken];
+        self.hands[worker] = Some(Task { place, from, to });
         self.taken += 1;
         Ok(())
     }
@@ -230,9 +228,8 @@ impl World {
         let Some(task) = self.hands[worker] else {
             return Err(Refusal::NotAllowed);
         };
-        if self.finished.push(task).is_err() {
-            return Err(Refusal::NoMemory);
-        }
+        self.tasks[self.finished] = task;
+        self.finished += 1;
         self.hands[worker] = None;
         Ok(())
     }
@@ -242,8 +239,9 @@ impl World {
         ensures { self.new ≡ self.old }
     {
         if self.committed > 0 {
-            let left = self.waves.len() - self.committed;
-            self.waves.rotate_left(self.committed);
+            let committed = self.committed as usize;
+            let left = self.waves.len() - committed;
+            self.waves.rotate_left(committed);
             self.waves.truncate(left);
             self.waves.shrink_to(left);
             self.committed = 0;
@@ -259,17 +257,17 @@ impl World {
         ensures not_allowed { result ≡ Err Refusal.NotAllowed → is_allowed self.old Commit ≡ false }
         ensures no_memory { result ≡ Err Refusal.NoMemory → is_allowed self.old Commit ≡ true }
     {
+        let committed = self.committed as usize;
         let free = all_free(self.hands.as_slice());
-        if self.committed == self.waves.len() || self.taken < self.tasks.len() || !free {
+        if committed == self.waves.len() || self.taken < self.tasks.len() || !free {
             return Err(Refusal::NotAllowed);
         }
-        let next = self.committed + 1;
         let set_out = wave_tasks(
             alloc,
             self.fetched.as_slice(),
             &self.settings,
             self.waves.as_slice(),
-            next,
+            committed + 1,
         );
         let Ok(tasks) = set_out else {
             return Err(Refusal::NoMemory);
@@ -278,14 +276,14 @@ impl World {
             &mut self.image,
             &mut self.arena,
             &mut self.fetched,
-            self.waves[self.committed].list.as_slice(),
+            self.waves[committed].list.as_slice(),
             self.settings.staging,
         );
-        self.waves[self.committed].forget();
-        self.committed = next;
+        self.waves[committed].forget();
+        self.committed += 1;
         self.tasks = tasks;
         self.taken = 0;
-        self.finished.clear();
+        self.finished = 0;
         Ok(())
     }
 }
@@ -297,22 +295,66 @@ pub(crate) struct Outset {
     pub(crate) tasks: Vec<Task>,
 }
 
-/// The waves of the fetched jobs that are not committed, and the tasks of the first.
+/// The waves of the fetched jobs that are not committed, and the tasks of the first. The open places below a place are
+/// known; those from there on are put behind them. Where the allocator has no memory left, they are taken back, and the
+/// room that they took.
 pub(crate) fn set_out(
     alloc: Global,
+    places: &mut Vec<usize>,
     fetched: &[Fetched],
+    from: usize,
     settings: &Settings,
 ) -> Result<Outset, NoMemory>
     requires valid { IsValid settings.now }
     requires few { length (open_places fetched.now) ≤ 1024 }
+    requires from { from ≤ length fetched.now }
+    requires known { HoldOpen places.old.items fetched.now from }
     ensures waves { IfOk result (λ outset. outset.waves.items
         ≡ plan_of fetched.now settings.now.staging settings.now.chunk) }
     ensures inside { IfOk result (λ outset. All (All (λ i. i < length fetched.now)) outset.waves.items) }
     ensures tasks { IfOk result (λ outset. outset.tasks.items
         ≡ word.tasks_of (jobs_of fetched.now) settings.now.staging settings.now.chunk
         (slice_index_or outset.waves.items 0 [])) }
+    ensures few_waves { IfOk result (λ outset. length outset.waves.items ≤ 1025) }
+    ensures all_open { OnOk result (places.new.items ≡ open_places fetched.now) }
+    ensures before { OnErr result (places.new.items
+        ≡ filter (word.is_open fetched.now) (range_with_len 0 from)) }
 {
-    let waves = plan(alloc, fetched, settings)?;
+    keep_open(places, fetched);
+    let (count, room) = (places.len(), places.capacity());
+    let outset = outset_from(alloc, places, fetched, from, settings);
+    if outset.is_err() {
+        places.truncate(count);
+        places.shrink_to(room);
+    }
+    outset
+}
+
+/// The waves of the fetched jobs that are not committed, and the tasks of the first. The open places from a place on
+/// are put behind those below it.
+fn outset_from(
+    alloc: Global,
+    places: &mut Vec<usize>,
+    fetched: &[Fetched],
+    from: usize,
+    settings: &Settings,
+) -> Result<Outset, NoMemory>
+    requires valid { IsValid settings.now }
+    requires few { length (open_places fetched.now) ≤ 1024 }
+    requires from { from ≤ length fetched.now }
+    requires below { places.old.items ≡ filter (word.is_open fetched.now) (range_with_len 0 from) }
+    ensures waves { IfOk result (λ outset. outset.waves.items
+        ≡ plan_of fetched.now settings.now.staging settings.now.chunk) }
+    ensures inside { IfOk result (λ outset. All (All (λ i. i < length fetched.now)) outset.waves.items) }
+    ensures tasks { IfOk result (λ outset. outset.tasks.items
+        ≡ word.tasks_of (jobs_of fetched.now) settings.now.staging settings.now.chunk
+        (slice_index_or outset.waves.items 0 [])) }
+    ensures few_waves { IfOk result (λ outset. length outset.waves.items ≤ 1025) }
+    ensures all_open { OnOk result (places.new.items ≡ open_places fetched.now) }
+    ensures front { take (length places.old.items) places.new.items ≡ places.old.items }
+{
+    push_open(places, fetched, from)?;
+    let waves = plan(alloc, fetched, places.as_slice(), settings)?;
     let tasks = wave_tasks(alloc, fetched, settings, waves.as_slice(), 0)?;
     Ok(Outset { waves, tasks })
 }
@@ -337,44 +379,14 @@ fn wave_tasks(
     }
 }
 
-/// A client's next job to be fetched, and how many of its jobs were.
-fn next_job(sent: &[SentJobs], fetched: &[Fetched], client: u32) -> Option<(Job, usize)>
-    ensures job { option_map (λ next. next.0) result
-        ≡ slice_get (slice_index_or sent.now client []) (length (part_of client fetched.now)) }
-    ensures part { IfSome result (λ next. next.1 ≡ length (part_of client fetched.now)) }
+/// How many of some places are open.
+fn count_open(places: &[usize], fetched: &[Fetched]) -> usize
+    ensures { result ≡ length (filter (word.is_open fetched.now) places.now) }
 {
-    let Some(list) = sent.get(client as usize) else {
-        return None;
-    };
-    let part = count_part(fetched, client);
-    match list.as_slice().get(part).copied() {
-        Some(job) => Some((job, part)),
-        None => None,
-    }
-}
-
-/// How many jobs of a client were fetched.
-#[tactic(auto, using(crate::proofs::StepFacts::part_counted, crate::proofs::StepFacts::part_all))]
-pub(crate) fn count_part(fetched: &[Fetched], client: u32) -> usize
-    ensures { result ≡ length (part_of client fetched.now) }
-{
-    let mut count = 0;
-    for entry in fetched {
-        count += one_if(entry.client == client);
-    }
-    count
-}
-
-/// How many jobs are not committed.
-#[tactic(auto, using(crate::proofs::StepFacts::open_counted))]
-fn count_open(fetched: &[Fetched]) -> usize
-    ensures { result ≡ length (open_places fetched.now) }
-{
-    let mut count = 0;
-    for i in 0..fetched.len() {
-        count += one_if(fetched[i].answer.is_none());
-    }
-    count
+    places
+        .iter()
+        .filter(|place| is_open(fetched, **place))
+        .count()
 }
 
 /// 1 or 0.

@@ -19,7 +19,7 @@ pub struct Task {
     pub to: u64,
 }
 
-/// One step of the world, and when it is allowed. All but a take may meet want of memory.
+/// One step of the world, and when it is allowed. All but a take and a finish may meet want of memory.
 #[derive(Clone, Copy, PartialEq, Eq, Debug)]
 pub enum Step {
     /// A client sends a job. Allowed for each client of the world.

@@ -1,6 +1,7 @@
 //! The world, and its calls.
 ghost use Rattle.std.specs.Prelude.{◌≡◌, ◌↔◌, ◌⊎◌, ◌<◌, ◌≤◌, [], IfErr, IfOk, None, OnOk, replicate};
 ghost use Rattle.dml_types.specs.Limits.{IsValid};
+ghost use Rattle.dml_core.specs.Gather.{counted};
 ghost use Rattle.dml_core.specs.World.{Reaches, new_world, sent_by};
 ghost use Rattle.dml_core.specs.Replay.{StopsAt};
 
@@ -13,6 +14,10 @@ use dml_image::Image;
 use dml_types::{Job, Settings};
 use std::alloc::{AllocError, Global};
 use std::marker::Model;
+use std::mem::size_of;
+
+/// A call takes and gives back a world whole, and so do its callers, by moves that this size still allows.
+const _: () = prove!(size_of::<World>() <= 240);
 
 /// The most clients.
 pub(crate) const MAX_CLIENTS: u32 = 8;
@@ -21,23 +26,29 @@ pub(crate) const MAX_CLIENTS: u32 = 8;
 #[derive(Drop)]
 pub struct World {
     pub(crate) settings: Settings,
+    /// How many waves of the plan are committed: the first of them.
+    // It stands where the settings leave room.
+    pub(crate) committed: u32,
     pub(crate) image: Image<'static>,
     pub(crate) arena: Arena,
     pub(crate) sent: Vec<SentJobs>,
     pub(crate) fetched: Vec<Fetched>,
-    /// The waves of the plan; the first of them are committed.
     pub(crate) waves: Vec<Places>,
-    pub(crate) committed: usize,
-    /// The tasks of the first wave that is not committed; the first of them are taken.
+    /// The tasks of the first wave that is not committed; the first of them are taken. In front of these stand the
+    /// finished ones, in the order in which they were finished, in place of the first that were taken.
     pub(crate) tasks: Vec<Task>,
     pub(crate) taken: usize,
     pub(crate) hands: Vec<Option<Task>>,
-    pub(crate) finished: Vec<Task>,
+    /// How many tasks are finished.
+    pub(crate) finished: usize,
+    /// The places of the jobs that the last plan was made of. All that are not committed are among them.
+    pub(crate) places: Vec<usize>,
 }
 
 impl Model for World {
-    ghost use Rattle.std.specs.Prelude.{◌≡◌, ◌<◌, ◌≤◌, All, drop, length, map};
+    ghost use Rattle.std.specs.Prelude.{◌≡◌, ◌+◌, ◌<◌, ◌≤◌, All, drop, length, map, take};
     ghost use Rattle.dml_types.specs.Limits.{IsValid};
+    ghost use Rattle.dml_core.specs.Gather.{AreParts, HoldOpen, counts_of, in_hands, jobs_sent};
     ghost use Rattle.dml_core.specs.World.{kept_task};
     ghost use Rattle.dml_core.specs.World as state;
 
@@ -46,17 +57,20 @@ impl Model for World {
     ghost view = { λ w. record {
       settings = w.settings;
       image = w.image;
-      sent = w.sent.items;
+      sent = jobs_sent w.sent.items;
       fetched = w.fetched.items;
       waves = drop w.committed w.waves.items;
       to_do = drop w.taken w.tasks.items;
       hands = w.hands.items;
-      finished = map (kept_task w.fetched.items w.image) w.finished.items;
+      finished = map (kept_task w.fetched.items w.image) (take w.finished w.tasks.items);
     } };
 
     ghost invariant = { λ w. IsValid w.settings × (w.arena.size ≡ w.settings.staging)
         × (w.committed ≤ length w.waves.items) × (w.taken ≤ length w.tasks.items)
-        × All (All (λ i. i < length w.fetched.items)) w.waves.items };
+        × All (All (λ i. i < length w.fetched.items)) w.waves.items
+        × AreParts (counts_of w.sent.items) w.fetched.items
+        × HoldOpen w.places.items w.fetched.items (length w.fetched.items) × (length w.waves.items ≤ 1025)
+        × (w.finished + in_hands w.hands.items ≤ w.taken) };
 }
 
 /// What a world takes memory for before its first step.
@@ -71,7 +85,7 @@ impl Room {
     /// The staging arena, an empty list for each client, and an empty hand for each worker.
     fn new(alloc: Global, settings: &Settings, clients: u32) -> Result<Room, WorldError>
         ensures arena { IfOk result (λ room. room.arena.size ≡ settings.now.staging) }
-        ensures sent { IfOk result (λ room. room.sent.items ≡ replicate clients []) }
+        ensures sent { IfOk result (λ room. room.sent.items ≡ replicate clients (counted [] 0)) }
         ensures hands { IfOk result (λ room. room.hands.items ≡ replicate settings.now.workers None) }
         ensures error { IfErr result (λ error. error ≡ WorldError.NoMemory) }
     {
@@ -91,7 +105,7 @@ impl Room {
 /// So many empty lists.
 #[tactic(auto, using(std::proofs::lemmas::List::replicate_more))]
 fn empty_lists(alloc: Global, count: u32) -> Result<Vec<SentJobs>, AllocError>
-    ensures { IfOk result (λ lists. lists.items ≡ replicate count []) }
+    ensures { IfOk result (λ lists. lists.items ≡ replicate count (counted [] 0)) }
 {
     let mut lists = Vec::new(alloc);
     for k in 0..count {
@@ -145,16 +159,17 @@ impl World {
         match Room::new(alloc, &settings, clients) {
             Ok(Room { arena, sent, hands }) => Ok(World {
                 settings,
+                committed: 0,
                 image,
                 arena,
                 sent,
                 fetched: Vec::new(alloc),
                 waves: Vec::new(alloc),
-                committed: 0,
                 tasks: Vec::new(alloc),
                 taken: 0,
                 hands,
-                finished: Vec::new(alloc),
+                finished: 0,
+                places: Vec::new(alloc),
             }),
             Err(error) => Err((image, error)),
         }

@@ -2,7 +2,7 @@ use Rattle.std.proofs.Common.{◌≡◌, ◌-◌, ◌<◌, ◌≤◌, ℕ, true,
 use Rattle.dml_types.specs.Job.{no_op_job}
 use Rattle.std.specs.Prelude.{◌&&◌}
 use Rattle.dml_core.specs.Types.{Step, Submit}
-use Rattle.dml_core.specs.Gather.{FetchesAt, fetch_follows, is_of_row, lists, may_join}
+use Rattle.dml_core.specs.Gather.{FetchesAt, fetch_follows, is_of_row, listed, may_join}
 use Rattle.dml_core.proofs.GatherLemmas.{few_more, gather_more, none_at_end}
 use Rattle.dml_core.proofs.gathering.push_steps.Goals as goal
 use Rattle.dml_core.proofs.gathering.push_steps.Goals.{then-i-end, else-i-end}
@@ -12,9 +12,9 @@ loop-i-preserved c =
     let steps = c.args.steps.now in
     let i = c.loop-i.i in
     let end = c.if-i-end.end in
-    let first = lists c.args.sent.now.items c.args.fetched.now.items in
-    let old = lists c.loop-i.sent.items c.loop-i.fetched.items in
-    let new = lists c.push_step.new.sent.items c.push_step.new.fetched.items in
+    let first = listed c.args.sent.now.items c.args.fetched.now.items in
+    let old = listed c.loop-i.sent.items c.loop-i.fetched.items in
+    let new = listed c.push_step.new.sent.items c.push_step.new.fetched.items in
     let below : i < length steps = omega arith in
     let joined : c.push_step.result ≡ true = search rules in
     let may = c.push_step.ensures.taken joined in
@@ -50,4 +50,4 @@ loop-i-preserved c =
 pub returns-clause-refused : goal.returns-clause-refused
 returns-clause-refused c =
     let steps = c.args.steps.now in
-    none_at_end (λ (s : Step). false ≡ (is_of_row s && not (may_join (lists c.loop-i.sent.items c.loop-i.fetched.items) s))) steps (length steps) (omega arith)
+    none_at_end (λ (s : Step). false ≡ (is_of_row s && not (may_join (listed c.loop-i.sent.items c.loop-i.fetched.items) s))) steps (length steps) (omega arith)

@@ -1,13 +1,13 @@
 use Rattle.std.proofs.Common.{◌≡◌, ℕ, ◌-◌, ◌<◌, ◌≤◌, true, drop, length, take}
 use Rattle.dml_core.specs.Plan.{open_places}
-use Rattle.dml_core.specs.Gather.{AreGathered, AreParts, FetchesAt, fetch_follows, lists}
+use Rattle.dml_core.specs.Gather.{AreGathered, AreParts, FetchesAt, counts_of, fetch_follows, listed}
 use Rattle.dml_core.proofs.gathering.push_steps.Given as goal
 
 abbrev pub invariant-loop-i : goal.invariant-loop-i
 invariant-loop-i l = record {
-  all : AreGathered (lists l.initial.sent.items l.initial.fetched.items) (take l.i l.steps) (lists l.sent.items l.fetched.items);
+  all : AreGathered (listed l.initial.sent.items l.initial.fetched.items) (take l.i l.steps) (listed l.sent.items l.fetched.items);
   counted : l.open_jobs ≡ length (open_places l.fetched.items);
-  parts : AreParts l.parts l.fetched.items;
+  parts : AreParts (counts_of l.sent.items) l.fetched.items;
   onward : l.i ≤ l.end;
   within : l.end ≤ length l.steps;
   last : 0 < l.end → FetchesAt l.steps (l.end - 1);

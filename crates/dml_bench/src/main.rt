@@ -1,7 +1,7 @@
 //! Times `Engine::submit` with one worker: moves, fills, dualcasts, compares, creates and applies; the calls of an
 //! image that they stand on; jobs over the caller's own pages; looks and moves over segments; scans of creates and
-//! applies; levels and waves of lists; `Engine::submit_list` with 1, 2 and 4 workers; the seats and rounds of a portal;
-//! and rings that wake.
+//! applies; levels and waves of lists; replays of jobs one by one; `Engine::submit_list` with 1, 2 and 4 workers; the
+//! seats and rounds of a portal; and rings that wake.
 //!
 //! Each row of the standard error is a name, a number (a size in bytes, or the number of jobs, tasks or workers), and
 //! the nanoseconds of one call. Without arguments each job is timed once, and each list is one of two jobs, which shows
@@ -17,6 +17,7 @@ mod clients;
 mod deltas;
 mod lent;
 mod lists;
+mod replays;
 mod segments;
 mod shapes;
 mod staying;
@@ -282,6 +283,7 @@ fn main(rt: HostRuntime) -> io::Result<()> {
     segments::time_segments(&rt, measures)?;
     deltas::time_deltas(&rt, alloc, if measures { 50 } else { 1 })?;
     lists::time_levels(&rt, if measures { 20 } else { 1 })?;
+    replays::time_replays(&rt, measures)?;
     let Ok(mut engine) = Engine::new(alloc, image, SETTINGS) else {
         return Err(io::ErrorKind::OutOfMemory.into());
     };

@@ -25,3 +25,8 @@ is_block memory job b = nat_lt b (job.size / 8) && has_block memory job.target b
 
 abbrev pub AreBlocks : Memory → Job → ℕ → ℕ → Type 0
 AreBlocks memory job from to = (b : ℕ) → from ≤ b → b < to → is_block memory job b ≡ true
+
+-- whether the entries from one up to another have offsets that rise from the one before them, below an end
+abbrev pub AreRising : List ℕ → ℕ → ℕ → ℕ → Type 0
+AreRising bytes from to end =
+    (k : ℕ) → from ≤ k → k < to → (block_number bytes (k - 1) < block_number bytes k) × (block_number bytes k < end)

@@ -98,7 +98,7 @@ fn stage_differing(image: &Image, job: &Checked, from: u32, to: u32, room: &mut 
     readable
 }
 
-/// Adds the entries of those blocks, a part of a page at a time: each is looked up once for each source.
+/// Adds the entries of those blocks, up to the next page's end of either source at a time.
 fn add_readable(
     image: &Image,
     job: &Checked,

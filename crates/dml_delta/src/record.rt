@@ -1,9 +1,9 @@
 //! The entries of a delta record as an apply reads and judges them.
-ghost use Rattle.std.specs.Prelude.{◌≡◌, ◌/◌, ◌%◌, ◌^◌, ◌<◌, ◌≤◌, true, false, Some, length, IsTrue};
+ghost use Rattle.std.specs.Prelude.{◌≡◌, ◌+◌, ◌/◌, ◌%◌, ◌^◌, ◌<◌, ◌≤◌, true, false, Some, length, IsTrue};
 ghost use Rattle.dml_types.specs.declared.operations.Op.TheVariants.{ApplyDelta};
 ghost use Rattle.dml_types.specs.Job.{op_of};
 ghost use Rattle.dml_types.specs.Memory.{IsMemory, bytes_at, has_all};
-ghost use Rattle.dml_delta.specs.Record.{allowed_in, is_allowed, is_block, least_in, AreBlocks};
+ghost use Rattle.dml_delta.specs.Record.{allowed_in, is_allowed, is_block, least_in, AreBlocks, AreRising};
 
 use dml_desc::Checked;
 use dml_image::{Image, PAGE_SIZE};
@@ -48,7 +48,7 @@ pub fn entries_at<'a>(
 
 /// Judges whole entries, the first of which may have any offset from `least` on.
 ///
-/// It looks at presence once for the blocks of a page: those from the last good one on are known to be present.
+/// It looks at presence once for the blocks of a page: where that of an entry is present, so are those behind it there.
 pub fn judge(image: &Image, job: &Checked, least: u32, entries: &[u8]) -> Run
     requires operation { op_of job.now ≡ Some ApplyDelta }
     requires fits { length entries.now < 2 ^ 32 }
@@ -58,51 +58,82 @@ pub fn judge(image: &Image, job: &Checked, least: u32, entries: &[u8]) -> Run
 {
     let count = entries.len() / ENTRY;
     let mut least = least;
-    let mut known = 0;
-    for i in 0..count {
-        let offset = block_number(entries, i);
-        if !is_allowed(image, job, least, &mut known, offset) {
+    let mut i = 0;
+    while i < count {
+        let offset = u32::from(block_number(entries, i));
+        let known = known_above(image, job, least, offset);
+        if known <= offset {
             let good = i as u32;
             return Run { good, least };
         }
-        least = u32::from(offset) + 1;
+        i = behind_rising(entries, i + 1, known);
+        least = u32::from(block_number(entries, i - 1)) + 1;
     }
     let good = count as u32;
     Run { good, least }
 }
 
-/// Whether an offset is not below the least one, and is that of a present block of the destination. The blocks from
-/// `least` up to `known` are present ones; so are those from the offset up to the new `known`, where it is allowed.
+/// A number such that all blocks from an offset on up to it are present blocks of the destination. It is at most the
+/// offset only where that one is not allowed: it is below the least one, or the block of that is none.
 #[inline(always)]
-fn is_allowed(image: &Image, job: &Checked, least: u32, known: &mut u32, offset: u16) -> bool
+fn known_above(image: &Image, job: &Checked, least: u32, offset: u32) -> u32
     requires operation { op_of job.now ≡ Some ApplyDelta }
-    requires known { AreBlocks image.now job.now least known.old }
-    ensures value { result ≡ is_allowed image.now job.now least offset }
-    ensures known { result ≡ true → AreBlocks image.now job.now offset known.new }
+    ensures known { AreBlocks image.now job.now offset result }
+    ensures allowed { offset < result → is_allowed image.now job.now least offset ≡ true }
+    ensures stops { result ≤ offset → is_allowed image.now job.now least offset ≡ false }
 {
-    let offset = u32::from(offset);
-    // both at once: it rises, and its block is known
-    if offset.wrapping_sub(least) < known.saturating_sub(least) {
-        return true;
-    }
-    *known = known_behind(image, job, least, *known, offset);
-    offset >= least && offset < *known
-}
-
-/// A number such that all blocks from an offset on up to it are present blocks of the destination, where those from
-/// `least` up to `known` are. It is at most the offset only where the block of that is none.
-#[inline(always)]
-fn known_behind(image: &Image, job: &Checked, least: u32, known: u32, offset: u32) -> u32
-    requires operation { op_of job.now ≡ Some ApplyDelta }
-    requires known { AreBlocks image.now job.now least known }
-    ensures known { least ≤ offset → AreBlocks image.now job.now offset result }
-    ensures stops { result ≤ offset → is_block image.now job.now offset ≡ false }
-{
-    if offset < known {
-        known
+    if offset < least {
+        0
     } else {
         known_from(image, job, offset)
     }
+}
+
+/// The place behind the entries from one on that rise from the one before them, and whose offsets are below an end. They
+/// are looked at by fours, so at most three behind the last four.
+#[inline(always)]
+fn behind_rising(entries: &[u8], from: usize, end: u32) -> usize
+    requires some { 1 ≤ from }
+    requires within { from ≤ length entries.now / 10 }
+    ensures rising { AreRising entries.now from result end }
+    ensures within { (from ≤ result) × (result ≤ length entries.now / 10) }
+{
+    let count = entries.len() / ENTRY;
+    let mut i = from;
+    while count - i >= 4 && four_rise(entries, i, end) {
+        i += 4;
+    }
+    while i < count && one_rises(entries, i, end) {
+        i += 1;
+    }
+    i
+}
+
+/// Whether four entries do.
+#[inline(always)]
+fn four_rise(entries: &[u8], i: usize, end: u32) -> bool
+    requires some { 1 ≤ i }
+    requires within { i + 4 ≤ length entries.now / 10 }
+    ensures { IsTrue result → AreRising entries.now i (i + 4) end }
+{
+    let before = block_number(entries, i - 1);
+    let first = block_number(entries, i);
+    let second = block_number(entries, i + 1);
+    let third = block_number(entries, i + 2);
+    let last = block_number(entries, i + 3);
+    u32::from(last) < end && before < first && first < second && second < third && third < last
+}
+
+/// Whether an entry does.
+#[inline(always)]
+fn one_rises(entries: &[u8], i: usize, end: u32) -> bool
+    requires some { 1 ≤ i }
+    requires within { i + 1 ≤ length entries.now / 10 }
+    ensures { IsTrue result → AreRising entries.now i (i + 1) end }
+{
+    let before = block_number(entries, i - 1);
+    let last = block_number(entries, i);
+    u32::from(last) < end && before < last
 }
 
 /// The number behind the last block that lies in one page with that of an offset, if that one is a present block of the

@@ -1,8 +1,9 @@
 -- Sound tables of regions are memory in segments.
-use Rattle.std.proofs.Common.{◌≡◌, ℕ, zero, suc, ◌+◌, ◌-◌, ◌*◌, ◌/◌, ◌%◌, ◌<◌, ◌≤◌, not, true, false, Bool, List, [], ◌∷◌, length, map, get_or, drop, rules, refl, sym, ◌∙◌, ap, ap₂, subst, inl, inr, arith}
+use Rattle.std.proofs.Common.{◌≡◌, ℕ, zero, suc, ◌+◌, ◌-◌, ◌*◌, ◌/◌, ◌%◌, ◌<◌, ◌≤◌, not, true, false, Bool, List, [], ◌∷◌, length, map, get_or, drop, rules, refl, sym, ◌∙◌, ap, ap₂, subst, inl, inr, arith, bit_or}
 use Rattle.std.specs.Prelude.{◌||◌, ◌==◌, nat_lt, if◌then◌else◌}
-use Rattle.std.proofs.lemmas.Bool.{cases_eq, cond-false, cond-true, eq-eqb, eqb-false, eqb-true, ltb-false, ne_eqb, not-false, or_parts}
+use Rattle.std.proofs.lemmas.Bool.{cases_eq, cond-false, cond-true, eq-eqb, eqb-false, eqb-true, false≢true, le-ltb, ltb-false, ne_eqb, not-false, or_from, or_parts}
 use Rattle.std.proofs.lemmas.List.{drop_more, places}
+use Rattle.std.proofs.lemmas.Nat.{le_or_l, le_or_r, or_mod}
 use Rattle.dml_segments.specs.declared.segments.Segment.{Segment}
 use Rattle.dml_types.specs.Memory.{Loan, Memory, Place, are_segments, is_in_segments}
 use Rattle.dml_image.specs.Pieces.{AreInOrder, AreSegments, Piece, end_of, marks_from, pages_of, piece_of, pieces_of, place_of, places_of}
@@ -42,6 +43,22 @@ sound_region end region none =
       rises = ltb-false region.address end tests.1.1.1;
     }
 
+no_code : (a b c d : Bool) → a ≡ false → b ≡ false → c ≡ false → d ≡ false → code_of a b c d ≡ 0
+no_code true b c d p q r s = absurd (false≢true (sym p))
+no_code false true c d p q r s = absurd (false≢true (sym q))
+no_code false false true d p q r s = absurd (false≢true (sym r))
+no_code false false false true p q r s = absurd (false≢true (sym s))
+no_code false false false false p q r s = refl
+
+no_fault : (end : ℕ) (region : CRegion) → IsSound end region → region_fault end region ≡ 0
+no_fault end region sound =
+    let n = length region.bytes.now in
+    no_code (n == 0 || not (n % 4096 == 0)) (not (region.address % 4096 == 0)) (nat_lt most_end (end_of_region region)) (nat_lt region.address end)
+    (or_from (n == 0) (not (n % 4096 == 0)) (ne_eqb n 0 (λ none. omega (arith, none, sound.some))) (ap not (eq-eqb (n % 4096) 0 sound.whole)))
+    (ap not (eq-eqb (region.address % 4096) 0 sound.place))
+    (le-ltb most_end (end_of_region region) sound.most)
+    (le-ltb region.address end sound.rises)
+
 -- the first of a table's regions breaks no rule, and those behind it break none either
 both_zero : (code rest : ℕ) → (if code == 0 then rest else code) ≡ 0 → (code ≡ 0) × (rest ≡ 0)
 both_zero code rest is = elim (cases_eq code 0) [
@@ -66,6 +83,45 @@ step_stops end regions k d below some =
     let region = get_or regions k d in
     let code = region_fault end region in
     ap (first_fault end) (drop_more regions k d below) ∙ cond-false (code == 0) (first_fault (end_of_region region) (drop (k + 1) regions)) code (ne_eqb code 0 some)
+
+-- two numbers are whole pages where their or is
+both_whole : (a b : ℕ) → bit_or a b % 4096 ≡ 0 → (a % 4096 ≡ 0) × (b % 4096 ≡ 0)
+both_whole a b whole =
+    let parts : bit_or (a % 4096) (b % 4096) ≡ 0 = sym (or_mod a b 12) ∙ whole in
+    (omega (arith, parts, le_or_l (a % 4096) (b % 4096)), omega (arith, parts, le_or_r (a % 4096) (b % 4096)))
+
+-- a step along a table of which it is known behind its end alone that all of it are whole pages, within the most
+pub one_more_sound : (regions : List CRegion) (end bits next k : ℕ) (region : CRegion) → k < length regions → get_or regions k region ≡ region → (bits % 4096 ≡ 0 → end ≤ most_end → first_fault 0 regions ≡ first_fault end (drop k regions)) → end ≤ region.address → region.address < next → next ≡ end_of_region region → bit_or bits (bit_or region.address next) % 4096 ≡ 0 → next ≤ most_end → first_fault 0 regions ≡ first_fault next (drop (k + 1) regions)
+one_more_sound regions end bits next k region below at before rises some is whole most =
+    let rest = both_whole bits (bit_or region.address next) whole in
+    let here = both_whole region.address next rest.1 in
+    let sound : IsSound end region = record {
+      some = omega (arith, some, is);
+      whole = omega (arith, here.0, here.1, is);
+      place = here.0;
+      most = omega (arith, is, most);
+      rises = rises;
+    } in
+    before rest.0 (omega (arith, rises, some, most))
+    ∙ step_on end regions k region below (subst (λ (r : CRegion). region_fault end r ≡ 0) (sym at) (no_fault end region sound))
+    ∙ ap (λ (r : CRegion). first_fault (end_of_region r) (drop (k + 1) regions)) at
+    ∙ ap (λ (e : ℕ). first_fault e (drop (k + 1) regions)) (sym is)
+
+or_whole : (a b : ℕ) → a % 4096 ≡ 0 → b % 4096 ≡ 0 → bit_or a b % 4096 ≡ 0
+or_whole a b p q = or_mod a b 12 ∙ ap₂ bit_or p q
+
+-- the next region of a table behind whose passed ones none breaks a rule
+pub next_sound : (regions : List CRegion) (end k : ℕ) (region : CRegion) → k < length regions → get_or regions k region ≡ region → first_fault end (drop k regions) ≡ 0 → IsSound end region
+next_sound regions end k region below at none =
+    let here = get_or regions k region in
+    subst (λ (r : CRegion). IsSound end r) at
+    (first_sound end here (drop (k + 1) regions) (sym (ap (first_fault end) (drop_more regions k region below)) ∙ none)).0
+
+pub next_whole : (bits end next : ℕ) (region : CRegion) → bits % 4096 ≡ 0 → IsSound end region → next ≡ end_of_region region → (bit_or bits (bit_or region.address next) % 4096 ≡ 0) × (next ≤ most_end)
+next_whole bits end next region whole sound is = (
+  or_whole bits (bit_or region.address next) whole (or_whole region.address next sound.place (omega (arith, is, sound.place, sound.whole))),
+  omega (arith, is, sound.most),
+)
 
 -- any of a sound table's regions
 pub sound_at : (end : ℕ) (regions : List CRegion) (k : ℕ) (d : CRegion) → first_fault end regions ≡ 0 → k < length regions → ((get_or regions k d).address % 4096 ≡ 0) × ((get_or regions k d).address < 17592186044416)
@@ -130,6 +186,22 @@ each_alike f g (x ∷ xs) [] size same = absurd (omega (arith, size))
 each_alike f g (x ∷ xs) (y ∷ ys) size same =
     ap₂ (λ z zs. z ∷ zs) (same 0 x y (omega arith)) (each_alike f g xs ys (omega (arith, size)) (λ j a b below. same (suc j) a b (omega (arith, below))))
 
+-- and back: what one place of them shows
+alike_at : {X Y : Type 0} (f : X → ℕ) (g : Y → ℕ) (xs : List X) (ys : List Y) (k : ℕ) (x : X) (y : Y) → k < length ys → length xs ≡ length ys → map f xs ≡ map g ys → f (get_or xs k x) ≡ g (get_or ys k y)
+alike_at f g xs [] k x y below size same = absurd (omega (arith, below))
+alike_at f g [] (b ∷ ys) k x y below size same = absurd (omega (arith, size))
+alike_at f g (a ∷ xs) (b ∷ ys) zero x y below size same = cc
+alike_at f g (a ∷ xs) (b ∷ ys) (suc k) x y below size same =
+    alike_at f g xs ys k x y (omega (arith, below)) (omega (arith, size)) (cc)
+
+-- two tables with the same address at each place
+pub same_addresses : (regions others : List CRegion) → length regions ≡ length others → ((j : ℕ) (region : CRegion) → (get_or regions j region).address ≡ (get_or others j region).address) → addresses_of regions ≡ addresses_of others
+same_addresses [] [] size same = refl
+same_addresses [] (other ∷ others) size same = absurd (omega (arith, size))
+same_addresses (region ∷ regions) [] size same = absurd (omega (arith, size))
+same_addresses (region ∷ regions) (other ∷ others) size same =
+    ap₂ (λ (a : ℕ) (rest : List ℕ). a ∷ rest) (same 0 region) (same_addresses regions others (omega (arith, size)) (λ j r. same (suc j) r))
+
 pub given : (regions : List CRegion) (segments : List Segment) → length regions ≡ length segments → ((j : ℕ) (region : CRegion) (segment : Segment) → j < length segments → piece_of_region (get_or regions j region) ≡ piece_of (get_or segments j segment)) → pieces_of_regions regions ≡ pieces_of segments
 given regions segments size same = each_alike piece_of_region piece_of regions segments size same
 
@@ -140,6 +212,10 @@ starts (segment ∷ segments) = ap (λ (rest : List ℕ). 4096 * segment.first �
 pub placed : (regions : List CRegion) (segments : List Segment) → length regions ≡ length segments → ((j : ℕ) (region : CRegion) (segment : Segment) → j < length segments → (get_or regions j region).address ≡ 4096 * (get_or segments j segment).first) → addresses_of regions ≡ map (λ (p : Piece). 4096 * p.first) (pieces_of segments)
 placed regions segments size same =
     each_alike (λ (r : CRegion). r.address) (λ (s : Segment). 4096 * s.first) regions segments size same ∙ sym (starts segments)
+
+pub placed_at : (regions : List CRegion) (segments : List Segment) (k : ℕ) (region : CRegion) (segment : Segment) → k < length segments → length regions ≡ length segments → addresses_of regions ≡ map (λ (p : Piece). 4096 * p.first) (pieces_of segments) → (get_or regions k region).address ≡ 4096 * (get_or segments k segment).first
+placed_at regions segments k region segment below size same =
+    alike_at (λ (r : CRegion). r.address) (λ (s : Segment). 4096 * s.first) regions segments k region segment below size (same ∙ starts segments)
 
 -- where the segments of a table lie
 pub as_many_places : (segments : List Segment) → length (map place_of (pieces_of segments)) ≡ length segments

@@ -11,7 +11,7 @@ invariant-loop-k l = record {
   size : length l.regions ≡ length l.fn.list.items;
   front : l.list.items ≡ take l.k l.fn.list.items;
   back : (j : ℕ) (region : CRegion) (segment : Segment) → l.k ≤ j → j < length l.fn.list.items → piece_of_region (get_or l.regions j region) ≡ piece_of (get_or l.fn.list.items j segment);
-  places : (j : ℕ) (region : CRegion) (segment : Segment) → l.k ≤ j → j < length l.fn.list.items → (get_or l.regions j region).address ≡ 4096 * (get_or l.fn.list.items j segment).first;
+  places : (j : ℕ) (region : CRegion) (segment : Segment) → j < length l.fn.list.items → (get_or l.regions j region).address ≡ 4096 * (get_or l.fn.list.items j segment).first;
 }
 
 abbrev pub decreases-loop-k : goal.decreases-loop-k

@@ -8,6 +8,7 @@ abbrev pub invariant-loop-k : goal.invariant-loop-k
 invariant-loop-k l = record {
   taken : pieces_of l.list.items ≡ pieces_of_regions (take l.k l.fn.regions);
   rest : (j : ℕ) (default : CRegion) → l.k ≤ j → get_or l.regions j default ≡ get_or l.fn.regions j default;
+  addresses : (j : ℕ) (default : CRegion) → (get_or l.regions j default).address ≡ (get_or l.fn.regions j default).address;
   size : length l.regions ≡ length l.fn.regions;
   count : length l.list.items ≡ l.k;
   room : vec_capacity l.list ≡ vec_capacity l.fn.list;

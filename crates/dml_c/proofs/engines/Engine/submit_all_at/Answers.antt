@@ -19,10 +19,10 @@ settle-requires-clause-as_many c =
     ∙ (loan_after_jobs c.in-Some.image (map decoded c.args.descriptors.now) c.self.inside.staging ∙ ap (λ (m : Memory). m.loan) c.in-Some.ensures.image))
     ∙ sym c.in-Some.ensures.as_many
 
-pub returns-clause-addresses : goal.returns-clause-addresses
-returns-clause-addresses c =
-    c.settle.ensures.addresses
-    ∙ still_placed c.args.regions.now c.submit_list_bytes_to.new.image
+pub settle-requires-clause-addresses : goal.settle-requires-clause-addresses
+settle-requires-clause-addresses c =
+    c.in-Some.ensures.addresses
+    ∙ sym (still_placed c.args.regions.now c.submit_list_bytes_to.new.image
     (ap (λ (m : Memory). m.loan) c.submit_list_bytes_to.ensures.image
     ∙ (loan_after_jobs c.in-Some.image (map decoded c.args.descriptors.now) c.self.inside.staging ∙ ap (λ (m : Memory). m.loan) c.in-Some.ensures.image))
-    (no_first_fault c.args.regions.now c.requires.sound)
+    (no_first_fault c.args.regions.now c.requires.sound))

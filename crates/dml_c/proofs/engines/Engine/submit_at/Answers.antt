@@ -18,10 +18,10 @@ settle-requires-clause-as_many c =
     ∙ (loan_after_step c.in-Some.image c.decode-job.result c.self.inside.staging ∙ ap (λ (m : Memory). m.loan) c.in-Some.ensures.image))
     ∙ sym c.in-Some.ensures.as_many
 
-pub returns-clause-addresses : goal.returns-clause-addresses
-returns-clause-addresses c =
-    c.settle.ensures.addresses
-    ∙ still_placed c.args.regions.now c.submit_to.new.image
+pub settle-requires-clause-addresses : goal.settle-requires-clause-addresses
+settle-requires-clause-addresses c =
+    c.in-Some.ensures.addresses
+    ∙ sym (still_placed c.args.regions.now c.submit_to.new.image
     (ap (λ (m : Memory). m.loan) c.submit_to.ensures.image
     ∙ (loan_after_step c.in-Some.image c.decode-job.result c.self.inside.staging ∙ ap (λ (m : Memory). m.loan) c.in-Some.ensures.image))
-    (no_first_fault c.args.regions.now c.requires)
+    (no_first_fault c.args.regions.now c.requires))

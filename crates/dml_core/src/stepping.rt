@@ -107,10 +107,7 @@ impl World {
         ensures few { OnSome result (length (open_places self.now.fetched) < 1024) }
     {
         let fetched = self.fetched.as_slice();
-        let next = next_counted(self.sent.as_slice(), fetched, client);
-        let Some(job) = next else {
-            return None;
-        };
+        let job = next_counted(self.sent.as_slice(), fetched, client)?;
         if !all_free(self.hands.as_slice()) || self.finished > 0 {
             return None;
         }
@@ -219,7 +216,7 @@ impl World {
         ensures ok { OnOk result (self.new ≡ after self.old (Finish worker)) }
         ensures err { OnErr result (self.new ≡ self.old) }
         ensures not_allowed { result ≡ Err Refusal.NotAllowed → is_allowed self.old (Finish worker) ≡ false }
-        ensures no_memory { result ≡ Err Refusal.NoMemory → is_allowed self.old (Finish worker) ≡ true }
+        ensures no_memory { result ≡ Err Refusal.NoMemory → ⊥ }
     {
         let worker = worker as usize;
         if worker >= self.hands.len() {

@@ -16,7 +16,8 @@ use std::alloc::{AllocError, Global};
 use std::marker::Model;
 use std::mem::size_of;
 
-/// A call takes and gives back a world whole, and so do its callers, by moves that this size still allows.
+/// The size of a world. A call of `replay` takes one and gives one back, and above 256 bytes each of these moves is
+/// slower.
 const _: () = prove!(size_of::<World>() <= 240);
 
 /// The most clients.
@@ -27,7 +28,7 @@ pub(crate) const MAX_CLIENTS: u32 = 8;
 pub struct World {
     pub(crate) settings: Settings,
     /// How many waves of the plan are committed: the first of them.
-    // It stands where the settings leave room.
+    // a `u32`, since the settings leave room for one
     pub(crate) committed: u32,
     pub(crate) image: Image<'static>,
     pub(crate) arena: Arena,

@@ -6,7 +6,8 @@
 //! Each row of the standard error is a name, a number (a size in bytes, or the number of jobs, tasks or workers), and
 //! the nanoseconds of one call. Without arguments each job is timed once, and each list is one of two jobs, which shows
 //! only that they are carried out. One argument, a number of mebibytes, measures: the row of a job is then the mean of
-//! as many jobs as cover that much, at most 200,000.
+//! as many jobs as cover that much, at most 200,000. A row `replay` is what one job takes of the shortest of some
+//! replays of so many jobs.
 #![tactic(auto)]
 
 ghost use Rattle.std.specs.Prelude.{◌≡◌, ◌<◌, ◌≤◌};

@@ -17,6 +17,7 @@ abbrev pub TakesStaging : Job → ℕ → Type 0
 TakesStaging job staging =
     IsDelta job × (refusal job staging ≡ None) × (0 < need job) × (need job ≤ staging)
 
+-- a compare of two ranges, or of one with a pattern
 abbrev pub IsCompare : Job → Type 0
 IsCompare job = (op_of job ≡ Some Compare) ⊎ (op_of job ≡ Some ComparePattern)
 

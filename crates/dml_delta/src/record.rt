@@ -90,7 +90,7 @@ fn known_above(image: &Image, job: &Checked, least: u32, offset: u32) -> u32
 }
 
 /// The place behind the entries from one on that rise from the one before them, and whose offsets are below an end. They
-/// are looked at by fours, so at most three behind the last four.
+/// are passed by fours, and at most three behind these one by one.
 #[inline(always)]
 fn behind_rising(entries: &[u8], from: usize, end: u32) -> usize
     requires some { 1 ≤ from }

@@ -167,7 +167,10 @@ fn carry_out_other_straight(image: &mut Image, job: &Checked) -> Record
     match job.op() {
         Op::NoOp => ended(Status::Success, 0, 0),
         Op::Move => unreachable!(),
-        Op::Dualcast => by_fields(dualcast_straight(image, job)),
+        Op::Dualcast => {
+            let found = dualcast_straight(image, job);
+            copied_record(job.job().size, Direction::Forward, found)
+        }
         Op::Fill => by_fields(fill_straight(image, job)),
         Op::Compare | Op::ComparePattern => by_fields(compare_straight(image, job)),
         Op::CreateDelta | Op::ApplyDelta => carry_out_effect(image, job),
@@ -273,11 +276,12 @@ fn move_scanned(image: &mut Image, job: &Checked) -> Record
     answer
 }
 
-/// Carries out a dualcast within the image, with no stage: the first destination shares no byte with the source.
-fn dualcast_straight(image: &mut Image, job: &Checked) -> Record
+/// Carries out a dualcast within the image, with no stage: the first destination shares no byte with the source. It
+/// answers how that ended, and its caller makes the record: one that a call answers would be read while it is written.
+fn dualcast_straight(image: &mut Image, job: &Checked) -> Found
     requires operation { op_of job.now ≡ Some Dualcast }
+    ensures answer { joined.copied_record job.now.size 0 result ≡ (checked_step image.old job.now).1 }
     ensures image { image.new ≡ (checked_step image.old job.now).0 }
-    ensures answer { result ≡ (checked_step image.old job.now).1 }
 {
     let &Job {
         source,
@@ -294,7 +298,7 @@ fn dualcast_straight(image: &mut Image, job: &Checked) -> Record
         image.move_within(source, target, done);
         image.move_within(source, extra, done);
     }
-    answer
+    found
 }
 
 /// The effect of a whole fill, which stages nothing.

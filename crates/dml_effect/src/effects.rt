@@ -3,6 +3,7 @@ ghost use Rattle.std.specs.Prelude.{◌≡◌, IsTrue};
 ghost use Rattle.dml_types.specs.Memory.{puts_made};
 ghost use Rattle.dml_effect.specs.Effects.{are_present, puts_of};
 
+use crate::records::by_fields;
 use dml_arena::Region;
 use dml_image::Image;
 use dml_types::Record;
@@ -81,5 +82,5 @@ pub fn commit(image: &mut Image, effect: Effect<'_>) -> Record
         Puts::Pattern { addr, len, pattern } => image.fill(addr, len, pattern),
         Puts::Entries { target, entries } => image.put_blocks(target, entries.bytes()),
     }
-    answer
+    by_fields(answer)
 }

@@ -1,4 +1,6 @@
-use Rattle.std.proofs.Common.{◌∙◌, ap, arith}
+use Rattle.std.proofs.Common.{ℕ, sym, ◌∙◌, ap, arith}
+use Rattle.dml_types.specs.declared.jobs.Job.{Job}
+use Rattle.dml_effect.specs.Joined.{copied_record}
 use Rattle.dml_types.specs.Memory.{Memory, has_all, bytes_at, put}
 use Rattle.dml_effect.proofs.StraightLemmas.{twice_answer, twice_image, twice_nothing, twice_reads, twice_writes, twice_writes_second}
 use Rattle.dml_effect.proofs.carrying.dualcast_straight.Goals as goal
@@ -24,10 +26,16 @@ returns-then-done-gt0-clause-image c =
     ∙ twice_image c.args.image.now c.args.job.now c.job.result.now c.dualcast_found-found.result c.copied_record-answer.result c.job.ensures.job c.job.ensures.checked c.requires.operation c.dualcast_found-found.ensures c.copied_record-answer.ensures c.pages-pages.ensures.memory.whole (omega arith))
 
 pub returns-then-done-gt0-clause-answer : goal.returns-then-done-gt0-clause-answer
-returns-then-done-gt0-clause-answer c = twice_answer c.args.image.now c.args.job.now c.job.result.now c.dualcast_found-found.result c.copied_record-answer.result c.job.ensures.job c.job.ensures.checked c.requires.operation c.dualcast_found-found.ensures c.copied_record-answer.ensures
+returns-then-done-gt0-clause-answer c =
+    ap (λ (n : ℕ). copied_record n 0 c.dualcast_found-found.result) (ap (λ (j : Job). j.size) (sym c.job.ensures.job))
+    ∙ (sym c.copied_record-answer.ensures
+    ∙ twice_answer c.args.image.now c.args.job.now c.job.result.now c.dualcast_found-found.result c.copied_record-answer.result c.job.ensures.job c.job.ensures.checked c.requires.operation c.dualcast_found-found.ensures c.copied_record-answer.ensures)
 
 pub returns-else-done-gt0-clause-image : goal.returns-else-done-gt0-clause-image
 returns-else-done-gt0-clause-image c = twice_nothing c.args.image.now c.args.job.now c.job.result.now c.dualcast_found-found.result c.copied_record-answer.result c.job.ensures.job c.job.ensures.checked c.requires.operation c.dualcast_found-found.ensures c.copied_record-answer.ensures (omega arith)
 
 pub returns-else-done-gt0-clause-answer : goal.returns-else-done-gt0-clause-answer
-returns-else-done-gt0-clause-answer c = twice_answer c.args.image.now c.args.job.now c.job.result.now c.dualcast_found-found.result c.copied_record-answer.result c.job.ensures.job c.job.ensures.checked c.requires.operation c.dualcast_found-found.ensures c.copied_record-answer.ensures
+returns-else-done-gt0-clause-answer c =
+    ap (λ (n : ℕ). copied_record n 0 c.dualcast_found-found.result) (ap (λ (j : Job). j.size) (sym c.job.ensures.job))
+    ∙ (sym c.copied_record-answer.ensures
+    ∙ twice_answer c.args.image.now c.args.job.now c.job.result.now c.dualcast_found-found.result c.copied_record-answer.result c.job.ensures.job c.job.ensures.checked c.requires.operation c.dualcast_found-found.ensures c.copied_record-answer.ensures)

@@ -1,5 +1,5 @@
 ghost use Rattle.std.specs.Prelude.{◌≡◌, ◌≢◌, ◌↔◌, ◌<◌, ◌≤◌, IfErr, IfOk, IsOk, IsSome, IsTrue, OnErr, OnOk, false, length, map, true};
-ghost use Rattle.dml_types.specs.Memory.{has_all, put};
+ghost use Rattle.dml_types.specs.Memory.{has_all, is_in_segments, put};
 ghost use Rattle.dml_types.specs.Job.{unfenced};
 ghost use Rattle.dml_types.specs.Limits.{IsValid};
 ghost use Rattle.dml_types.specs.Step.{memory_after, records_of, step};
@@ -154,7 +154,8 @@ impl<'a, G> EngineOver<'a, G> {
     ///
     /// # Errors
     /// `NoSuchPage` where the image has no page of this number, and `NoMemory` where there is no room for a page that
-    /// was absent, which is always so of lent memory. Nothing is changed then.
+    /// was absent, which is always so of lent memory, also of a page that lies in none of its segments. Nothing is
+    /// changed then.
     pub fn bring(&mut self, page: u32, bytes: &[u8; 4096]) -> Result<(), ImageError>
         ensures ok { OnOk result (self.new.image ≡ brought self.old.image page bytes.now) }
         ensures err { OnErr result (self.new.image ≡ self.old.image) }
@@ -163,6 +164,8 @@ impl<'a, G> EngineOver<'a, G> {
         ensures again { IsTrue (has_page self.old.image page) → IsOk result }
         ensures no_room { IsSome self.old.image.home → page < length self.old.image.present →
             has_page self.old.image page ≡ false → result ≡ Err ImageError.NoMemory }
+        ensures hole { IsTrue (is_in_segments self.old.image) → page < length self.old.image.present
+            → has_page self.old.image page ≡ false → result ≡ Err ImageError.NoMemory }
         ensures settings { self.new.settings ≡ self.old.settings }
         ensures watched { self.new.watched ≡ self.old.watched }
     {

@@ -9,7 +9,7 @@ pub enum ImageError {
     /// The image has no page of this number.
     #[error("there is no such page")]
     NoSuchPage,
-    /// A growth was refused.
+    /// A growth was refused, or an absent page was to be brought into lent memory, where no growth is made.
     #[error("out of memory")]
     NoMemory,
 }

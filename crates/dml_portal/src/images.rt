@@ -1,7 +1,7 @@
 //! The image of a server between its rounds.
 ghost use Rattle.std.specs.Prelude.{◌≡◌, ◌≢◌, ◌↔◌, ◌<◌, ◌≤◌, IsOk, IsSome, IsTrue, OnErr, OnOk, false, length};
 ghost use Rattle.dml_types.specs.Limits.{IsValid};
-ghost use Rattle.dml_types.specs.Memory.{has_all, put};
+ghost use Rattle.dml_types.specs.Memory.{has_all, is_in_segments, put};
 ghost use Rattle.dml_image.specs.Brought.{brought, has_page};
 
 use crate::servers::ServerOver;
@@ -30,7 +30,8 @@ impl<'a, G> ServerOver<'a, G> {
     ///
     /// # Errors
     /// `NoSuchPage` where the image has no page of this number, and `NoMemory` where there is no room for a page that
-    /// was absent, which is always so of lent memory. Nothing is changed then.
+    /// was absent, which is always so of lent memory, also of a page that lies in none of its segments. Nothing is
+    /// changed then.
     pub fn bring(&mut self, page: u32, bytes: &[u8; 4096]) -> Result<(), ImageError>
         ensures ok { OnOk result (image_of self.new ≡ brought (image_of self.old) page bytes.now) }
         ensures err { OnErr result (image_of self.new ≡ image_of self.old) }
@@ -39,6 +40,8 @@ impl<'a, G> ServerOver<'a, G> {
         ensures again { IsTrue (has_page (image_of self.old) page) → IsOk result }
         ensures no_room { IsSome (image_of self.old).home → page < length (image_of self.old).present →
             has_page (image_of self.old) page ≡ false → result ≡ Err ImageError.NoMemory }
+        ensures hole { IsTrue (is_in_segments (image_of self.old)) → page < length (image_of self.old).present
+            → has_page (image_of self.old) page ≡ false → result ≡ Err ImageError.NoMemory }
         ensures settings { settings_of self.new ≡ settings_of self.old }
         ensures log { log_of self.new ≡ log_of self.old }
         ensures lanes { lanes_of self.new ≡ lanes_of self.old }

@@ -7,7 +7,7 @@ use super::portals::Two;
 use super::steps::serve;
 use super::{done, engine, expect_bytes};
 use dml_pool::Free;
-use dml_portal::{LogEntry, Seat, Server, ServerOver, Settled};
+use dml_portal::{LogEntry, Seat, ServerOver, SettledOver};
 use dml_types::{Job, Record};
 use std::alloc::Global;
 use std::process::Abort;
@@ -33,7 +33,7 @@ pub(super) fn second_list() -> [(Job, Record); 1] {
 }
 
 /// A portal of two clients over a page of zeros.
-pub(super) fn portal_of_two(alloc: Global) -> Option<Two> {
+pub(super) fn portal_of_two(alloc: Global) -> Option<Two<'static>> {
     Two::open(alloc, engine(alloc)?, 4)
 }
 
@@ -63,7 +63,7 @@ pub(super) fn expect_part(rt: &impl Abort, log: &[LogEntry], client: u32, list: 
 }
 
 /// Each client's part of the log is its list, and the image has what they wrote.
-pub(super) fn expect_settled(rt: &impl Abort, settled: &Settled) {
+pub(super) fn expect_settled(rt: &impl Abort, settled: &SettledOver<'_>) {
     let log = settled.log.list.as_slice();
     same(rt, log.len(), 3);
     expect_part(rt, log, 0, &first_list());
@@ -93,7 +93,7 @@ pub(super) fn both_submitted<R: Abort + Threads + Sync>(
 }
 
 /// The portal once they have.
-fn submitted_at_once<R: Abort + Threads + Sync>(rt: &R, portal: Two) -> Two {
+fn submitted_at_once<'a, R: Abort + Threads + Sync>(rt: &R, portal: Two<'a>) -> Two<'a> {
     let Two {
         server,
         first,
@@ -108,13 +108,21 @@ fn submitted_at_once<R: Abort + Threads + Sync>(rt: &R, portal: Two) -> Two {
 }
 
 /// Two clients submit at once.
+pub(super) fn expect_two_seats<R: Abort + Threads + Wait + Sync>(
+    rt: &R,
+    alloc: Global,
+    portal: Two<'_>,
+) {
+    let portal = submitted_at_once(rt, portal);
+    let settled = portal.settle(rt, alloc).expect(rt, "not settled");
+    expect_settled(rt, &settled);
+}
+
 #[test]
 fn two_seats(rt: HostRuntime) {
     for _ in 0..10 {
         let portal = portal_of_two(rt.alloc()).expect(&rt, "no memory");
-        let portal = submitted_at_once(&rt, portal);
-        let settled = portal.settle(&rt, rt.alloc()).expect(&rt, "not settled");
-        expect_settled(&rt, &settled);
+        expect_two_seats(&rt, rt.alloc(), portal);
     }
 }
 
@@ -189,13 +197,13 @@ pub(super) fn polled_to_the_end(
 }
 
 /// One more round, behind which both clients poll what is left.
-fn expect_all_polled<R: Abort + Threads + Wait + Sync>(
+fn expect_all_polled<'a, R: Abort + Threads + Wait + Sync>(
     rt: &R,
     alloc: Global,
-    portal: Two,
+    portal: Two<'a>,
     of_first: &[Record],
     of_second: &[Record],
-) -> Two {
+) -> Two<'a> {
     let mut portal = portal;
     holds(rt, portal.serve(rt, alloc).is_ok());
     let Two {
@@ -234,11 +242,11 @@ fn polled_and_served<'a, R: Abort + Threads + Wait + Sync>(
 
 /// Both clients poll on threads of their own, while the server serves rounds on this one: the portal, and what each has
 /// polled.
-fn polled_while_served<R: Abort + Threads + Wait + Sync>(
+fn polled_while_served<'a, R: Abort + Threads + Wait + Sync>(
     rt: &R,
     alloc: Global,
-    portal: Two,
-) -> (Two, Vec<Record>, Vec<Record>) {
+    portal: Two<'a>,
+) -> (Two<'a>, Vec<Record>, Vec<Record>) {
     let Two {
         server,
         first,
@@ -249,7 +257,7 @@ fn polled_while_served<R: Abort + Threads + Wait + Sync>(
         || -> (Seat, Vec<Record>)
             ensures { IsSameSeat first result.0 }
         { polled(rt, alloc, first, &first_list()) },
-        || -> (Server<Free>, Seat, Vec<Record>)
+        || -> (ServerOver<'_, Free>, Seat, Vec<Record>)
             ensures { AreSameLanes server.entry.lanes.items result.0.lanes.items × IsSameSeat second result.1 }
         { polled_and_served(rt, alloc, server, second) },
     );
@@ -263,14 +271,22 @@ fn polled_while_served<R: Abort + Threads + Wait + Sync>(
 
 /// Two clients poll on threads of their own while a third thread serves. The rings hold all their records, so in the
 /// end each client has polled all of its own.
+pub(super) fn expect_polls_while_serving<R: Abort + Threads + Wait + Sync>(
+    rt: &R,
+    alloc: Global,
+    portal: Two<'_>,
+) {
+    let (portal, of_first, of_second) = polled_while_served(rt, alloc, portal);
+    let (of_first, of_second) = (of_first.as_slice(), of_second.as_slice());
+    let portal = expect_all_polled(rt, alloc, portal, of_first, of_second);
+    let settled = portal.settle(rt, alloc).expect(rt, "not settled");
+    expect_settled(rt, &settled);
+}
+
 #[test]
 fn polls_while_serving(rt: HostRuntime) {
     for _ in 0..10 {
         let portal = portal_of_two(rt.alloc()).expect(&rt, "no memory");
-        let (portal, of_first, of_second) = polled_while_served(&rt, rt.alloc(), portal);
-        let (of_first, of_second) = (of_first.as_slice(), of_second.as_slice());
-        let portal = expect_all_polled(&rt, rt.alloc(), portal, of_first, of_second);
-        let settled = portal.settle(&rt, rt.alloc()).expect(&rt, "not settled");
-        expect_settled(&rt, &settled);
+        expect_polls_while_serving(&rt, rt.alloc(), portal);
     }
 }

@@ -11,7 +11,7 @@ use std::alloc::Global;
 use std::process::Abort;
 
 /// A portal over a page of zeros.
-fn portal_of_two(alloc: Global) -> Option<Two> {
+fn portal_of_two(alloc: Global) -> Option<Two<'static>> {
     Two::open(alloc, engine(alloc)?, 4)
 }
 

@@ -64,7 +64,7 @@ fn expect_sevens(rt: &impl Abort, image: &Image) {
 fn expect_settled_at_once<R: Abort + Threads + Wait + Sync>(
     rt: &R,
     alloc: Global,
-    portal: Two,
+    portal: Two<'static>,
     dones: Vec<Done>,
 )
     requires empty { dones.items ≡ [] }
@@ -101,7 +101,7 @@ fn refused_open(rt: HostRuntime) {
 
 /// Two clients of a portal submit: the first two jobs, the second one. The first job looks at the bytes that the next
 /// one writes, so its record tells whether they were written before.
-fn three_submitted(portal: Two) -> Option<Two> {
+fn three_submitted(portal: Two<'static>) -> Option<Two<'static>> {
     let mut portal = portal;
     portal.submit_first(Job::compare_pattern(0, 0, 16)).ok()?;
     portal
@@ -114,12 +114,12 @@ fn three_submitted(portal: Two) -> Option<Two> {
 }
 
 /// A portal of two clients whose lists all go to workers, which have submitted three jobs.
-fn submitted_first(alloc: Global) -> Option<Two> {
+fn submitted_first(alloc: Global) -> Option<Two<'static>> {
     three_submitted(Two::open(alloc, engine(alloc)?.with_gate(Free), 4)?)
 }
 
 /// The same behind a round, from which an entry stands in the log.
-fn submitted(rt: &(impl Threads + Wait + Sync), alloc: Global) -> Option<Two> {
+fn submitted(rt: &(impl Threads + Wait + Sync), alloc: Global) -> Option<Two<'static>> {
     let mut portal = Two::open(alloc, engine(alloc)?.with_gate(Free), 4)?;
     portal.submit_second(Job::no_op()).ok()?;
     if portal.serve(rt, alloc).ok()? != 1 {
@@ -137,7 +137,7 @@ fn set_up_of_serve_round(rt: HostRuntime) {
 }
 
 /// A round is served; where it is refused nothing was fetched, and the next one is served.
-fn serve_at_last<R: Abort + Threads + Wait + Sync>(rt: &R, alloc: Global, portal: &mut Two) {
+fn serve_at_last<R: Abort + Threads + Wait + Sync>(rt: &R, alloc: Global, portal: &mut Two<'_>) {
     if let Err(error) = portal.serve(rt, alloc) {
         same(rt, error, PortalError::NoMemory);
         portal.expect_polled(rt, &[], &[]);
@@ -160,7 +160,7 @@ fn expect_carried_out(rt: &impl Abort, settled: &Settled, earlier: usize) {
 fn expect_round<R: Abort + Threads + Wait + Sync>(
     rt: &R,
     alloc: Global,
-    portal: Two,
+    portal: Two<'static>,
     earlier: &[Record],
     dones: Vec<Done>,
 )

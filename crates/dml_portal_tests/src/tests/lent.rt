@@ -1,8 +1,9 @@
 //! Portals over memory that a caller lends.
 
 use super::claims::{holds, same};
-use super::portals::{One, Three};
-use super::rounds::{expect_fetched_in_turn, expect_settled_in_turn};
+use super::clients::{expect_polls_while_serving, expect_two_seats};
+use super::portals::{One, Three, Two};
+use super::rounds::{expect_fetched_in_turn, expect_settled_in_turn, expect_two_fetched_in_turn};
 use super::steps::{expect_polled, serve_long, submit_all};
 use super::{Row, done};
 use dml_engine::EngineOver;
@@ -130,6 +131,82 @@ fn expect_row_over_one_piece<R: Abort + Threads + Wait + Sync>(rt: &R, alloc: Gl
 fn rows_over_one_piece(rt: HostRuntime) {
     for row in Row::ALL {
         expect_row_over_one_piece(&rt, rt.alloc(), row);
+    }
+}
+
+/// A row of a portal of two clients over a page of zeros.
+#[derive(Clone, Copy, Debug)]
+pub(super) enum RowOfTwo {
+    SubmitAtOnce,
+    FetchedInTurn,
+    PollsWhileServing,
+}
+
+impl RowOfTwo {
+    /// All of them.
+    pub(super) const ALL: [RowOfTwo; 3] = [
+        RowOfTwo::SubmitAtOnce,
+        RowOfTwo::FetchedInTurn,
+        RowOfTwo::PollsWhileServing,
+    ];
+
+    /// Expects it of a portal.
+    fn expect<R: Abort + Threads + Wait + Sync>(self, rt: &R, alloc: Global, portal: Two<'_>) {
+        match self {
+            RowOfTwo::SubmitAtOnce => expect_two_seats(rt, alloc, portal),
+            RowOfTwo::FetchedInTurn => expect_two_fetched_in_turn(rt, alloc, portal),
+            RowOfTwo::PollsWhileServing => expect_polls_while_serving(rt, alloc, portal),
+        }
+    }
+}
+
+/// Expects a row of two clients over an image.
+pub(super) fn expect_row_of_two<R: Abort + Threads + Wait + Sync>(
+    rt: &R,
+    alloc: Global,
+    image: Image<'_>,
+    row: RowOfTwo,
+) {
+    let engine = EngineOver::new(alloc, image, SETTINGS).ok();
+    let portal = Two::open(alloc, engine.expect(rt, "no memory"), 4);
+    row.expect(rt, alloc, portal.expect(rt, "no memory"));
+}
+
+/// Expects such a row over a page that is lent.
+fn expect_two_over_lent_memory<R: Abort + Threads + Wait + Sync>(
+    rt: &R,
+    alloc: Global,
+    row: RowOfTwo,
+) {
+    let mut content = [0; 4096];
+    let mut lent = Lent::new(&[true], &mut content);
+    assert!(rt; lent.is_memory());
+    expect_row_of_two(rt, alloc, lent.take(), row);
+}
+
+#[test]
+fn rows_of_two_over_lent_memory(rt: HostRuntime) {
+    for row in RowOfTwo::ALL {
+        expect_two_over_lent_memory(&rt, rt.alloc(), row);
+    }
+}
+
+/// The same in one piece.
+fn expect_two_over_one_piece<R: Abort + Threads + Wait + Sync>(
+    rt: &R,
+    alloc: Global,
+    row: RowOfTwo,
+) {
+    let mut content = [0; 4096];
+    let mut whole = Whole::new(&mut content);
+    assert!(rt; whole.is_memory());
+    expect_row_of_two(rt, alloc, whole.take(), row);
+}
+
+#[test]
+fn rows_of_two_over_one_piece(rt: HostRuntime) {
+    for row in RowOfTwo::ALL {
+        expect_two_over_one_piece(&rt, rt.alloc(), row);
     }
 }
 

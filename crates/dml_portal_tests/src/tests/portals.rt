@@ -6,12 +6,10 @@ ghost use Rattle.dml_portal.specs.Lanes.{IsSeatOf};
 use super::claims::holds;
 use super::engine;
 use super::steps::{expect_polled, expect_served, serve, submit_all};
-use dml_engine::{Engine, EngineOver};
+use dml_engine::EngineOver;
 use dml_image::{Image, ImageError};
 use dml_pool::Free;
-use dml_portal::{
-    Done, Full, Portal, PortalError, Seat, Server, ServerOver, SettleFault, Settled, SettledOver,
-};
+use dml_portal::{Done, Full, Portal, PortalError, Seat, ServerOver, SettleFault, SettledOver};
 use dml_types::{Job, Record, Settings};
 use std::alloc::Global;
 use std::process::Abort;
@@ -28,8 +26,8 @@ pub(super) struct One<'a> {
 
 /// A portal of two clients.
 #[derive(Drop)]
-pub(super) struct Two {
-    pub(super) server: Server<Free>,
+pub(super) struct Two<'a> {
+    pub(super) server: ServerOver<'a, Free>,
     pub(super) first: Seat,
     pub(super) second: Seat,
     ghost own_first: { IsSeatOf server.lanes.items first },
@@ -108,8 +106,8 @@ impl<'a> One<'a> {
     }
 }
 
-impl Two {
-    pub(super) fn open(alloc: Global, engine: Engine, capacity: u32) -> Option<Two> {
+impl<'a> Two<'a> {
+    pub(super) fn open(alloc: Global, engine: EngineOver<'a>, capacity: u32) -> Option<Two<'a>> {
         let Ok((server, seats)) = Portal::open(alloc, engine, 2, capacity) else {
             return None;
         };
@@ -117,7 +115,7 @@ impl Two {
     }
 
     /// The portal of a server and its two seats.
-    pub(super) fn of(server: Server<Free>, seats: Vec<Seat>) -> Option<Two>
+    pub(super) fn of(server: ServerOver<'a, Free>, seats: Vec<Seat>) -> Option<Two<'a>>
         requires { All (IsSeatOf server.lanes.items) seats.items }
     {
         let mut seats = seats;
@@ -173,7 +171,11 @@ impl Two {
     }
 
     /// Both clients finish, and the portal is settled.
-    pub(super) fn settle<R: Threads + Wait + Sync>(self, rt: &R, alloc: Global) -> Option<Settled> {
+    pub(super) fn settle<R: Threads + Wait + Sync>(
+        self,
+        rt: &R,
+        alloc: Global,
+    ) -> Option<SettledOver<'a>> {
         let Two {
             server,
             first,
@@ -189,7 +191,7 @@ impl Two {
         rt: &R,
         alloc: Global,
         dones: Vec<Done>,
-    ) -> Option<Settled>
+    ) -> Option<SettledOver<'a>>
         requires empty { dones.items ≡ [] }
         requires room { 2 ≤ vec_capacity dones }
     {
@@ -209,7 +211,7 @@ impl Two {
         self,
         rt: &R,
         alloc: Global,
-    ) -> Option<Settled> {
+    ) -> Option<SettledOver<'a>> {
         let Two {
             server,
             first,

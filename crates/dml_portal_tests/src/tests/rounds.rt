@@ -153,7 +153,7 @@ fn fetched_of_two() -> [(u32, Job); 7] {
 fn expect_fetched<R: Abort + Threads + Wait + Sync>(
     rt: &R,
     alloc: Global,
-    portal: &mut Two,
+    portal: &mut Two<'_>,
     jobs: &[(u32, Job)],
 ) {
     for (client, job) in jobs {
@@ -180,18 +180,27 @@ fn expect_done(rt: &impl Abort, log: &[LogEntry], jobs: &[(u32, Job)]) {
 }
 
 /// Two clients write the same bytes, and each round looks at what the one before has left.
+pub(super) fn expect_two_fetched_in_turn<R: Abort + Threads + Wait + Sync>(
+    rt: &R,
+    alloc: Global,
+    portal: Two<'_>,
+) {
+    let mut portal = portal;
+    let submitted = submitted_by_two();
+    expect_fetched(rt, alloc, &mut portal, &submitted[..3]);
+    expect_fetched(rt, alloc, &mut portal, &submitted[3..6]);
+    expect_fetched(rt, alloc, &mut portal, &submitted[6..]);
+    expect_fetched(rt, alloc, &mut portal, &[]);
+    let settled = portal.settle(rt, alloc).expect(rt, "not settled");
+    expect_done(rt, settled.log.list.as_slice(), &fetched_of_two());
+    same(rt, settled.image.byte(0), Some(4));
+}
+
 #[test]
 fn two_clients_fetched_in_turn(rt: HostRuntime) {
     let engine = engine(rt.alloc()).expect(&rt, "no memory");
-    let mut portal = Two::open(rt.alloc(), engine, 4).expect(&rt, "no memory");
-    let submitted = submitted_by_two();
-    expect_fetched(&rt, rt.alloc(), &mut portal, &submitted[..3]);
-    expect_fetched(&rt, rt.alloc(), &mut portal, &submitted[3..6]);
-    expect_fetched(&rt, rt.alloc(), &mut portal, &submitted[6..]);
-    expect_fetched(&rt, rt.alloc(), &mut portal, &[]);
-    let settled = portal.settle(&rt, rt.alloc()).expect(&rt, "not settled");
-    expect_done(&rt, settled.log.list.as_slice(), &fetched_of_two());
-    same(&rt, settled.image.byte(0), Some(4));
+    let portal = Two::open(rt.alloc(), engine, 4).expect(&rt, "no memory");
+    expect_two_fetched_in_turn(&rt, rt.alloc(), portal)
 }
 
 /// Submits jobs of a client by their numbers, below 200, for each of which there is room.

@@ -3,7 +3,8 @@
 use super::Row;
 use super::claims::{holds, same};
 use super::lent::{
-    expect_row, expect_served, expect_stays_up, expect_three_fetched, expect_three_settled,
+    RowOfTwo, expect_row, expect_row_of_two, expect_served, expect_stays_up, expect_three_fetched,
+    expect_three_settled,
 };
 use dml_image::{Image, Segment, are_segments};
 use std::alloc::Global;
@@ -71,6 +72,24 @@ fn expect_row_over_segments<R: Abort + Threads + Wait + Sync>(rt: &R, alloc: Glo
 fn rows_over_segments(rt: HostRuntime) {
     for row in Row::ALL {
         expect_row_over_segments(&rt, rt.alloc(), row);
+    }
+}
+
+/// Expects a row of two clients over two segments.
+fn expect_two_over_segments<R: Abort + Threads + Wait + Sync>(
+    rt: &R,
+    alloc: Global,
+    row: RowOfTwo,
+) {
+    let (mut low, mut high) = ([0; 4096], [0; 4096]);
+    let image = memory(rt, alloc, (0, &mut low), (3, &mut high));
+    expect_row_of_two(rt, alloc, image, row);
+}
+
+#[test]
+fn rows_of_two_over_segments(rt: HostRuntime) {
+    for row in RowOfTwo::ALL {
+        expect_two_over_segments(&rt, rt.alloc(), row);
     }
 }
 

@@ -20,7 +20,10 @@ use std::thread::Threads;
 // behind those that their set-up takes.
 
 /// A portal of two clients, with a record of each that waits.
-fn with_records_that_wait(rt: &(impl Threads + Wait + Sync), alloc: Global) -> Option<Two> {
+fn with_records_that_wait(
+    rt: &(impl Threads + Wait + Sync),
+    alloc: Global,
+) -> Option<Two<'static>> {
     let mut portal = Two::open(alloc, engine(alloc)?, 1)?;
     for bytes in [8, 16] {
         portal.submit_first(Job::fill(1, 0, bytes)).ok()?;
@@ -38,7 +41,7 @@ fn set_up_of_stay_up(rt: HostRuntime) {
 }
 
 /// The same portal with a server that stays up, at once, or as it was and then when it is asked again.
-fn stays_at_last(rt: &impl Abort, portal: Two) -> Option<Stay> {
+fn stays_at_last(rt: &impl Abort, portal: Two<'static>) -> Option<Stay> {
     match Stay::of(portal, 4) {
         Ok(portal) => Some(portal),
         Err((portal, error)) => {

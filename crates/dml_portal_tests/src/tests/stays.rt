@@ -36,7 +36,7 @@ impl Stay {
     }
 
     /// The same portal, with a server that holds a client back for whom more records wait.
-    pub(super) fn of(portal: Two, most: usize) -> Result<Stay, (Two, PortalError)>
+    pub(super) fn of(portal: Two<'static>, most: usize) -> Result<Stay, (Two<'static>, PortalError)>
         ensures whole { IfOk result (λ stay. AreWhole stay.server.lanes.items stay.server.log.items) }
     {
         let Two {

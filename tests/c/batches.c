@@ -1,23 +1,27 @@
 /*
  * Rows of batches and of lists, beside those of fences.c, through kazovuni.h: on an engine's own image, over memory in
- * one piece, over a region, over two with a hole between them, and over the same far above. Each is handed in as a
- * batch, as a list, and job by job, where these answer the same. What a row's jobs have to answer, and what they leave,
- * stands in the row; every other byte has to stay as it was, that of a page which is lent to nobody too.
+ * one piece, over a region, over two with a hole between them, over the same far above, and on the last page of 5 GiB
+ * in one piece, which are reserved and touched there alone. Each is handed in as a batch, as a list, and job by job,
+ * where these answer the same. What a row's jobs have to answer, and what they leave, stands in the row; every other
+ * byte has to stay as it was, that of a page which is lent to nobody too.
  */
+#define _DEFAULT_SOURCE
 #include "kazovuni.h"
 
 #include <stdio.h>
 #include <stdlib.h>
 #include <string.h>
+#include <sys/mman.h>
 
 enum { PAGE = KAZOVUNI_PAGE_BYTES, PAGES = 3, MOST_JOBS = 5, MOST_LEFT = 4, MEBIBYTE = 1 << 20 };
-enum place { ON_IMAGE, IN_ONE_PIECE, OVER_A_REGION, BESIDE_A_HOLE, FAR_ABOVE, PLACES };
+enum place { ON_IMAGE, IN_ONE_PIECE, OVER_A_REGION, BESIDE_A_HOLE, FAR_ABOVE, AT_THE_END, PLACES };
 
 /* How the jobs of a row are handed in; a row has a bit for each way in which it answers what it says. */
 enum way { AS_A_BATCH, AS_A_LIST, ALONE, WAYS };
 enum { IN_BATCHES = 1 << AS_A_BATCH, IN_LISTS = 1 << AS_A_LIST | 1 << ALONE, ANYHOW = IN_BATCHES | IN_LISTS };
 
 #define FAR_BEGIN (UINT64_C(1) << 43)
+#define FIVE_GIB (UINT64_C(5) << 30)
 
 /* Bytes from a place on: so many times the same, or those of the text. */
 typedef struct stretch {
@@ -125,7 +129,8 @@ static int failed;
 static kazovuni_engine engine;
 
 /* The row's page, one that no job may touch, and one behind the hole; and what they have to be. */
-static uint8_t pages[PAGES][PAGE], wanted[PAGES][PAGE];
+static uint8_t (*pages)[PAGE], own[PAGES][PAGE], wanted[PAGES][PAGE];
+static uint8_t *five_gib; /* and two such pages behind them */
 static uint8_t descriptors[MOST_JOBS][64], records[MOST_JOBS][32], batch[32];
 
 static void expect(bool holds, const row *row, enum place place, enum way way, const char *what)
@@ -139,7 +144,14 @@ static void expect(bool holds, const row *row, enum place place, enum way way, c
 /* Where a row's page begins there. */
 static uint64_t begin_of(enum place place)
 {
-    return place == FAR_ABOVE ? FAR_BEGIN : 0;
+    switch (place) {
+    case FAR_ABOVE:
+        return FAR_BEGIN;
+    case AT_THE_END:
+        return FIVE_GIB - PAGE;
+    default:
+        return 0;
+    }
 }
 
 static void put(uint8_t *page, const stretch *stretches, int count)
@@ -157,11 +169,12 @@ static void put(uint8_t *page, const stretch *stretches, int count)
 static void open_row(const row *row, enum place place)
 {
     kazovuni_free(&engine);
+    pages = place == AT_THE_END ? (uint8_t(*)[PAGE])(five_gib + begin_of(place)) : own;
     memset(pages[0], 0, PAGE);
     memset(pages[1], 0xa5, PAGE);
     memset(pages[2], 0x5a, PAGE);
     put(pages[0], row->before, 2);
-    memcpy(wanted, pages, sizeof pages);
+    memcpy(wanted, pages, sizeof wanted);
     bool is_made = place == ON_IMAGE ? kazovuni_create(&engine, PAGES, row->staging) == KAZOVUNI_OK &&
                                            kazovuni_bring(&engine, 0, pages[0]) == KAZOVUNI_OK &&
                                            kazovuni_bring(&engine, 2, pages[2]) == KAZOVUNI_OK
@@ -197,6 +210,8 @@ static uint8_t submit_batch(enum place place, size_t count, kazovuni_region tabl
         return kazovuni_submit_batch(&engine, descriptors, count, records, count, batch);
     case IN_ONE_PIECE:
         return kazovuni_submit_batch_in(&engine, pages[0], PAGE, descriptors, count, records, count, batch);
+    case AT_THE_END:
+        return kazovuni_submit_batch_in(&engine, five_gib, FIVE_GIB, descriptors, count, records, count, batch);
     default:
         return kazovuni_submit_batch_at(&engine, table, regions, descriptors, count, records, count, batch);
     }
@@ -209,6 +224,8 @@ static uint8_t submit_list(enum place place, size_t count, kazovuni_region table
         return kazovuni_submit_list(&engine, descriptors[0], count, records[0], count);
     case IN_ONE_PIECE:
         return kazovuni_submit_list_in(&engine, pages[0], PAGE, descriptors, count, records, count);
+    case AT_THE_END:
+        return kazovuni_submit_list_in(&engine, five_gib, FIVE_GIB, descriptors, count, records, count);
     default:
         return kazovuni_submit_list_at(&engine, table, regions, descriptors, count, records, count);
     }
@@ -221,6 +238,8 @@ static uint8_t submit_one(enum place place, size_t i, kazovuni_region table[2], 
         return kazovuni_submit(&engine, descriptors[i], records[i]);
     case IN_ONE_PIECE:
         return kazovuni_submit_in(&engine, pages[0], PAGE, descriptors[i], records[i]);
+    case AT_THE_END:
+        return kazovuni_submit_in(&engine, five_gib, FIVE_GIB, descriptors[i], records[i]);
     default:
         return kazovuni_submit_at(&engine, table, regions, descriptors[i], records[i]);
     }
@@ -272,18 +291,24 @@ static void try_row(const row *row, enum place place, enum way way)
                    kazovuni_read(&engine, PAGE, pages[1], 1) == KAZOVUNI_ABSENT &&
                    kazovuni_read(&engine, 2 * PAGE, pages[2], PAGE) == KAZOVUNI_OK,
                row, place, way, "the pages are read");
-    expect(memcmp(pages, wanted, sizeof pages) == 0, row, place, way, "the bytes that are left");
+    expect(memcmp(pages, wanted, sizeof wanted) == 0, row, place, way, "the bytes that are left");
 }
 
 int main(void)
 {
-    size_t count = sizeof rows / sizeof rows[0];
+    size_t count = sizeof rows / sizeof rows[0], length = FIVE_GIB + (PAGES - 1) * PAGE;
+    void *room = mmap(NULL, length, PROT_READ | PROT_WRITE, MAP_PRIVATE | MAP_ANONYMOUS | MAP_NORESERVE, -1, 0);
+    five_gib = room == MAP_FAILED ? NULL : room;
+    if (five_gib == NULL)
+        puts("batches: the system reserves no 5 GiB: the rows in a piece of that size are left out");
     for (enum place place = 0; place < PLACES; place++)
         for (enum way way = 0; way < WAYS; way++)
             for (size_t i = 0; i < count; i++)
-                if ((rows[i].ways >> way & 1) != 0)
+                if ((rows[i].ways >> way & 1) != 0 && (place != AT_THE_END || five_gib != NULL))
                     try_row(&rows[i], place, way);
     kazovuni_free(&engine);
+    if (five_gib != NULL)
+        munmap(five_gib, length);
     if (!failed)
         printf("batches: %zu rows, passed\n", count);
     return failed;

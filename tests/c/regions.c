@@ -610,6 +610,12 @@ static void try_records(void)
     record[0] = KAZOVUNI_STATUS_SUCCESS;
     descriptor[4] = KAZOVUNI_FLAG_ADDRESS_VALID | KAZOVUNI_FLAG_REQUEST_RECORD;
     EXPECT(kazovuni_put_record(descriptor, record, place + 1) && memcmp(place + 1, record, 32) == 0);
+    /* that of an abandoned job, all zeros, is written too, and no byte beside it */
+    memset(record, 0, sizeof record);
+    memset(place, 0xcc, sizeof place);
+    descriptor[4] = KAZOVUNI_FLAG_ADDRESS_VALID;
+    EXPECT(kazovuni_put_record(descriptor, record, place + 1) && memcmp(place + 1, zeros, 32) == 0);
+    EXPECT(place[0] == 0xcc && place[33] == 0xcc);
 }
 
 int main(void)

@@ -1,9 +1,9 @@
 /*
  * Rows of batches and of lists, beside those of fences.c, through kazovuni.h: on an engine's own image, over memory in
  * one piece, over a region, over two with a hole between them, over the same far above, and on the last page of 5 GiB
- * in one piece, which are reserved and touched there alone. Each is handed in as a batch, as a list, and job by job,
- * where these answer the same. What a row's jobs have to answer, and what they leave, stands in the row; every other
- * byte has to stay as it was, that of a page which is lent to nobody too.
+ * in one piece, which are reserved, with two pages behind them, and touched there alone. Each is handed in as a batch,
+ * as a list, and job by job, where these answer the same. What a row's jobs have to answer, and what they leave, stands
+ * in the row; every other byte has to stay as it was, that of a page which is lent to nobody too.
  */
 #define _DEFAULT_SOURCE
 #include "kazovuni.h"
@@ -129,7 +129,7 @@ static int failed;
 static kazovuni_engine engine;
 
 /* The row's page, one that no job may touch, and one behind the hole; and what they have to be. */
-static uint8_t (*pages)[PAGE], own[PAGES][PAGE], wanted[PAGES][PAGE];
+static uint8_t (*pages)[PAGE], own_pages[PAGES][PAGE], wanted[PAGES][PAGE];
 static uint8_t *five_gib; /* and two such pages behind them */
 static uint8_t descriptors[MOST_JOBS][64], records[MOST_JOBS][32], batch[32];
 
@@ -169,7 +169,7 @@ static void put(uint8_t *page, const stretch *stretches, int count)
 static void open_row(const row *row, enum place place)
 {
     kazovuni_free(&engine);
-    pages = place == AT_THE_END ? (uint8_t(*)[PAGE])(five_gib + begin_of(place)) : own;
+    pages = place == AT_THE_END ? (uint8_t(*)[PAGE])(five_gib + begin_of(place)) : own_pages;
     memset(pages[0], 0, PAGE);
     memset(pages[1], 0xa5, PAGE);
     memset(pages[2], 0x5a, PAGE);

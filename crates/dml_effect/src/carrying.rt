@@ -277,7 +277,7 @@ fn move_scanned(image: &mut Image, job: &Checked) -> Record
 }
 
 /// Carries out a dualcast within the image, with no stage: the first destination shares no byte with the source. It
-/// answers how that ended, and its caller makes the record: one that a call answers would be read while it is written.
+/// answers how that ended, and its caller makes the record: one that a call answers is read again at once, and waits.
 fn dualcast_straight(image: &mut Image, job: &Checked) -> Found
     requires operation { op_of job.now ≡ Some Dualcast }
     ensures answer { joined.copied_record job.now.size 0 result ≡ (checked_step image.old job.now).1 }

@@ -200,7 +200,7 @@ pub(super) fn expect_two_fetched_in_turn<R: Abort + Threads + Wait + Sync>(
 fn two_clients_fetched_in_turn(rt: HostRuntime) {
     let engine = engine(rt.alloc()).expect(&rt, "no memory");
     let portal = Two::open(rt.alloc(), engine, 4).expect(&rt, "no memory");
-    expect_two_fetched_in_turn(&rt, rt.alloc(), portal)
+    expect_two_fetched_in_turn(&rt, rt.alloc(), portal);
 }
 
 /// Submits jobs of a client by their numbers, below 200, for each of which there is room.

@@ -1,6 +1,4 @@
 //! Replays of jobs that go one by one.
-ghost use Rattle.std.specs.Prelude.{◌<◌};
-
 use dml_core::{Step, World};
 use dml_image::Image;
 use dml_types::{Job, Settings};
@@ -14,8 +12,11 @@ const SETTINGS: Settings = Settings {
     workers: 1,
 };
 
-/// How many jobs the replays of one row have together, at least.
+/// How many jobs the replays of one sample have together, of whichever size these are.
 const JOBS: u32 = 100_000;
+
+/// How many samples of each size are taken, of which the shortest counts.
+const SAMPLES: u32 = 20;
 
 /// A world of one client over one page.
 fn world(alloc: Global) -> io::Result<World> {
@@ -53,33 +54,36 @@ fn replayed(alloc: Global, world: World, steps: &[Step]) -> Option<World> {
     world.replay(alloc, steps).ok()
 }
 
-/// Times so many replays of so many jobs, each in a new world: the least of them.
-fn time_replay(rt: &HostRuntime, jobs: u32, replays: u32) -> io::Result<()>
-    requires { 0 < jobs }
-{
-    let steps = steps_of(rt.alloc(), jobs)?;
-    let mut least = u128::MAX;
+/// The nanoseconds that so many replays of some steps take together, each in a new world.
+fn time_sample(rt: &HostRuntime, steps: &[Step], replays: u32) -> io::Result<u128> {
+    let mut time: u128 = 0;
     for _ in 0..replays {
         let new = world(rt.alloc())?;
         let start = Instant::now(rt)?;
-        let end = replayed(rt.alloc(), new, steps.as_slice());
-        least = least.min(start.elapsed(rt)?.as_nanos());
+        let end = replayed(rt.alloc(), new, steps);
+        time = time.saturating_add(start.elapsed(rt)?.as_nanos());
         if end.is_none() {
             return Err(io::ErrorKind::InvalidData.into());
         }
     }
-    let nanoseconds = least / u128::from(jobs);
-    eprintln!(rt; "replay {jobs} {nanoseconds}")
+    Ok(time)
 }
 
-/// Times replays of 1,000, 10,000 and 100,000 jobs: the nanoseconds of one job.
+/// Times replays of 1,000, 10,000 and 100,000 jobs: the nanoseconds of one job. The samples of the three go by turns,
+/// and each has as many jobs, so that what a host takes away meets all of them alike.
 pub(crate) fn time_replays(rt: &HostRuntime, measures: bool) -> io::Result<()> {
-    for jobs in [1000, 10_000, 100_000] {
-        if measures {
-            time_replay(rt, jobs, (JOBS / jobs).max(3))?;
-        } else {
-            time_replay(rt, 1, 1)?;
-        }
+    let (most, samples) = if measures { (JOBS, SAMPLES) } else { (1, 1) };
+    let small = steps_of(rt.alloc(), most.min(1000))?;
+    let middle = steps_of(rt.alloc(), most.min(10_000))?;
+    let large = steps_of(rt.alloc(), most)?;
+    let (mut of_small, mut of_middle, mut of_large) = (u128::MAX, u128::MAX, u128::MAX);
+    for _ in 0..samples {
+        of_small = of_small.min(time_sample(rt, small.as_slice(), (most / 1000).max(1))?);
+        of_middle = of_middle.min(time_sample(rt, middle.as_slice(), (most / 10_000).max(1))?);
+        of_large = of_large.min(time_sample(rt, large.as_slice(), 1)?);
     }
-    Ok(())
+    let jobs = u128::from(JOBS);
+    eprintln!(rt; "replay 1000 {}", of_small / jobs)?;
+    eprintln!(rt; "replay 10000 {}", of_middle / jobs)?;
+    eprintln!(rt; "replay 100000 {}", of_large / jobs)
 }

@@ -128,11 +128,13 @@ static void try_numbers(kazovuni_engine *engine)
         many[i] = (kazovuni_region){1, NULL, 0}; /* each is wrong otherwise too */
     EXPECT(code_of(engine, many, KAZOVUNI_MOST_REGIONS + 1) == KAZOVUNI_TOO_MANY_REGIONS);
     EXPECT(code_of(engine, many, KAZOVUNI_MOST_REGIONS) == KAZOVUNI_BAD_LENGTH);
+    EXPECT(code_of(&none, many, KAZOVUNI_MOST_REGIONS + 1) == KAZOVUNI_NO_ENGINE);
 }
 
-/* What a region is refused for, each rule by itself and before those that come later. */
+/* What a region is refused for, each rule by itself and before those that come later, and behind the handle. */
 static void try_one_region(kazovuni_engine *engine)
 {
+    kazovuni_engine none = {0};
     const struct {
         kazovuni_region region;
         uint8_t code;
@@ -154,18 +156,23 @@ static void try_one_region(kazovuni_engine *engine)
     for (size_t i = 0; i < sizeof rows / sizeof rows[0]; i++) {
         kazovuni_region region = rows[i].region;
         EXPECT(code_of(engine, &region, 1) == rows[i].code);
+        EXPECT(code_of(&none, &region, 1) == KAZOVUNI_NO_ENGINE);
     }
 }
 
-/* Tables of two regions: the first that is wrong decides, whichever rule it breaks. */
+/* Tables of two regions: the first that is wrong decides, whichever rule it breaks; the handle comes before. */
 static void try_two_regions(kazovuni_engine *engine)
 {
+    kazovuni_engine none = {0};
     const struct {
         kazovuni_region regions[2];
         uint8_t code;
     } rows[] = {
-        /* an end before the order */
+        /* an end, of a region that rises */
         {{{PAGE, page, PAGE}, {UINT64_C(0) - PAGE, page + PAGE, PAGE}}, KAZOVUNI_REGION_PAST},
+        /* an end before the order, and an address before it: the second region breaks both rules */
+        {{{MOST_END - PAGE, page, PAGE}, {MOST_END - PAGE, page + PAGE, 2 * PAGE}}, KAZOVUNI_REGION_PAST},
+        {{{PAGE, page, PAGE}, {1, page + PAGE, PAGE}}, KAZOVUNI_BAD_ADDRESS},
         /* the order: the same page, a page before, a page inside */
         {{{PAGE, page, PAGE}, {PAGE, page + PAGE, PAGE}}, KAZOVUNI_NOT_RISING},
         {{{PAGE, page, PAGE}, {0, page + PAGE, PAGE}}, KAZOVUNI_NOT_RISING},
@@ -179,6 +186,7 @@ static void try_two_regions(kazovuni_engine *engine)
     for (size_t i = 0; i < sizeof rows / sizeof rows[0]; i++) {
         kazovuni_region regions[2] = {rows[i].regions[0], rows[i].regions[1]};
         EXPECT(code_of(engine, regions, 2) == rows[i].code);
+        EXPECT(code_of(&none, regions, 2) == KAZOVUNI_NO_ENGINE);
     }
 }
 
@@ -378,12 +386,24 @@ static uint8_t submit_batch(
     }
 }
 
+/* One job more than a batch may have. */
+#define MANY ((size_t)1 << 32)
+
+/* So many descriptors and as many records behind them, which are reserved and never touched, or NULL. */
+static uint8_t *reserve_many(void)
+{
+    void *room = mmap(NULL, 96 * MANY, PROT_READ | PROT_WRITE, MAP_PRIVATE | MAP_ANONYMOUS | MAP_NORESERVE, -1, 0);
+    if (room != MAP_FAILED)
+        return room;
+    puts("regions: a batch of 2^32 jobs is not reserved here, and left out");
+    return NULL;
+}
+
 /* What a list and a batch are refused for beside their memory, in the order of the tests. */
 static void try_counts(int place, kazovuni_engine *engine)
 {
-    uint8_t descriptors[2][64] = {{0}}, records[2][32], batch[32];
+    uint8_t descriptors[2][64] = {{0}}, records[2][32], batch[32], *room = reserve_many();
     kazovuni_engine none = {0};
-    size_t many = (size_t)1 << 32;
     memset(records, 0xcc, sizeof records);
     EXPECT(submit_list(place, &none, descriptors, 2, records, 1) == KAZOVUNI_NO_ENGINE);
     EXPECT(submit_batch(place, &none, descriptors, 2, records, 1, batch) == KAZOVUNI_NO_ENGINE && batch[0] == 0xcc);
@@ -391,15 +411,14 @@ static void try_counts(int place, kazovuni_engine *engine)
     EXPECT(submit_list(place, engine, descriptors, 1, records, 2) == KAZOVUNI_NOT_AS_MANY);
     EXPECT(submit_batch(place, engine, descriptors, 2, records, 1, batch) == KAZOVUNI_NOT_AS_MANY && batch[0] == 0xcc);
     EXPECT(submit_batch(place, engine, NULL, 0, records, 2, batch) == KAZOVUNI_NOT_AS_MANY && batch[0] == 0xcc);
-    /* so many descriptors and records are reserved, and never touched */
-    uint8_t *room = mmap(NULL, 96 * many, PROT_READ | PROT_WRITE, MAP_PRIVATE | MAP_ANONYMOUS | MAP_NORESERVE, -1, 0);
-    if (room == MAP_FAILED) {
-        puts("regions: a batch of 2^32 jobs is not reserved here, and left out");
-    } else {
-        EXPECT(submit_batch(place, engine, room, many, room + 64 * many, many - 1, batch) == KAZOVUNI_NOT_AS_MANY);
-        EXPECT(submit_batch(place, engine, room, many, room + 64 * many, many, batch) == KAZOVUNI_TOO_MANY_JOBS);
+    if (room) {
+        EXPECT(submit_batch(place, &none, room, MANY, room + 64 * MANY, MANY, batch) == KAZOVUNI_NO_ENGINE);
         EXPECT(batch[0] == 0xcc);
-        EXPECT(munmap(room, 96 * many) == 0);
+        EXPECT(submit_batch(place, engine, room, MANY, room + 64 * MANY, MANY - 1, batch) == KAZOVUNI_NOT_AS_MANY);
+        EXPECT(batch[0] == 0xcc);
+        EXPECT(submit_batch(place, engine, room, MANY, room + 64 * MANY, MANY, batch) == KAZOVUNI_TOO_MANY_JOBS);
+        EXPECT(batch[0] == 0xcc);
+        EXPECT(munmap(room, 96 * MANY) == 0);
     }
     EXPECT(records[0][0] == 0xcc && records[1][31] == 0xcc);
     EXPECT(submit_list(place, engine, NULL, 0, NULL, 0) == KAZOVUNI_OK);
@@ -425,6 +444,49 @@ static void try_memory_first(kazovuni_engine *engine)
     EXPECT(kazovuni_submit_list_at(engine, &wrong, 1, descriptors, 2, records, 1) == KAZOVUNI_BAD_ADDRESS);
     EXPECT(kazovuni_submit_batch_at(engine, &wrong, 1, descriptors, 2, records, 1, batch) == KAZOVUNI_BAD_ADDRESS);
     EXPECT(records[0][0] == 0xcc && batch[0] == 0xcc);
+}
+
+/* The codes of tables with a batch of more jobs than there may be: whatever is wrong with a table is told before. */
+static const struct {
+    kazovuni_region regions[2];
+    size_t count;
+    uint8_t code;
+} tables_of_many[] = {
+    {{{0, pages, PAGE}, {PAGE, pages + PAGE, PAGE}}, 2, KAZOVUNI_TOO_MANY_JOBS},
+    {{{0, pages, PAGE}, {PAGE, pages + PAGE, PAGE}}, 0, KAZOVUNI_NO_REGIONS},
+    {{{0, pages, PAGE}, {PAGE, NULL, PAGE}}, 2, KAZOVUNI_NULL_REGION},
+    {{{0, pages, PAGE}, {PAGE, pages + PAGE, PAGE - 1}}, 2, KAZOVUNI_BAD_LENGTH},
+    {{{0, pages, PAGE}, {PAGE + 1, pages + PAGE, PAGE}}, 2, KAZOVUNI_BAD_ADDRESS},
+    {{{0, pages, PAGE}, {MOST_END, pages + PAGE, PAGE}}, 2, KAZOVUNI_REGION_PAST},
+    {{{PAGE, pages, PAGE}, {0, pages + PAGE, PAGE}}, 2, KAZOVUNI_NOT_RISING},
+};
+
+/* A batch of so many jobs with an empty handle, over no pages, and over these tables and one that is too long. */
+static void try_memory_of_many(kazovuni_engine *engine)
+{
+    kazovuni_region regions[KAZOVUNI_MOST_REGIONS + 1] = {{0, NULL, 0}};
+    kazovuni_engine none = {0};
+    uint8_t batch[32], *jobs = reserve_many();
+    if (!jobs)
+        return;
+    uint8_t *records = jobs + 64 * MANY;
+    memset(batch, 0xcc, sizeof batch);
+    EXPECT(kazovuni_submit_batch_in(&none, pages, 1, jobs, MANY, records, MANY, batch) == KAZOVUNI_NO_ENGINE);
+    EXPECT(kazovuni_submit_batch_in(engine, pages, 1, jobs, MANY, records, MANY, batch) == KAZOVUNI_NOT_PAGES);
+    EXPECT(kazovuni_submit_batch_in(engine, NULL, 0, jobs, MANY, records, MANY, batch) == KAZOVUNI_NOT_PAGES);
+    for (size_t i = 0; i < sizeof tables_of_many / sizeof tables_of_many[0]; i++) {
+        size_t count = tables_of_many[i].count;
+        uint8_t code = tables_of_many[i].code;
+        memcpy(regions, tables_of_many[i].regions, sizeof tables_of_many[i].regions);
+        EXPECT(kazovuni_submit_batch_at(engine, regions, count, jobs, MANY, records, MANY, batch) == code);
+        EXPECT(kazovuni_submit_batch_at(&none, regions, count, jobs, MANY, records, MANY, batch) == KAZOVUNI_NO_ENGINE);
+    }
+    size_t most = KAZOVUNI_MOST_REGIONS;
+    EXPECT(kazovuni_submit_batch_at(engine, regions, most + 1, jobs, MANY, records, MANY, batch) ==
+           KAZOVUNI_TOO_MANY_REGIONS);
+    EXPECT(kazovuni_submit_batch_at(&none, regions, most + 1, jobs, MANY, records, MANY, batch) == KAZOVUNI_NO_ENGINE);
+    EXPECT(batch[0] == 0xcc && batch[31] == 0xcc);
+    EXPECT(munmap(jobs, 96 * MANY) == 0);
 }
 
 /* What stands in the memory that the jobs go over. */
@@ -493,6 +555,7 @@ static void try_staging(void)
     EXPECT(kazovuni_create_staging(&engine, KAZOVUNI_MOST_STAGING + 1) == KAZOVUNI_BAD_SETTINGS && !engine.is_open);
     EXPECT(kazovuni_create_staging(&engine, 400) == KAZOVUNI_OK && engine.is_open);
     EXPECT(kazovuni_create_staging(&engine, KAZOVUNI_MOST_STAGING + 1) == KAZOVUNI_HAS_ENGINE);
+    EXPECT(kazovuni_create(&engine, 1, KAZOVUNI_MOST_STAGING + 1) == KAZOVUNI_HAS_ENGINE && engine.is_open);
     EXPECT(kazovuni_submit_in(&engine, pages, PAGE - 1, descriptor, record) == KAZOVUNI_NOT_PAGES);
     EXPECT(kazovuni_submit_in(&engine, NULL, 0, descriptor, record) == KAZOVUNI_NOT_PAGES && record[0] == 0xcc);
     memset(pages, 1, 2 * PAGE);
@@ -525,6 +588,7 @@ static void try_pages(void)
     uint8_t byte = 9;
     EXPECT(kazovuni_evict(&engine, 0) == KAZOVUNI_NO_ENGINE);
     EXPECT(kazovuni_present(&engine, 0, 1, &present) == KAZOVUNI_NO_ENGINE && present == 77);
+    EXPECT(kazovuni_present(&engine, UINT64_MAX, 2, &present) == KAZOVUNI_NO_ENGINE && present == 77);
     EXPECT(kazovuni_create(&engine, 3, 0) == KAZOVUNI_OK);
     EXPECT(kazovuni_evict(&engine, 3) == KAZOVUNI_NO_SUCH_PAGE);
     EXPECT(kazovuni_evict(&engine, UINT32_MAX) == KAZOVUNI_NO_SUCH_PAGE);
@@ -641,6 +705,7 @@ int main(void)
         try_fences(place, &engine);
     }
     try_memory_first(&engine);
+    try_memory_of_many(&engine);
     kazovuni_free(&engine);
     try_staging();
     try_pages();

@@ -2,7 +2,8 @@
  * Random jobs over random regions by kazovuni_submit_at, beside the same jobs by kazovuni_submit on an image of an
  * engine's own, whose pages are present where a region has them: the same records, and the same bytes in the end. A
  * third of the calls are kazovuni_submit_list_at beside kazovuni_submit_list, and kazovuni_submit_batch_at beside
- * kazovuni_submit_batch, of none to eight jobs, some of them with the fence.
+ * kazovuni_submit_batch, of none to eight jobs, some of them with the fence. Printed are the jobs and the calls over
+ * regions, of which a list is one, and so is a batch.
  *
  * Usage: regions_random [JOBS [SEED]]
  */
@@ -33,7 +34,7 @@ static uint64_t below(uint64_t most)
 static kazovuni_engine image, staging;
 static kazovuni_region table[PAGES];
 static size_t regions;
-static unsigned long accepted, refused, faults, crossings, abandoned, lists, batches;
+static unsigned long accepted, refused, faults, crossings, abandoned, calls, lists, batches;
 
 static void give_up(const char *what, unsigned long job)
 {
@@ -201,6 +202,7 @@ static unsigned long try_call(unsigned long n, unsigned long left)
     for (size_t i = 0; i < MOST_TOGETHER; i++)
         if ((records[1][i][0] == 0xcc) != (i >= jobs))
             give_up("which records are written", n);
+    calls++;
     lists += form == LIST;
     batches += form == BATCH;
     return jobs;
@@ -210,7 +212,8 @@ static void print_counts(unsigned long jobs)
 {
     printf("regions_random: %lu jobs: %lu carried out, %lu of them with a page fault, %lu refused, %lu abandoned; ",
            jobs, accepted, faults, refused, abandoned);
-    printf("%lu lists and %lu batches; %lu ranges go over from one region into the next\n", lists, batches, crossings);
+    printf("%lu calls over regions, %lu lists and %lu batches among them; ", calls, lists, batches);
+    printf("%lu ranges go over from one region into the next\n", crossings);
 }
 
 int main(int words_given, char **words)
@@ -220,7 +223,7 @@ int main(int words_given, char **words)
     state = state * UINT64_C(0x9e3779b97f4a7c15) + 1;
     if (kazovuni_create_staging(&staging, STAGING) != KAZOVUNI_OK)
         return 2;
-    for (unsigned long n = 0, calls = 0; n < jobs; calls++) {
+    for (unsigned long n = 0; n < jobs;) {
         if (calls % CALLS_OF_A_TABLE == 0)
             make_table();
         if (calls % CALLS_BETWEEN_LOOKS == 0) {

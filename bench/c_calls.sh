@@ -3,11 +3,11 @@
 # of the calls' times, and the bars of calls from C: a move of 4 KiB over memmove, and each call over the same one
 # inside Rattle (`submit_over` on the caller's pages, `submit_to` on an image's own); and moves of pages anywhere in 1
 # GiB in one piece over memmove at the same places, by bench/c_whole.c. Jobs with the staging of an engine beside the
-# same ones with their own from malloc, moves, fills, compares and creates over eight regions beside one, and a batch of
-# moves of a page, in one piece, on an image and over eight regions, beside the list of them that dml_bench hands to an
-# engine of one worker, without a bar, by bench/c_regions.c. Then the jobs straight over buffers, by bench/c_buffers.c,
-# beside the same ones by kazovuni_submit_pointers, with their bars as ratios: of the operation's own call (`buffers`)
-# and of kazovuni_execute (`execute`), which checks the job twice.
+# same ones with their own from malloc, moves, fills, both compares, dualcasts, creates and applies over eight regions
+# beside one, and a batch of moves of a page, in one piece, on an image and over eight regions, beside the list of them
+# that dml_bench hands to an engine of one worker, without a bar, by bench/c_regions.c. Then the jobs straight over
+# buffers, by bench/c_buffers.c, beside the same ones by kazovuni_submit_pointers, with their bars as ratios: of the
+# operation's own call (`buffers`) and of kazovuni_execute (`execute`), which checks the job twice.
 #
 # Usage: bench/c_calls.sh [ROUNDS [OLDER [BENCH]]]   15 rounds, where nothing else is said.
 # OLDER is the prefix of an older library, or an older checkout, whose own tools/install_library.sh is run then. The
@@ -105,7 +105,7 @@ done
 awk -v busy="$busy" -v older="${older:+1}" -v listed="${listed:+1}" '
     BEGIN {
         split("buffers execute", ways, " "); split("pointers libc", kept, " ")
-        regionals = split("move fill compare create", regional, " ")
+        regionals = split("move fill compare compare_pattern dualcast create apply", regional, " ")
         places = split("moves_batch moves_batch_on_image moves_batch_at", place, " ")
         split("in one piece,on an image,over eight regions", place_names, ",")
     }

@@ -112,7 +112,16 @@ static void print_regions(const char *name, kazovuni_job job)
     print_rows(name, job.size, "at_one", at_one, "at_eight", at_eight, CALLS, 1);
 }
 
-/* Jobs of 64 bytes and of a page from the first region to the last, and a create's record in the middle. */
+/* The same job of 64 bytes and of a page. */
+static void print_sizes(const char *name, kazovuni_job job)
+{
+    job.size = 64;
+    print_regions(name, job);
+    job.size = PAGE;
+    print_regions(name, job);
+}
+
+/* Jobs of 64 bytes and of a page from the first region to the last; a dualcast's second target is in the middle. */
 static void print_all_regions(void)
 {
     print_regions("move", (kazovuni_job){.opcode = KAZOVUNI_OP_MOVE, .source = 64, .target = SIZE - PAGE, .size = 64});
@@ -122,14 +131,28 @@ static void print_all_regions(void)
     print_regions("fill", (kazovuni_job){.opcode = KAZOVUNI_OP_FILL, .target = SIZE - PAGE, .size = PAGE});
     print_regions("compare", (kazovuni_job){.opcode = KAZOVUNI_OP_COMPARE, .target = SIZE - PAGE, .size = 64});
     print_regions("compare", (kazovuni_job){.opcode = KAZOVUNI_OP_COMPARE, .target = SIZE - PAGE, .size = PAGE});
-    /* in which one block differs, and 20 do */
+    print_sizes("compare_pattern", (kazovuni_job){.opcode = KAZOVUNI_OP_COMPARE_PATTERN, .source = SIZE - PAGE});
+    print_sizes("dualcast", (kazovuni_job){.opcode = KAZOVUNI_OP_DUALCAST, .target = SIZE - PAGE, .extra = SIZE / 2});
+}
+
+/*
+ * Creates in which one block differs, and 20 do, of the first region and the last, with the record in the middle; and
+ * behind each an apply of its record over the second source, which leaves that as it is.
+ */
+static void print_deltas(void)
+{
+    kazovuni_job create = {.opcode = KAZOVUNI_OP_CREATE_DELTA, .target = SIZE - 2 * PAGE, .extra = SIZE / 2};
+    kazovuni_job apply = {.opcode = KAZOVUNI_OP_APPLY_DELTA, .source = SIZE / 2, .target = SIZE - 2 * PAGE};
     for (size_t i = 0; i < 20; i++)
         bytes[SIZE - 2 * PAGE + i * 200] = 1;
-    kazovuni_job create = {.opcode = KAZOVUNI_OP_CREATE_DELTA, .target = SIZE - 2 * PAGE, .extra = SIZE / 2};
     create.size = 64, create.delta_size = 80;
     print_regions("create", create);
+    apply.size = 64, apply.delta_size = 10;
+    print_regions("apply", apply);
     create.size = PAGE, create.delta_size = 5120;
     print_regions("create", create);
+    apply.size = PAGE, apply.delta_size = 200;
+    print_regions("apply", apply);
 }
 
 /* A batch of moves, each of a page to the one beside it, as dml_bench moves them in its list_page_moves. */
@@ -170,6 +193,7 @@ int main(void)
                             .delta_size = 200});
     print_rows("apply", PAGE, "whole", whole, "in", in, CALLS, 1);
     print_all_regions();
+    print_deltas();
     print_moves();
     kazovuni_free(&engine);
     free(bytes);

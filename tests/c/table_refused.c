@@ -270,6 +270,73 @@ static void walk_budget(const uint8_t page[PAGE])
     budget = SIZE_MAX;
 }
 
+/* Makes an engine of two pages by the least budget that is enough, which is five blocks. */
+static void create_by_budget(kazovuni_engine *engine)
+{
+    for (budget = 0;; budget++) {
+        growths = refused = 0;
+        uint8_t answer = kazovuni_create(engine, 2, NEED);
+        if (answer == KAZOVUNI_OK)
+            break;
+        expect("the answer of an image above a budget", answer == KAZOVUNI_NO_MEMORY && budget < 100);
+        expect("the handle above a budget", engine->engine == NULL && !engine->is_open && blocks == 0);
+    }
+    expect("the growths of an engine with an image", growths == 5 && budget == 5 && blocks == 5);
+    is_met = false;
+}
+
+/* Brings its first page by the least budget that is enough, which is one block; below that the page stays absent. */
+static void bring_by_budget(kazovuni_engine *engine, const uint8_t page[PAGE])
+{
+    uint8_t byte = 0xcc;
+    for (budget = 0;; budget++) {
+        growths = refused = 0;
+        uint8_t answer = kazovuni_bring(engine, 0, page);
+        if (answer == KAZOVUNI_OK)
+            break;
+        expect("the answer of a page above a budget", answer == KAZOVUNI_NO_MEMORY && budget < 100);
+        expect("a page above a budget", kazovuni_read(engine, 0, &byte, 1) == KAZOVUNI_ABSENT && byte == 0xcc);
+        expect("the blocks without the page", blocks == 5);
+    }
+    expect("the growths of a page", growths == 1 && budget == 1 && blocks == 6);
+    is_met = false;
+}
+
+/* A batch on the image, and the page once more, where the budget is used up. */
+static void submit_by_budget(kazovuni_engine *engine, const uint8_t page[PAGE])
+{
+    static const uint8_t own[32] = {0x01, [4] = 1};
+    uint8_t bytes[20], records[1][32], batch[32];
+    memset(records, 0xcc, sizeof records);
+    memset(batch, 0xcc, sizeof batch);
+    expect_done("a page that is present within the budget", kazovuni_bring(engine, 0, page));
+    expect_done("a batch within the budget", kazovuni_submit_batch(engine, create, 1, records, 1, batch));
+    expect("the record of a batch within the budget", memcmp(records[0], created, 32) == 0);
+    expect("the batch's own record within the budget", memcmp(batch, own, 32) == 0);
+    expect_done("read within the budget", kazovuni_read(engine, 128, bytes, sizeof bytes));
+    expect("the delta record within the budget", memcmp(bytes, delta, sizeof delta) == 0);
+    expect("the growths of a batch on the image", growths == budget);
+}
+
+/*
+ * The same of an engine with an image: a page is brought, given up and brought again, which takes its block anew, and
+ * the calls that have it present ask for nothing.
+ */
+static void walk_image_budget(const uint8_t page[PAGE])
+{
+    kazovuni_engine engine = {0};
+    create_by_budget(&engine);
+    bring_by_budget(&engine, page);
+    submit_by_budget(&engine, page);
+    expect_done("evict within the budget", kazovuni_evict(&engine, 0));
+    expect("the block of a page that is given up", growths == budget && blocks == 5);
+    bring_by_budget(&engine, page);
+    submit_by_budget(&engine, page);
+    kazovuni_free(&engine);
+    expect("free", blocks == 0);
+    budget = SIZE_MAX;
+}
+
 static uint8_t submit(enum call call, uint8_t bytes[PAGE], uint8_t records[1][32])
 {
     uint8_t by_pointers[64];
@@ -424,6 +491,7 @@ int main(void)
         walk_buffers(page);
     } while (growths >= refused);
     walk_budget(page);
+    walk_image_budget(page);
     printf("table_refused:");
     for (enum call call = CREATE; call < CALLS; call++) {
         printf(" %s %zu", names[call], met[call]);

@@ -1,9 +1,9 @@
 /*
  * The worked rows of calls that are no jobs, through kazovuni.h: handles with and without an engine, pages and bytes at
- * the edges of an image, counts that differ, lists that are longer than one wave or one list of the program takes, and
- * NULL with a length or a number of 0. Then the largest create and the largest apply that there are, over lent memory;
- * and the largest memory in one piece, which is reserved and touched in places alone: where the system reserves none, a
- * line says so.
+ * the edges of an image, counts that differ, lists and batches that are longer than one wave or one list of the program
+ * takes, and NULL with a length or a number of 0. Then the largest create and the largest apply that there are, over
+ * lent memory; and the largest memory in one piece, which is reserved and touched in places alone: where the system
+ * reserves none, a line says so.
  */
 #define _GNU_SOURCE
 #include "kazovuni.h"
@@ -48,6 +48,7 @@ static void try_create(void)
     EXPECT(kazovuni_create(&engine, 4096, KAZOVUNI_MOST_STAGING) == KAZOVUNI_OK && engine.is_open);
     EXPECT(kazovuni_create(&engine, 1, 0) == KAZOVUNI_HAS_ENGINE);
     EXPECT(kazovuni_create(&engine, 0, 0) == KAZOVUNI_HAS_ENGINE && engine.is_open);
+    EXPECT(kazovuni_create(&engine, 1, KAZOVUNI_MOST_STAGING + 1) == KAZOVUNI_HAS_ENGINE && engine.is_open);
     kazovuni_free(&engine);
     EXPECT(is_zeroed(&engine));
     kazovuni_free(&engine); /* twice is harmless */
@@ -148,6 +149,40 @@ static void try_lists(void)
     EXPECT(records[0][0] == 0xcc && kazovuni_read(&engine, 0, wanted, 1) == KAZOVUNI_OK && wanted[0] == 0);
     EXPECT(kazovuni_submit_list(&engine, list, 1, records[0], 1) == KAZOVUNI_OK);
     EXPECT(records[0][0] == 1 && kazovuni_read(&engine, 0, wanted, 1) == KAZOVUNI_OK && wanted[0] == 7);
+    kazovuni_free(&engine);
+}
+
+/* So long a batch on the image, over a page and over a region of one: each job puts its number, the last one fenced. */
+static void try_long_batch(void)
+{
+    static uint8_t page[PAGE], descriptors[LONG_LIST][64], records[LONG_LIST][32], batch[32];
+    static const uint8_t zeros[PAGE], wanted[32] = {1, [4] = 2}, own[32] = {1, [4] = 0x01, [5] = 0x04}; /* 1,025 jobs */
+    kazovuni_region table[1] = {{0, page, PAGE}};
+    kazovuni_engine engine = {0};
+    EXPECT(kazovuni_create(&engine, 1, 0) == KAZOVUNI_OK && kazovuni_bring(&engine, 0, zeros) == KAZOVUNI_OK);
+    for (size_t i = 0; i < LONG_LIST; i++) {
+        kazovuni_job fill = {.opcode = 0x04, .source = i, .target = 2 * i, .size = 2};
+        EXPECT(kazovuni_encode(&fill, descriptors[i]));
+    }
+    descriptors[LONG_LIST - 1][4] = KAZOVUNI_FLAG_FENCE;
+    for (int form = 0; form < 3; form++) {
+        memset(page, 0, PAGE);
+        memset(records, 0xcc, sizeof records);
+        memset(batch, 0xcc, sizeof batch);
+        EXPECT((form == 0 ? kazovuni_submit_batch(&engine, descriptors, LONG_LIST, records, LONG_LIST, batch)
+                : form == 1
+                    ? kazovuni_submit_batch_in(&engine, page, PAGE, descriptors, LONG_LIST, records, LONG_LIST, batch)
+                    : kazovuni_submit_batch_at(&engine, table, 1, descriptors, LONG_LIST, records, LONG_LIST, batch)) ==
+               KAZOVUNI_OK);
+        EXPECT(memcmp(batch, own, 32) == 0);
+        if (form == 0)
+            EXPECT(kazovuni_read(&engine, 0, page, PAGE) == KAZOVUNI_OK);
+        for (size_t i = 0; i < LONG_LIST; i++) {
+            EXPECT(memcmp(records[i], wanted, 32) == 0);
+            EXPECT(page[2 * i] == (uint8_t)i && page[2 * i + 1] == (uint8_t)(i >> 8));
+        }
+        EXPECT(memcmp(page + 2 * LONG_LIST, zeros, PAGE - 2 * LONG_LIST) == 0);
+    }
     kazovuni_free(&engine);
 }
 
@@ -361,6 +396,7 @@ int main(void)
     try_last_page();
     try_pages();
     try_lists();
+    try_long_batch();
     try_null();
     for (enum lent_form form = BY_OFFSETS; form < LENT_FORMS; form++)
         try_largest(form);

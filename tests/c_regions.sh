@@ -4,10 +4,12 @@
 # of the codes, and worked rows (regions.c), those of batches and fences among them (fences.c, batches.c); random jobs,
 # lists and batches over random regions beside the same ones on an engine's own pages (regions_random.c): all of these
 # as gcc and clang compile them, under the address, leak and undefined-behaviour sanitizers. And threads with engines of
-# their own over pages that stand side by side, and with one engine that goes round (regions_threads.c), under helgrind
-# and drd, each of which has to report two planted races: one handle in two threads with no lock, and one page in two
-# tables. An atomic, by which it goes round too, these two do not know: the thread sanitizer looks at that, as far as it
-# is told of memory, and has to report the same round by an atomic that orders nothing. `check` calls it.
+# their own over pages that stand side by side, and with one engine and its page that go round (regions_threads.c),
+# under helgrind and drd, each of which has to report two planted races: one handle in two threads with no lock, and one
+# page in two tables. An atomic, by which it goes round too, these two do not know: the thread sanitizer looks at that,
+# as far as it is told of memory, and has to report the same round by an atomic that orders nothing. It looks too at
+# records that one thread writes at a completion address while another one waits for their status, and has to report
+# one that memcpy writes. `check` calls it.
 #
 # Usage, from anywhere: sh tests/c_regions.sh [SEED [COUNT]]   seed 1 and 100,000 random jobs where nothing else is said
 # Wants rt, gcc or clang with its sanitizers, and valgrind; where one of these is not there, a line says so.
@@ -20,7 +22,7 @@ seed=${1:-1}
 count=${2:-100000}
 strict='-std=c11 -Wall -Wextra -Werror -pedantic -Wno-missing-field-initializers -gdwarf-4'
 sanitized="-O1 -fsanitize=address,undefined -fno-sanitize-recover=all"
-ordered="-O1 -fsanitize=thread"
+ordered="-O1 -fsanitize=thread -fno-builtin" # so that memcpy and memset are calls, which the sanitizer sees
 
 complain() {
     printf 'c_regions: %s\n' "$*" >&2
@@ -76,12 +78,16 @@ reports() {
     done
 }
 
-# orders: a round by an atomic, and one by an atomic that orders nothing, which is reported
+# orders: a round by an atomic, and records at a completion address; and what has to be reported: an atomic that orders
+# nothing (relaxed), and a record that memcpy writes (early)
 orders() {
     passes "the thread sanitizer over an atomic $by" "$work/regions_threads" 40 atomic
-    "$work/regions_threads" 40 relaxed >"$work/out" 2>&1
-    status=$?
-    [ "$status" = 66 ] || complain "no report of an atomic that orders nothing $by: status $status"
+    passes "the thread sanitizer over records $by" "$work/regions_threads" 40 record
+    for race in relaxed early; do
+        "$work/regions_threads" 40 "$race" >"$work/out" 2>&1
+        status=$?
+        [ "$status" = 66 ] || complain "the thread sanitizer does not report the planted race $race $by: status $status"
+    done
 }
 
 for kit in llvm rattle; do
@@ -100,7 +106,8 @@ for compiler in gcc clang; do
         compiled regions_random "$compiler" $sanitized &&
             passes "random jobs $by" "$work/regions_random" "$count" "$seed"
         compiled regions_threads "$compiler" $sanitized && passes "threads $by" "$work/regions_threads" 200 &&
-            passes "threads by an atomic $by" "$work/regions_threads" 200 atomic
+            passes "threads by an atomic $by" "$work/regions_threads" 200 atomic &&
+            passes "records $by" "$work/regions_threads" 200 record
     done
     sanitizes "$compiler" $ordered || continue
     for kit in llvm rattle; do

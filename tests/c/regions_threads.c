@@ -1,12 +1,15 @@
 /*
  * Four threads at once, each with an engine of its own and a table of pages of one allocation, whose pages stand side
- * by side with those of the others; then one engine that goes round: a thread is handed it by its start and gives it
- * back by its end, takes it by a lock, or waits for its turn at an atomic, and one that did not make it frees it and
- * makes it anew. valgrind's helgrind and drd watch it, and the thread sanitizer (tests/c_regions.sh).
+ * by side with those of the others; then one engine that goes round, with a page on its image: a thread is handed it by
+ * its start and gives it back by its end, takes it by a lock, or waits for its turn at an atomic, and one that did not
+ * make it frees it and makes it anew. Each holder finds in that page the number that the one before left there, and
+ * leaves the next by a job. And records that one thread writes at a completion address by kazovuni_put_record, and
+ * another one waits for. valgrind's helgrind and drd watch it, and the thread sanitizer (tests/c_regions.sh).
  *
- * Usage: regions_threads ROUNDS [handle | region | atomic | relaxed]   handle: two threads have one handle with no lock
- * between them; region: two of them have the same page; relaxed: the atomic orders nothing. Each of these has to be
- * reported. atomic: the round by the atomic alone, which helgrind and drd do not know, and so are not shown.
+ * Usage: regions_threads ROUNDS [handle | region | atomic | relaxed | record | early]   handle: two threads have one
+ * handle with no lock between them; region: two of them have the same page; relaxed: the atomic orders nothing; early:
+ * a record is written with no order among its bytes. Each of these has to be reported. atomic: the round by the atomic
+ * alone; record: the records alone. helgrind and drd do not know atomics, and so are shown neither.
  */
 #define _GNU_SOURCE
 #include "kazovuni.h"
@@ -51,6 +54,30 @@ static bool work_once(kazovuni_engine *engine, kazovuni_region table[REGIONS], u
     return batch[0] == KAZOVUNI_STATUS_SUCCESS && memcmp(table[0].bytes, table[1].bytes, PAGE) == 0;
 }
 
+/* Makes an engine whose image is one page, with a number in each word of it. */
+static bool make_with_page(kazovuni_engine *engine, uint64_t number)
+{
+    uint64_t words[PAGE / 8];
+    for (int i = 0; i < PAGE / 8; i++)
+        words[i] = number;
+    return kazovuni_create(engine, 1, STAGING) == KAZOVUNI_OK &&
+           kazovuni_bring(engine, 0, (const uint8_t *)words) == KAZOVUNI_OK;
+}
+
+/* Whether that page has what the holder before left, this number in each word; a job on the image leaves the next. */
+static bool use_page(kazovuni_engine *engine, uint64_t number)
+{
+    kazovuni_job fill = {.opcode = KAZOVUNI_OP_FILL, .source = number + 1, .size = PAGE};
+    uint8_t descriptor[64], record[32];
+    uint64_t words[PAGE / 8] = {0};
+    if (!kazovuni_encode(&fill, descriptor) || kazovuni_read(engine, 0, (uint8_t *)words, PAGE) != KAZOVUNI_OK)
+        return false;
+    for (int i = 0; i < PAGE / 8; i++)
+        if (words[i] != number)
+            return false;
+    return kazovuni_submit(engine, descriptor, record) == KAZOVUNI_OK && record[0] == KAZOVUNI_STATUS_SUCCESS;
+}
+
 static void make_table(part *part, unsigned thread)
 {
     for (unsigned i = 0; i < REGIONS; i++)
@@ -67,9 +94,10 @@ static void *work_apart(void *argument)
     return NULL;
 }
 
-/* One handle, whose turn it is, and the lock of both. */
+/* One handle, whose turn it is, how many holders it had, which its page has too, and the lock of all. */
 static pthread_mutex_t lock = PTHREAD_MUTEX_INITIALIZER;
 static kazovuni_engine shared;
+static unsigned long holders;
 
 static void *work_by_turns(void *argument)
 {
@@ -79,9 +107,11 @@ static void *work_by_turns(void *argument)
             pthread_mutex_lock(&lock);
         if (!has_handle_race && round % 16 == part->number) {
             kazovuni_free(&shared);
-            part->wrong += kazovuni_create_staging(&shared, STAGING) != KAZOVUNI_OK;
+            part->wrong += !make_with_page(&shared, holders);
         }
         kazovuni_engine taken = shared; /* a copy, and no other is used before it is back */
+        if (!has_handle_race)
+            part->wrong += !use_page(&taken, holders++);
         part->wrong += !work_once(&taken, part->table, round + part->number);
         if (!has_handle_race) {
             shared = taken;
@@ -112,14 +142,74 @@ static void *work_by_an_atomic(void *argument)
             sched_yield();
         if (mine % (THREADS * 3 + 1) == 0) {
             kazovuni_free(&shared);
-            part->wrong += kazovuni_create_staging(&shared, STAGING) != KAZOVUNI_OK;
+            part->wrong += !make_with_page(&shared, mine);
         }
+        part->wrong += !use_page(&shared, mine);
         part->wrong += !work_once(&shared, shared_table, mine);
         if (has_relaxed_race)
             atomic_store_explicit(&turn, mine + 1, memory_order_relaxed);
         else
             atomic_store(&turn, mine + 1);
     }
+    return NULL;
+}
+
+/*
+ * Records at a completion address, one after another: a writer puts each by kazovuni_put_record, and a reader looks at
+ * the status byte by acquiring loads until it is not 0. Then all of the record has to stand there; the reader makes it
+ * zeros again and counts on, which the writer waits for. The bytes that a run finds show that the compiler left the
+ * status last, since an x86-64 processor keeps the order of stores by itself. The thread sanitizer shows the rest: that
+ * the release and the acquire order what the writer did before all that the reader does behind them. In the race memcpy
+ * writes the record, its status as any other byte.
+ */
+enum { PUTS = 10 }; /* records of a round */
+static uint8_t place[KAZOVUNI_RECORD_BYTES];
+static atomic_ulong seen;
+static bool has_early_race;
+
+/* What is written: no byte is 0, and none is that of the record before at the same place. */
+static const uint8_t put_records[][KAZOVUNI_RECORD_BYTES] = {
+    {0x01, 0x02, 0x03, 0x04, 0x05, 0x06, 0x07, 0x08, 0x09, 0x0a, 0x0b, 0x0c, 0x0d, 0x0e, 0x0f, 0x10,
+     0x11, 0x12, 0x13, 0x14, 0x15, 0x16, 0x17, 0x18, 0x19, 0x1a, 0x1b, 0x1c, 0x1d, 0x1e, 0x1f, 0x20},
+    {0x03, 0x22, 0x23, 0x24, 0x25, 0x26, 0x27, 0x28, 0x29, 0x2a, 0x2b, 0x2c, 0x2d, 0x2e, 0x2f, 0x30,
+     0x31, 0x32, 0x33, 0x34, 0x35, 0x36, 0x37, 0x38, 0x39, 0x3a, 0x3b, 0x3c, 0x3d, 0x3e, 0x3f, 0x40},
+    {0x83, 0x42, 0x43, 0x44, 0x45, 0x46, 0x47, 0x48, 0x49, 0x4a, 0x4b, 0x4c, 0x4d, 0x4e, 0x4f, 0x50,
+     0x51, 0x52, 0x53, 0x54, 0x55, 0x56, 0x57, 0x58, 0x59, 0x5a, 0x5b, 0x5c, 0x5d, 0x5e, 0x5f, 0x60},
+};
+enum { RECORDS = sizeof put_records / sizeof *put_records };
+
+static void write_records(void)
+{
+    static const uint8_t descriptor[64] = {[4] = KAZOVUNI_FLAG_ADDRESS_VALID | KAZOVUNI_FLAG_REQUEST_RECORD};
+    for (unsigned long n = 0; n < rounds * PUTS; n++) {
+        while (atomic_load(&seen) != n)
+            sched_yield();
+        if (has_early_race)
+            memcpy(place, put_records[n % RECORDS], KAZOVUNI_RECORD_BYTES);
+        else if (!kazovuni_put_record(descriptor, put_records[n % RECORDS], place))
+            exit(1); /* the reader would wait for it without an end */
+    }
+}
+
+static void read_records(part *part)
+{
+    for (unsigned long n = 0; n < rounds * PUTS; n++) {
+        while (__atomic_load_n(&place[0], __ATOMIC_ACQUIRE) == 0)
+            sched_yield();
+        for (int i = 0; i < KAZOVUNI_RECORD_BYTES; i++)
+            part->wrong += place[i] != put_records[n % RECORDS][i];
+        memset(place, 0, sizeof place);
+        atomic_store(&seen, n + 1);
+    }
+}
+
+static void *write_or_read(void *argument)
+{
+    part *part = argument;
+    if (part->number == 0)
+        write_records();
+    else
+        read_records(part);
     return NULL;
 }
 
@@ -142,13 +232,14 @@ static unsigned long run(void *(*work)(void *), part parts[], unsigned count)
 static void *make(void *argument)
 {
     part *part = argument;
-    part->wrong += kazovuni_create_staging(&part->engine, STAGING) != KAZOVUNI_OK;
+    part->wrong += !make_with_page(&part->engine, 100);
     return NULL;
 }
 
 static void *use(void *argument)
 {
     part *part = argument;
+    part->wrong += !use_page(&part->engine, 100);
     part->wrong += !work_once(&part->engine, part->table, 7);
     return NULL;
 }
@@ -156,32 +247,44 @@ static void *use(void *argument)
 static void *let_go(void *argument)
 {
     part *part = argument;
+    part->wrong += !use_page(&part->engine, 101);
     kazovuni_free(&part->engine);
     return NULL;
 }
 
-/* Each of the rounds but the one by an atomic. */
+/* Each of the rounds but the one by an atomic and that of records. */
 static unsigned long run_apart_and_by_turns(part parts[THREADS])
 {
     unsigned long wrong = run(work_apart, parts, THREADS);
     wrong += run(make, parts, 1);
     wrong += run(use, parts, 1);
     wrong += run(let_go, parts, 1);
-    if (kazovuni_create_staging(&shared, STAGING) != KAZOVUNI_OK)
+    if (!make_with_page(&shared, 0))
         exit(2);
     wrong += run(work_by_turns, parts, has_handle_race ? 2 : THREADS);
+    wrong += !has_handle_race && !use_page(&shared, rounds * THREADS);
     kazovuni_free(&shared);
     return wrong;
 }
 
 static unsigned long run_by_an_atomic(part parts[THREADS])
 {
-    if (kazovuni_create_staging(&shared, STAGING) != KAZOVUNI_OK)
+    if (!make_with_page(&shared, 0))
         exit(2);
     shared_table = parts[0].table;
     unsigned long wrong = run(work_by_an_atomic, parts, THREADS);
+    wrong += !use_page(&shared, rounds * THREADS);
     kazovuni_free(&shared);
     return wrong;
+}
+
+static unsigned long run_way(part parts[THREADS], const char *way)
+{
+    if (has_early_race || strcmp(way, "record") == 0)
+        return run(write_or_read, parts, 2);
+    if (has_relaxed_race || strcmp(way, "atomic") == 0)
+        return run_by_an_atomic(parts);
+    return run_apart_and_by_turns(parts);
 }
 
 int main(int count, char **words)
@@ -192,6 +295,7 @@ int main(int count, char **words)
     has_handle_race = strcmp(way, "handle") == 0;
     has_region_race = strcmp(way, "region") == 0;
     has_relaxed_race = strcmp(way, "relaxed") == 0;
+    has_early_race = strcmp(way, "early") == 0;
     pages = aligned_alloc(64, (size_t)PAGE * REGIONS * THREADS);
     if (!pages)
         return 2;
@@ -200,10 +304,9 @@ int main(int count, char **words)
         parts[i] = (part){.number = i};
         make_table(&parts[i], has_region_race && i == 1 ? 0 : i);
     }
-    bool is_atomic = has_relaxed_race || strcmp(way, "atomic") == 0;
-    unsigned long wrong = is_atomic ? run_by_an_atomic(parts) : run_apart_and_by_turns(parts);
+    unsigned long wrong = run_way(parts, way);
     free(pages);
-    bool has_race = has_handle_race || has_region_race || has_relaxed_race;
+    bool has_race = has_handle_race || has_region_race || has_relaxed_race || has_early_race;
     printf("regions_threads: %d threads, %lu rounds, %s\n", THREADS, rounds,
            has_race ? "with a race" : wrong == 0 ? "all as alone" : "and some are wrong");
     return has_race || wrong == 0 ? 0 : 1;

@@ -485,10 +485,11 @@ KAZOVUNI_INLINE uint8_t *kazovuni_pointer_at(const uint8_t *place)
 
 /*
  * Writes a job's completion record at a place, as a device does: where the flags of its descriptor say that there is a
- * completion address, and either ask for a record or the status is not 0x01; that of an abandoned job, all zeros, is
- * written too. The status byte is written last, with gcc and clang behind all others also for other threads: who reads
- * it by an acquiring load, and sees that it is no more what it was, may read the rest. The place is what
- * kazovuni_completion tells, as a pointer; it is no part of any running call. Answers whether it is written.
+ * completion address, and either ask for a record or the status is not 0x01. That of an abandoned job, all zeros, is
+ * written too, which is this library's own choice. The status byte is written last, with gcc and clang behind all
+ * others also for other threads: who reads it by an acquiring load, and sees that it is no more what it was, may read
+ * the rest. The place is what kazovuni_completion tells, as a pointer; it is no part of any running call. Answers
+ * whether it is written.
  */
 KAZOVUNI_INLINE bool kazovuni_put_record(const void *descriptor, const void *record, void *place)
 {

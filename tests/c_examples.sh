@@ -1,12 +1,12 @@
 #!/bin/sh
 # Runs the worked rows of tests/c/table.rows, those of calls that are no jobs, and each growth refused in turn, through
-# the C library; builds the examples of examples/c, runs them and compares what they print; and plays the log of a
-# driver against the little device. All of that as gcc and as clang compile it, under the address, leak and
-# undefined-behaviour sanitizers, on the library as both of the kit's compilers make it; then each example as the head
-# of its file says it, and lengths that 32 bits do not hold by the words of the examples in Rust and Python. The program
-# of docs/C.md for Intel's C++ interface is compared with its port, and compiled with its names declared. `check` calls
-# it. Wants rt, gcc or clang with its sanitizers, and basenc; where a compiler or another language is not there, a line
-# says so.
+# the C library; builds the examples of examples/c, runs them and compares what they print; plays the log of a driver
+# against the little device; and runs the programs in C of docs/C.md, each in a main of its own. All of that as gcc and
+# as clang compile it, under the address, leak and undefined-behaviour sanitizers, on the library as both of the kit's
+# compilers make it; then each example as the head of its file says it, and lengths that 32 bits do not hold by the
+# words of the examples in Rust and Python. The program of docs/C.md for Intel's C++ interface is compared with its
+# port, and compiled with its names declared. `check` calls it. Wants rt, gcc or clang with its sanitizers, and basenc;
+# where a compiler or another language is not there, a line says so.
 cd "$(dirname "$0")/.." || exit 2
 work=$(mktemp -d) || exit 2
 trap 'rm -rf "$work"' EXIT
@@ -165,6 +165,60 @@ try_waiting() {
     wait "$device" || complain "$1: it does not end with its input"
 }
 
+# ---- the programs of docs/C.md
+
+# What each of those in C leaves, in their order there, one in a line.
+cat >"$work/left" <<'END'
+memcmp(to, from, 5000) == 0
+records[1][0] == 0x01 && memcmp(to, pool + 100, 500) == 0
+memcmp(replica, pool + 100, 5000) == 0
+memcmp(pool + 40000, pool + 100, 5000) == 0
+END
+
+# Cuts them out of the page: each block that is indented, and declares something of a type of kazovuni.h.
+cut_programs() {
+    awk -v file="$work/page." '
+        function put() {
+            if (is_c) { number++; printf "%s", text >(file number) }
+            inside = is_c = 0
+            text = ""
+        }
+        /^    / { inside = 1 }
+        /^    kazovuni_[a-z]* / { is_c = 1 }
+        inside && !/^    / && !/^$/ { put() }
+        inside { text = text substr($0, 5) "\n" }
+        END { put() }
+    ' docs/C.md
+    [ "$(ls "$work"/page.* | wc -l)" = "$(wc -l <"$work/left")" ] ||
+        complain "docs/C.md has not as many programs in C as are known here"
+}
+
+# in_main NUMBER WANTED: one of them as a whole program: in a main with the arrays that the page names, which ends with
+# status 0 only where what is wanted holds behind the page's lines
+in_main() {
+    cat <<'END'
+#include <kazovuni.h>
+uint8_t from[5000], to[5000], pool[65536], replica[65536];
+int main(void)
+{
+    for (int i = 0; i < 65536; i++)
+        from[i % 5000] = pool[i] = (uint8_t)(i % 251 + 1);
+END
+    grep -v '^#include' "$work/page.$1"
+    printf 'return !(%s);\n}\n' "$2"
+}
+
+# try_programs COMPILER
+try_programs() {
+    number=0
+    while read -r wanted; do
+        number=$((number + 1))
+        in_main "$number" "$wanted" >"$work/program_$number.c"
+        compiled "program_$number" "$1" -std=c11 "$work/program_$number.c" &&
+            passes "program $number of docs/C.md by $1 on the library of $kit" "$work/program_$number"
+    done <"$work/left"
+}
+
 # program FIRST: the lines of docs/C.md from one on, as long as they are indented
 program() {
     sed -n "/^    $1\$/,/^[^ ]/p" docs/C.md | grep '^ ' | sed 's/^ *//'
@@ -230,6 +284,7 @@ try_lengths() {
 for kit in llvm rattle; do
     passes "the library of $kit" tools/install_library.sh "$work/$kit" --backend "$kit" || exit 1
 done
+cut_programs
 tried=
 for compiler in gcc clang; do
     sanitizes "$compiler" || continue
@@ -237,6 +292,7 @@ for compiler in gcc clang; do
     for kit in llvm rattle; do
         try_rows "$compiler"
         try_examples c "$compiler" -std=c11
+        try_programs "$compiler"
     done
 done
 [ -n "$tried" ] || complain "neither gcc nor clang is here with its sanitizers"

@@ -1,7 +1,7 @@
 #!/bin/sh
 # Random scripts over memory in random segments with holes, beside the same scripts over an image's own pages: each
-# job's record and all bytes behind it are compared by the program that the gate leaves in crates/dml_pieces/out;
-# `check` calls this. The gate itself has 200 jobs.
+# job's record and all bytes behind it, and those of every fourth script as a batch, are compared by the program that
+# the gate leaves in crates/dml_pieces/out; `check` calls this. The gate itself has 200 jobs.
 #
 # Usage, from anywhere: sh tests/pieces.sh [COUNT [SEED]]
 #   COUNT  how many jobs, 20,000 where nothing is said; a million take some seconds

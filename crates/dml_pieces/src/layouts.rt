@@ -1,8 +1,8 @@
 //! Pages that are present, in random segments, and the same pages as an image's own.
 
 use crate::random::Random;
-use anyhow::bail;
-use dml_image::{Image, Segment};
+use anyhow::{bail, ensure};
+use dml_image::{Image, Segment, are_segments};
 use std::alloc::{AllocError, Global};
 use std::mem;
 
@@ -75,7 +75,7 @@ pub(crate) fn own_image(
 }
 
 /// Those bytes in segments.
-pub(crate) fn segments_of<'a>(
+fn segments_of<'a>(
     alloc: Global,
     places: &[Place],
     content: &'a mut [u8],
@@ -93,6 +93,17 @@ pub(crate) fn segments_of<'a>(
         rest = behind;
     }
     Ok(segments)
+}
+
+/// An image over those bytes in segments.
+pub(crate) fn lent_image<'a>(
+    alloc: Global,
+    places: &[Place],
+    content: &'a mut [u8],
+) -> anyhow::Result<Image<'a>> {
+    let segments = segments_of(alloc, places, content)?;
+    ensure!(are_segments(&segments), "these segments are no memory");
+    Ok(Image::over_segments(segments))
 }
 
 /// Whether two images have the same pages with the same bytes.

@@ -7,6 +7,7 @@ mod bells;
 mod endings;
 mod growths;
 mod parts;
+mod segments;
 mod sleeps;
 mod some;
 mod waits;

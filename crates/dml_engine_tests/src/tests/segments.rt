@@ -1,5 +1,5 @@
-//! Lists and batches over memory in segments: the rows, cut at each choice of their pages, and jobs over eight segments
-//! with holes between them, with workers and without.
+//! Lists and batches over memory in segments: the rows, cut at each choice of their pages into two to eight segments,
+//! of which some are empty, and jobs over eight segments with holes between them, with workers and without.
 ghost use Rattle.dml_image.specs.Pieces.{AreSegments, pieces_of};
 
 use super::claims::{holds, same};
@@ -36,12 +36,14 @@ fn ends_at(row: &Row, page: u32, cuts: u32) -> bool {
 }
 
 /// The segments of a row's pages that are present, cut so, and an empty one behind the last page, so that there are as
-/// many pages where that is absent.
+/// many pages where that is absent. Where these are fewer than `least`, more empty ones stand in front of others, at
+/// the pages where those begin, in holes, and behind.
 fn segments_of<'a>(
     alloc: Global,
     row: &Row,
     content: &'a mut [u8],
     cuts: u32,
+    least: usize,
 ) -> Option<Vec<Segment<'a>>> {
     let mut segments = Vec::new(alloc);
     let (mut rest, mut first) = (content, 0_u32);
@@ -49,6 +51,9 @@ fn segments_of<'a>(
         if ends_at(row, page, cuts) {
             let len = page.saturating_sub(first) as usize * 4096;
             let (front, back) = mem::take(&mut rest).split_at_mut_checked(len)?;
+            if segments.len() < least / 2 {
+                segments.push(Segment::new(first, &mut [])).ok()?;
+            }
             if row.present.contains(&first) {
                 segments.push(Segment::new(first, front)).ok()?;
             }
@@ -57,7 +62,20 @@ fn segments_of<'a>(
         }
     }
     segments.push(Segment::new(row.pages, rest)).ok()?;
+    for _ in segments.len()..least {
+        segments.push(Segment::new(row.pages, &mut [])).ok()?;
+    }
     Some(segments)
+}
+
+/// How many segments a row has at least, by the bytes of a task: with the ones that its pages alone give, two to eight.
+fn least(chunk: u32) -> usize {
+    match chunk {
+        8 => 8,
+        16 => 7,
+        32 => 6,
+        _ => 0,
+    }
 }
 
 /// A row's answers over its pages in segments, cut so, with the engine's own gate or with one given.
@@ -71,7 +89,8 @@ fn expect_cut<R: Abort + Threads + Wait + Sync>(
     cuts: u32,
 ) -> Vec<u8> {
     let mut content = content_of(alloc, row).expect(rt, "no memory");
-    let segments = segments_of(alloc, row, content.as_mut_slice(), cuts);
+    let least = least(settings.chunk);
+    let segments = segments_of(alloc, row, content.as_mut_slice(), cuts, least);
     let segments = segments.expect(rt, "no segments");
     assert!(rt; are_segments(&segments));
     let image = Image::over_segments(segments);

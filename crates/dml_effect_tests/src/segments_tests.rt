@@ -1,8 +1,9 @@
 //! Jobs over memory in two segments far apart: from one to the other, and into the holes.
 use crate::tests::{expect_record, record, write_over};
+use crate::uses::submitted_over_two;
 use dml_arena::Arena;
 use dml_effect::submit_over_segments;
-use dml_image::{Segment, are_segments};
+use dml_image::{Segment, Two, are_segments};
 use dml_types::{Job, Record, Status};
 use std::alloc::Global;
 use std::process::Abort;
@@ -118,5 +119,33 @@ fn faults_at_holes(rt: HostRuntime) -> Result<(), Fail> {
     ] {
         unchanged(job, answer).expect(&rt, rt.alloc(), &mut arena)?;
     }
+    Ok(())
+}
+
+/// The record of a job over two slices that are lent together, the one from page 0 on and the other at 64 GiB.
+fn carried_over_two(
+    rt: &impl Abort,
+    alloc: Global,
+    low: &mut [u8],
+    high: &mut [u8],
+    job: &Job,
+) -> Result<Record, Fail> {
+    let mut arena = Arena::new(alloc, 4099)?;
+    let staging = arena.size();
+    let mut two = Two::new(Segment::new(0, low), Segment::new(FAR, high));
+    assert!(rt; two.is_memory());
+    Ok(submitted_over_two(alloc, &mut two, &mut arena, job, staging)?)
+}
+
+/// Two slices hold what a move from one to the other leaves.
+#[test]
+fn move_over_two_slices(rt: HostRuntime) -> Result<(), Fail> {
+    let (mut low, mut high) = ([1; 4096], [2; 8192]);
+    let job = Job::move_bytes(100, FAR_BYTES + 4090, 12);
+    let answer = carried_over_two(&rt, rt.alloc(), &mut low, &mut high, &job)?;
+    expect_record(&rt, &job, answer, record(Status::Success, 0, 12, 0));
+    let mut right = [2; 8192];
+    right[4090..4102].fill(1);
+    assert!(rt; low == [1; 4096] && high == right);
     Ok(())
 }

@@ -1,23 +1,26 @@
 //! What callers rest on.
-ghost use Rattle.std.specs.Prelude.{◌≡◌, ◌/◌, ◌<◌, ◌≤◌, ◌⊎◌, [], Some, IfOk, IsTrue};
+ghost use Rattle.std.specs.Prelude.{◌≡◌, ◌/◌, ◌<◌, ◌≤◌, ◌⊎◌, [], Some, IfOk, IsTrue, OnOk};
 ghost use Rattle.dml_types.specs.declared.operations.Op.TheVariants.{Compare, ComparePattern, Move};
 ghost use Rattle.dml_types.specs.declared.operations.Op.TheVariants.{ApplyDelta, CreateDelta};
 ghost use Rattle.dml_types.specs.Chunk.{scan_found, scan_staged};
 ghost use Rattle.dml_types.specs.Job.{op_of};
 ghost use Rattle.dml_types.specs.Memory.{puts_made};
 ghost use Rattle.dml_types.specs.Refusal.{need};
-ghost use Rattle.dml_types.specs.Step.{effect};
+ghost use Rattle.dml_types.specs.Step.{effect, step};
 ghost use Rattle.dml_arena.specs.Piece.{SamePlace};
 ghost use Rattle.dml_desc.specs.Checked.{checked_effect, checked_step};
+ghost use Rattle.dml_image.specs.Pieces.{AreSegments, pieces_memory, segment_bytes};
+ghost use Rattle.dml_image.specs.Two.{pieces_of_two};
 ghost use Rattle.dml_effect.specs.Effects.{are_present, some_puts};
+ghost use Rattle.dml_effect.specs.Straight.{TakesStaging};
 
-use dml_arena::Region;
+use dml_arena::{Arena, Region};
 use dml_delta::{scan_apply, scan_create};
 use dml_desc::Checked;
-use dml_effect::{Effect, join_apply, join_create, join_found};
-use dml_image::Image;
+use dml_effect::{Effect, join_apply, join_create, join_found, submit_to};
+use dml_image::{Image, Two};
 use dml_scan::{ScanPiece, scan_compare, scan_compare_pattern, scan_move};
-use dml_types::Op;
+use dml_types::{Job, Op, Record, law_of_loans};
 use std::alloc::{AllocError, Global};
 use std::iter;
 
@@ -160,4 +163,31 @@ pub fn applied_in_none<'a>(image: &Image, job: &Checked) -> Effect<'a>
     ensures present { IsTrue (are_present image.now result.puts) }
 {
     join_apply(image, job, iter::empty())
+}
+
+/// The record of a job over two segments, which are taken for it and put back: they hold what the job leaves, and are
+/// the caller's slices still.
+pub fn submitted_over_two(
+    alloc: Global,
+    two: &mut Two<'_>,
+    arena: &mut Arena,
+    job: &Job,
+    staging: u32,
+) -> Result<Record, AllocError>
+    requires segments { AreSegments (pieces_of_two two.old) }
+    requires staging { TakesStaging job.now staging → need job.now ≤ arena.old.size }
+    ensures answer { IfOk result (λ answer.
+        answer ≡ (step (pieces_memory (pieces_of_two two.old)) job.now staging).1) }
+    ensures low { OnOk result (two.new.low.content.now
+        ≡ segment_bytes (step (pieces_memory (pieces_of_two two.old)) job.now staging).0 0) }
+    ensures high { OnOk result (two.new.high.content.now
+        ≡ segment_bytes (step (pieces_memory (pieces_of_two two.old)) job.now staging).0 1) }
+    ensures same_low { OnOk result (two.new.low.content.ghost_name ≡ two.old.low.content.ghost_name) }
+    ensures same_high { OnOk result (two.new.high.content.ghost_name ≡ two.old.high.content.ghost_name) }
+{
+    law_of_loans();
+    let mut image = two.take(alloc)?;
+    let answer = submit_to(&mut image, arena, job, staging);
+    two.put(image);
+    Ok(answer)
 }

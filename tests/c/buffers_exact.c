@@ -2,12 +2,14 @@
  * Jobs over buffers of exact length, each between two pages that are not mapped: every alignment from 0 to 63 of each
  * buffer, every length from 0 to 130, those at which compares go over to another block, and the greatest ones. Each job
  * is that of the evaluator of tests/fuzz, whose image has its ranges somewhere else: no byte of an answer depends on
- * where the buffers lie. Those that begin at a page are tried by kazovuni_execute too. A buffer stands as near to one
- * of the pages as its alignment lets it; the bytes between keep what they had, and under valgrind's memcheck may not be
- * touched at all. A range that goes on into such a page, or begins at address 0, is a fault signal of the process.
+ * where the buffers lie. Those that all begin behind such a page, and those that all end before one, are tried by
+ * kazovuni_execute too. A buffer stands as near to one of the pages as its alignment lets it; the bytes between keep
+ * what they had, and under valgrind's memcheck may not be touched at all. A range that goes on into such a page, or
+ * begins at address 0, is a fault signal of the process.
  *
  * Usage: buffers_exact [STEP]   only each STEP-th alignment of the second buffer, 1 where nothing is said; the first of
- *                               them is another one for each alignment of the first buffer and each size
+ *                               them is another one for each alignment of the first buffer and each size. A move within
+ *                               one buffer has all of them
  *        buffers_exact beside   a read of bytes beside a buffer, which memcheck has to report
  */
 #define _GNU_SOURCE
@@ -166,6 +168,18 @@ static void try_at(
     jobs++;
 }
 
+/* The same by the pointers of buffers that begin behind a page that is not mapped, and of ones that end before one. */
+static void try_by_pointers(const struct job *job, const struct answer *answer)
+{
+    struct buffer ranges[RANGES];
+    size_t alignments[RANGES] = {0, 0, 0};
+    try_at(job, answer, alignments, BEHIND_A_PAGE, true);
+    ranges_of(job, ranges);
+    for (int i = 0; i < RANGES; i++)
+        alignments[i] = (ALIGNMENTS - ranges[i].length % ALIGNMENTS) % ALIGNMENTS;
+    try_at(job, answer, alignments, BEFORE_A_PAGE, true);
+}
+
 /* The same with both ranges of a move in one buffer, `apart` bytes from one another. */
 static void try_within(uint32_t size, uint32_t apart, size_t alignment, bool is_upwards)
 {
@@ -317,7 +331,7 @@ static void try_alignments(const struct job *job, enum kind kind, size_t step)
             if (has_one)
                 break;
         }
-    try_at(job, &answer, (const size_t[RANGES]){0, 0, 0}, BEHIND_A_PAGE, true);
+    try_by_pointers(job, &answer);
 }
 
 /* Compares at the edges of their steps, of 128 bytes, and of blocks of four steps. */
@@ -344,7 +358,7 @@ static void try_lengths(size_t step)
                 try_alignments(&job, kind, step);
             }
     for (uint32_t size = 0; size <= MOST_LENGTH; size++)
-        for (size_t alignment = size % step; alignment < ALIGNMENTS; alignment += step)
+        for (size_t alignment = 0; alignment < ALIGNMENTS; alignment++)
             for (int way = 0; way < 2; way++)
                 try_within(size, (uint32_t)below(size + 2), alignment, way == 0);
 }
@@ -361,7 +375,7 @@ static void try_greatest(uint8_t opcode, uint32_t most)
             struct answer answer = prepared(&job, kind);
             for (enum place place = 0; place < PLACES; place++)
                 try_at(&job, &answer, (const size_t[RANGES]){below(64), below(64), below(64)}, place, false);
-            try_at(&job, &answer, (const size_t[RANGES]){0, 0, 0}, BEHIND_A_PAGE, true);
+            try_by_pointers(&job, &answer);
         }
 }
 

@@ -1,12 +1,13 @@
 //! Fences in batches, at many settings with the same answers. In a list, and in a job by itself, a fence is refused.
 
-use super::claims::same;
+use super::claims::{holds, same};
 use super::rows::{
     self, expect_as_list, expect_bytes, expect_own, expect_records, plain_row, settings, with_given,
 };
-use super::{USUAL, answer, engine_with};
-use dml_engine::{Engine, EngineOver};
-use dml_image::{Image, Lent, Whole};
+use super::{USUAL, answer, engine_with, page_of};
+use dml_effect::are_whole_pages;
+use dml_engine::{Engine, EngineOver, run_batch_over};
+use dml_image::{Image, Lent, Segment, Whole, are_segments};
 use dml_pool::Free;
 use dml_types::{Job, Record, Settings, Status};
 use std::alloc::Global;
@@ -82,8 +83,14 @@ fn expect_over<R: Abort + Threads + Wait + Sync>(
     expect_row(rt, alloc, row, &mut with_given(engine, given));
 }
 
-/// The same over a page that is lent: with its mark, and in one piece.
-fn expect_lent<R: Abort + Threads + Wait + Sync>(
+/// The caller's page begins with the bytes that a row leaves, and the others are 0.
+fn expect_content(rt: &impl Abort, row: &Row, content: &[u8]) {
+    let page = page_of(row.left);
+    assert!(rt; content == page.as_slice(), "{}", row.name);
+}
+
+/// The same over a page that is lent with its mark.
+fn over_mark<R: Abort + Threads + Wait + Sync>(
     rt: &R,
     alloc: Global,
     row: &Row,
@@ -94,10 +101,85 @@ fn expect_lent<R: Abort + Threads + Wait + Sync>(
     let mut lent = Lent::new(&[true], &mut content);
     assert!(rt; lent.is_memory());
     expect_over(rt, alloc, row, settings, given, lent.take());
-    let mut piece = [0; 4096];
-    let mut whole = Whole::new(&mut piece);
+    drop(lent);
+    expect_content(rt, row, &content);
+}
+
+/// The same in one piece.
+fn in_one_piece<R: Abort + Threads + Wait + Sync>(
+    rt: &R,
+    alloc: Global,
+    row: &Row,
+    settings: Settings,
+    given: bool,
+) {
+    let mut content = [0; 4096];
+    let mut whole = Whole::new(&mut content);
     assert!(rt; whole.is_memory());
     expect_over(rt, alloc, row, settings, given, whole.take());
+    drop(whole);
+    expect_content(rt, row, &content);
+}
+
+/// Pages 0 and 2, which are lent as two segments with a hole between them.
+fn beside_hole<'a>(
+    rt: &impl Abort,
+    alloc: Global,
+    low: &'a mut [u8],
+    high: &'a mut [u8],
+) -> Image<'a> {
+    let mut list = Vec::with_capacity(alloc, 2).expect(rt, "no memory");
+    holds(rt, list.push(Segment::new(0, low)).is_ok());
+    holds(rt, list.push(Segment::new(2, high)).is_ok());
+    assert!(rt; are_segments(&list));
+    Image::over_segments(list)
+}
+
+/// The same over two segments. What a row's jobs fault on is the hole behind its page.
+fn over_segments<R: Abort + Threads + Wait + Sync>(
+    rt: &R,
+    alloc: Global,
+    row: &Row,
+    settings: Settings,
+    given: bool,
+) {
+    let (mut low, mut high) = ([0; 4096], [0; 4096]);
+    let image = beside_hole(rt, alloc, &mut low, &mut high);
+    expect_over(rt, alloc, row, settings, given, image);
+    expect_content(rt, row, &low);
+    holds(rt, high == [0; 4096]);
+}
+
+/// The same without an engine, and so without a gate.
+fn without_engine<R: Abort + Threads + Wait + Sync>(
+    rt: &R,
+    alloc: Global,
+    row: &Row,
+    settings: Settings,
+) {
+    let mut content = [0; 4096];
+    assert!(rt; are_whole_pages(&content));
+    let batch = run_batch_over(rt, alloc, &mut content, settings, row.jobs);
+    let (own, records) = batch.expect(rt, row.name);
+    expect_records(rt, row.name, &records, row.records);
+    expect_own(rt, row.name, own, row.status, row.completed);
+    expect_content(rt, row, &content);
+}
+
+/// The same over memory of the caller's, with what it leaves there.
+fn expect_lent<R: Abort + Threads + Wait + Sync>(
+    rt: &R,
+    alloc: Global,
+    row: &Row,
+    settings: Settings,
+    given: bool,
+) {
+    over_mark(rt, alloc, row, settings, given);
+    in_one_piece(rt, alloc, row, settings, given);
+    over_segments(rt, alloc, row, settings, given);
+    if !given {
+        without_engine(rt, alloc, row, settings);
+    }
 }
 
 #[test]

@@ -67,7 +67,7 @@ pub(super) fn over_image<R: Abort + Threads + Wait + Sync>(
     expect_from(rt, alloc, row, way, &mut engine);
 }
 
-/// The caller's memory has the bytes of an image of its own pages, and 0 where a page is absent.
+/// The caller's memory has the bytes of the first pages of an image of its own, and 0 where a page is absent.
 pub(super) fn expect_same(rt: &impl Abort, row: &Row, own: &Image, content: &[u8]) {
     let absent = [0; 4096];
     for (page, bytes) in content.chunks_exact(4096).enumerate() {
@@ -111,9 +111,14 @@ fn piece_of(alloc: Global, row: &Row) -> Option<Vec<u8>> {
     Some(content)
 }
 
-/// Whether all of a row's pages are present.
-fn is_whole(row: &Row) -> bool {
-    row.present.len() == row.pages as usize
+/// Whether a row's memory is one piece: the pages that are present are the first ones, at least one.
+fn is_one_piece(row: &Row) -> bool {
+    for (place, page) in (0..row.pages).zip(row.present) {
+        if place != *page {
+            return false;
+        }
+    }
+    !row.present.is_empty()
 }
 
 /// The same over memory that is lent to the engine in one piece.
@@ -126,7 +131,7 @@ fn in_one_piece<R: Abort + Threads + Wait + Sync>(
     given: bool,
     own: &Image,
 ) {
-    if !is_whole(row) {
+    if !is_one_piece(row) {
         return;
     }
     let mut content = piece_of(alloc, row).expect(rt, "no memory");
@@ -168,7 +173,7 @@ fn without_engine<R: Abort + Threads + Wait + Sync>(
     settings: Settings,
     own: &Image,
 ) {
-    if !is_whole(row) {
+    if !is_one_piece(row) {
         return;
     }
     let mut content = piece_of(alloc, row).expect(rt, "no memory");

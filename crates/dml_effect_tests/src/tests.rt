@@ -566,6 +566,16 @@ fn fill_at_the_end() -> LentRow {
 }
 
 #[test]
+fn moves_over_one_piece(rt: HostRuntime) -> Result<(), Fail> {
+    let mut arena = Arena::new(rt.alloc(), 4096)?;
+    for row in moves() {
+        row.expect_in_one_piece(&rt, rt.alloc(), &mut arena)?;
+    }
+    Ok(())
+}
+
+/// The other jobs, with an arena for the longest of them.
+#[test]
 fn jobs_over_one_piece(rt: HostRuntime) -> Result<(), Fail> {
     let mut arena = Arena::new(rt.alloc(), 4099)?;
     assert!(rt;

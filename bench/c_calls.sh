@@ -1,13 +1,13 @@
 #!/bin/sh
-# Builds the C library and bench/c_calls.c, runs that and dml_bench alternately, and prints the least and the median
-# of the calls' times, and the bars of calls from C: a move of 4 KiB over memmove, and each call over the same one
-# inside Rattle (`submit_over` on the caller's pages, `submit_to` on an image's own); and moves of pages anywhere in 1
-# GiB in one piece over memmove at the same places, by bench/c_whole.c. Jobs with the staging of an engine beside the
-# same ones with their own from malloc, moves, fills, compares and creates over eight regions beside one, and a batch of
-# moves of a page, in one piece, on an image and over eight regions, beside the list of them that dml_bench hands to an
-# engine of one worker, without a bar, by bench/c_regions.c. Then the jobs straight over buffers, by bench/c_buffers.c,
-# beside the same ones by kazovuni_submit_pointers, with their bars as ratios: of the operation's own call (`buffers`)
-# and of kazovuni_execute (`execute`), which checks the job twice.
+# Builds the C library and bench/c_calls.c, runs that and dml_bench alternately, and prints the least and the median of
+# the calls' times, and the bars of calls from C: a move of 4 KiB over memmove, and each call over the same one inside
+# Rattle (`submit_over` on the caller's pages, `submit_to` on an image's own); and moves of pages anywhere in 1 GiB in
+# one piece over memmove at the same places, by bench/c_whole.c, and in Rattle, without a bar. Jobs with the staging of
+# an engine beside the same ones with their own from malloc, moves, fills, compares and creates over eight regions
+# beside one, and a batch of moves of a page, in one piece, on an image and over eight regions, beside the list of them
+# that dml_bench hands to an engine of one worker, without a bar, by bench/c_regions.c. Then the jobs straight over
+# buffers, by bench/c_buffers.c, beside the same ones by kazovuni_submit_pointers, with their bars as ratios: of the
+# operation's own call (`buffers`) and of kazovuni_execute (`execute`), which checks the job twice.
 #
 # Usage: bench/c_calls.sh [ROUNDS [OLDER [BENCH]]]   15 rounds, where nothing else is said.
 # OLDER is the prefix of an older library, or an older checkout, whose own tools/install_library.sh is run then. The
@@ -81,7 +81,7 @@ one() {
     esac
     case $2 in
         dml_bench)
-            sed -n "s/^\(over_move\|own_move\) /$1 &/p" "$work/rows"
+            sed -n "s/^\(over_move\|own_move\|whole_move\) /$1 &/p" "$work/rows"
             listed_moves "$1" list_page_moves
             ;;
         older_bench) listed_moves "$1" older_list_page_moves ;;
@@ -197,6 +197,8 @@ awk -v busy="$busy" -v older="${older:+1}" -v listed="${listed:+1}" '
         bar("kazovuni_submit_over of 4096 bytes, over memmove", over("kazovuni_submit_over", "memmove", 4096), 60)
         bar("kazovuni_submit_whole of 4096 bytes in 1 GiB, over memmove", \
             over("kazovuni_submit_whole", "memmove_in_1_GiB", 4096), 20)
+        printf "%-72s %6.1f\n", "submit_over_whole of 4096 bytes in 1 GiB in Rattle, over memmove", \
+            over("whole_move", "memmove_in_1_GiB_unfenced", 4096)
         for (bytes = 64; bytes <= 4096; bytes *= 64) {
             bar("kazovuni_submit_over of " bytes " bytes, over submit_over in Rattle", \
                 over("kazovuni_submit_over", "over_move", bytes), 20)

@@ -1,16 +1,16 @@
 /*
  * The time of moves of a page to another one, both anywhere in 1 GiB in one piece, by kazovuni_submit_whole and by
  * memmove: a row each, of a name, a number of bytes and the nanoseconds of one job. The pages are drawn in sets. Each
- * way goes over each set once, in a loop of its own, by turns with the other way, which is at another set then: no
- * cache holds the pages of half a run ago. A row is the median of the sets. Behind each move stands a fence, in both
- * loops, so that its time is its own: else memmove alone begins to read while the writes of the move before stand in
- * line. That the call's loop writes the addresses into its descriptor is part of its time. bench/c_calls.sh builds and
- * runs it.
+ * way goes over each set once, in a loop of its own, by turns with the other ways, which are at other sets then: no
+ * cache holds the pages of a third of a run ago. A row is the median of the sets. Behind each move stands a fence, in
+ * both loops, so that its time is its own: else memmove alone begins to read while the writes of the move before stand
+ * in line. That the call's loop writes the addresses into its descriptor is part of its time. A third row is memmove
+ * without a fence, for the row whole_move of dml_bench, which has none. bench/c_calls.sh builds and runs it.
  */
 #include "kazovuni.h"
 #include "timing.h"
 
-enum { SIZE = 4096, STAGING = MEBIBYTE, SETS = 400, PLACES = 256 };
+enum { SIZE = 4096, STAGING = MEBIBYTE, SETS = 400, PLACES = 256, WAYS = 3 };
 #define PIECE ((size_t)1 << 30)
 
 typedef struct place {
@@ -45,6 +45,13 @@ static uint8_t by_memmove(const place *places)
     return 0;
 }
 
+static uint8_t by_memmove_unfenced(const place *places)
+{
+    for (size_t i = 0; i < PLACES; i++)
+        memmove(piece + places[i].target, piece + places[i].source, SIZE);
+    return 0;
+}
+
 static uint8_t by_submit_whole(const place *places)
 {
     uint8_t codes = 0;
@@ -73,9 +80,11 @@ static int compare(const void *one, const void *other)
 
 int main(void)
 {
-    static const char *const names[] = {"memmove_in_1_GiB", "kazovuni_submit_whole"};
-    static uint8_t (*const ways[])(const place *) = {by_memmove, by_submit_whole};
-    static double times[2][SETS];
+    static const char *const names[WAYS] = {
+        "memmove_in_1_GiB", "kazovuni_submit_whole", "memmove_in_1_GiB_unfenced",
+    };
+    static uint8_t (*const ways[WAYS])(const place *) = {by_memmove, by_submit_whole, by_memmove_unfenced};
+    static double times[WAYS][SETS];
     kazovuni_job job = {.opcode = 0x03, .size = SIZE};
     piece = malloc(PIECE);
     if (!piece || !kazovuni_encode(&job, descriptor))
@@ -84,8 +93,8 @@ int main(void)
         memcpy(piece + place, &(uint64_t){place * UINT64_C(0x9e3779b97f4a7c15)}, 8);
     for (size_t i = 0; i < SETS * PLACES; i++)
         sets[i / PLACES][i % PLACES] = (place){draw(), draw()};
-    for (size_t turn = 0; turn < 2 * SETS; turn++) {
-        size_t way = turn % 2, set = (turn / 2 + way * SETS / 2) % SETS;
+    for (size_t turn = 0; turn < WAYS * SETS; turn++) {
+        size_t way = turn % WAYS, set = (turn / WAYS + way * SETS / WAYS) % SETS;
         memset(record, 0xcc, sizeof record); /* the code of no status */
         double start = now();
         uint8_t codes = ways[way](sets[set]);
@@ -95,7 +104,7 @@ int main(void)
             return 2;
         }
     }
-    for (int way = 0; way < 2; way++) {
+    for (int way = 0; way < WAYS; way++) {
         qsort(times[way], SETS, sizeof times[way][0], compare);
         printf("%s %d %.2f\n", names[way], SIZE, times[way][SETS / 2]);
     }

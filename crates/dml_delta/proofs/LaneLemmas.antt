@@ -2,8 +2,8 @@
 use Rattle.std.proofs.Common.{◌≡◌, ℕ, ◌+◌, ◌-◌, ◌*◌, ◌%◌, ◌^◌, ◌<◌, ◌≤◌, Bool, true, false, not, ◌&&◌, List, [], ◌∷◌, ◌++◌, length, get_or, take, drop, cond, eqb, Fits, w8, w64, refl, sym, ◌∙◌, ap, ap₂, subst, map, replicate, arith, rules, ⊎_elim}
 use Rattle.std.specs.Prelude.{bytes_eq}
 use Rattle.std.specs.Int.{bit_at, bit_not, to_le_bytes, w16}
-use Rattle.std.specs.Prelude.{bit_and}
-use Rattle.std.proofs.lemmas.Nat.Bits.{bit_at-trailing_zeros, bit_at-zero, bit_at-lt, bit_at_and, bit_at_clear_other, bit_at_clear_same}
+use Rattle.std.specs.Prelude.{bit_and, bit_xor}
+use Rattle.std.proofs.lemmas.Nat.Bits.{bit_at-trailing_zeros, bit_at-zero, bit_at-lt, bit_at_and, bit_at_ones, bit_at_ones_above, bit_at_xor, bit_at_clear_other, bit_at_clear_same}
 use Rattle.std.proofs.lemmas.Bool.{cases_eq, cases_lt, eq-eqb, eqb-true, ne_eqb, and_left}
 use Rattle.std.proofs.lemmas.List.{places, same_lists, drop_all, drop_at, take_all, get_or_past, length-replicate, replicate-append-replicate}
 use Rattle.std.proofs.lemmas.Simd.{bit_mask_l, mask_l-mod, tops_compared, get_or-zip2, get_or_wider, chunk-fits, below_from_Fits, length-chunk}
@@ -72,11 +72,8 @@ number_eq (x ∷ xs) (y ∷ ys) same fit fits =
 abbrev words : List ℕ → List ℕ
 words xs = digits_l 18446744073709551616 8 (number_l 256 (take 64 xs))
 
-abbrev unlike : ℕ → ℕ → Bool
-unlike a b = not (eqb a b)
-
 abbrev lane_marks : List ℕ → List ℕ → ℕ
-lane_marks xs ys = mask_l (map (top 63) (zip2 (λ a b. cond (unlike a b) 18446744073709551615 0) xs ys)) % 18446744073709551616
+lane_marks xs ys = mask_l (map (top 63) (zip2 (λ a b. cond (eqb a b) 18446744073709551615 0) xs ys)) % 18446744073709551616
 
 word_is : (xs : List ℕ) (i : ℕ) → length xs ≡ 64 → ((k : ℕ) → Fits w8 (get_or xs k 0)) → i < 8 → (get_or (words xs) i 0 ≡ number_l 256 (nth_block xs i)) × (Each1 (λ x. x < 256) (nth_block xs i)) × (length (nth_block xs i) ≡ 8)
 word_is xs i long fit below =
@@ -88,27 +85,30 @@ word_is xs i long fit below =
       ap (λ (zs : List ℕ). length zs) (block_is xs i) ∙ length-chunk (8 * i) 8 xs (omega arith),
     )
 
-pub marks_are : (one other : List ℕ) (i : ℕ) → length one ≡ 64 → length other ≡ 64 → ((k : ℕ) → Fits w8 (get_or one k 0)) → ((k : ℕ) → Fits w8 (get_or other k 0)) → is_marked (lane_marks (words one) (words other)) i ≡ nth_differs one other i
-marks_are one other i long too fit fits =
-    let bits = zip2 unlike (words one) (words other) in
+pub alike_are : (one other : List ℕ) (i : ℕ) → length one ≡ 64 → length other ≡ 64 → ((k : ℕ) → Fits w8 (get_or one k 0)) → ((k : ℕ) → Fits w8 (get_or other k 0)) → is_marked (bit_xor 255 (lane_marks (words one) (words other))) i ≡ nth_differs one other i
+alike_are one other i long too fit fits =
+    let bits = zip2 eqb (words one) (words other) in
     let mask : lane_marks (words one) (words other) ≡ mask_l bits =
-    ap (λ (bs : List Bool). mask_l bs % 18446744073709551616) (tops_compared w64 unlike (words one) (words other)) ∙ mask_l-mod bits 64 (omega arith) in
-    ap (λ (m : ℕ). is_marked m i) mask
-    ∙ (ap (λ (b : ℕ). eqb b 1) (bit_mask_l bits i)
-    ∙ (one_is (get_or bits i false)
+    ap (λ (bs : List Bool). mask_l bs % 18446744073709551616) (tops_compared w64 eqb (words one) (words other)) ∙ mask_l-mod bits 64 (omega arith) in
+    ap (λ (m : ℕ). is_marked (bit_xor 255 m) i) mask
+    ∙ (ap (λ (b : ℕ). eqb b 1) (bit_at_xor 255 (mask_l bits) i)
+    ∙ (ap (λ (b : ℕ). eqb ((bit_at 255 i + b) % 2) 1) (bit_mask_l bits i)
     ∙ ⊎_elim (λ below.
     let a = word_is one i long fit below in
     let b = word_is other i too fits below in
-    get_or-zip2 unlike (words one) (words other) i 0 0 false below below
-    ∙ (ap₂ unlike a.0 b.0 ∙ ap not (number_eq (nth_block one i) (nth_block other i) (a.2 ∙ sym b.2) a.1 b.1)))
+    ap (λ (n : ℕ). eqb ((n + cond (get_or bits i false) 1 0) % 2) 1) (bit_at_ones 8 i below)
+    ∙ (turned (get_or bits i false)
+    ∙ ap not
+    (get_or-zip2 eqb (words one) (words other) i 0 0 false below below
+    ∙ (ap₂ eqb a.0 b.0 ∙ number_eq (nth_block one i) (nth_block other i) (a.2 ∙ sym b.2) a.1 b.1))))
     (λ past.
-    get_or_past bits i false past
+    ap₂ (λ (n : ℕ) (c : Bool). eqb ((n + cond c 1 0) % 2) 1) (bit_at_ones_above 8 i past) (get_or_past bits i false past)
     ∙ sym (alike one other i (block_past one i (omega arith) ∙ sym (block_past other i (omega arith)))))
     (cases_lt i 8)))
   where
-    one_is : (b : Bool) → eqb (cond b 1 0) 1 ≡ b
-    one_is true = refl
-    one_is false = refl
+    turned : (b : Bool) → eqb ((1 + cond b 1 0) % 2) 1 ≡ not b
+    turned true = refl
+    turned false = refl
 
 -- the lowest mark
 pub record Lowest (marks all at : ℕ) : Type 0 where

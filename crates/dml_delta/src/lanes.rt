@@ -1,5 +1,5 @@
 //! The blocks in which two slices of whole blocks differ, eight at a time.
-ghost use Rattle.std.specs.Prelude.{◌≡◌, ℕ, ◌+◌, ◌-◌, ◌*◌, ◌/◌, ◌%◌, ◌≤◌, true, [], ◌++◌, length, replicate};
+ghost use Rattle.std.specs.Prelude.{◌≡◌, ℕ, ◌+◌, ◌-◌, ◌*◌, ◌/◌, ◌%◌, ◌≤◌, true, [], ◌++◌, bit_xor, length, replicate};
 ghost use Rattle.dml_arena.specs.Piece.{SamePlace};
 ghost use Rattle.dml_delta.specs.Entries.{nth_block, nth_differs, nth_entry, gathered, is_marked};
 
@@ -9,6 +9,9 @@ use std::simd::prelude::*;
 
 /// The bytes of eight blocks.
 const GROUP: usize = 64;
+
+/// The marks of eight blocks.
+const ALL: u64 = 255;
 
 /// Adds the entries of the blocks that differ; the first has a number, and an entry the bytes of the second slice.
 pub fn add_differing(
@@ -30,8 +33,8 @@ pub fn add_differing(
     for k in 0..groups {
         let at = GROUP * k;
         let (one, other) = (&one[at..at + GROUP], &other[at..at + GROUP]);
-        let marks = marks_of_group(one, other);
-        add_marked(entries, marks, other, number + 8 * k as u32, room);
+        let alike = alike_in_group(one, other);
+        add_unlike(entries, alike, other, number + 8 * k as u32, room);
     }
     let at = GROUP * groups;
     let (one, other) = (&one[at..], &other[at..]);
@@ -71,9 +74,19 @@ fn marks_of_group(one: &[u8], other: &[u8]) -> u64
     requires lengths { (length one.now ≡ 64) × (length other.now ≡ 64) }
     ensures { (i : ℕ) → is_marked result i ≡ nth_differs one.now other.now i }
 {
+    ALL ^ alike_in_group(one, other)
+}
+
+/// Which of eight blocks are alike. A loop over groups tests this: marks of those that differ are turned from it, by
+/// three instructions a group.
+#[inline(always)]
+fn alike_in_group(one: &[u8], other: &[u8]) -> u64
+    requires lengths { (length one.now ≡ 64) × (length other.now ≡ 64) }
+    ensures { (i : ℕ) → is_marked (bit_xor 255 result) i ≡ nth_differs one.now other.now i }
+{
     let one = u64x8::from_le_bytes(u8x64::from_slice(one));
     let other = u64x8::from_le_bytes(u8x64::from_slice(other));
-    one.simd_ne(other).to_bitmask()
+    one.simd_eq(other).to_bitmask()
 }
 
 /// Which of fewer blocks differ.
@@ -97,6 +110,22 @@ fn filled_up(blocks: &[u8]) -> [u8; GROUP]
     let mut bytes = [0; GROUP];
     bytes[..blocks.len()].copy_from_slice(blocks);
     bytes
+}
+
+/// Adds the entries of those of eight blocks that are not marked as alike, the first of which has a number.
+#[inline(always)]
+fn add_unlike(entries: &mut Entries, alike: u64, blocks: &[u8], number: u32, room: &mut Region<'_>)
+    requires few { length blocks.now ≤ 64 }
+    requires marks { (i : ℕ) → is_marked (bit_xor 255 alike) i ≡ true → 8 * i + 8 ≤ length blocks.now }
+    requires numbers { number + length blocks.now / 8 ≤ 65536 }
+    requires fits { length room.old.bytes + length entries.old ≤ room.old.room }
+    ensures place { SamePlace room.old room.new }
+    ensures bytes { room.new.bytes ++ entries.new ≡ (room.old.bytes ++ entries.old)
+        ++ gathered (nth_entry number blocks.now) (is_marked (bit_xor 255 alike)) 0 (length blocks.now / 8) }
+{
+    if alike != ALL {
+        add_marked(entries, ALL ^ alike, blocks, number, room);
+    }
 }
 
 /// Adds the entries of the marked ones of up to eight blocks, the first of which has a number.

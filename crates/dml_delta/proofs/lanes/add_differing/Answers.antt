@@ -1,4 +1,5 @@
 use Rattle.std.proofs.Common.{◌≡◌, ℕ, ◌+◌, ◌-◌, ◌*◌, ◌/◌, ◌++◌, List, length, take, drop, sym, ◌∙◌, ap, arith, zero-add, append_assoc}
+use Rattle.std.specs.Prelude.{bit_xor}
 use Rattle.std.proofs.lemmas.List.{length-append, length-take, length-drop}
 use Rattle.dml_delta.specs.Entries.{nth_differs, nth_entry, gathered, is_marked}
 use Rattle.dml_delta.proofs.EntryLemmas.{gathered_split, length_entries_in}
@@ -10,16 +11,16 @@ fits_so_far : (old before gathered_here here entries : List ℕ) → here ++ ent
 fits_so_far old before gathered_here here entries is =
     omega (arith, ap (λ (xs : List ℕ). length xs) is, length-append here entries, length-append (old ++ before) gathered_here, length-append old before)
 
-pub add_marked-requires-clause-fits : goal.add_marked-requires-clause-fits
-add_marked-requires-clause-fits c =
+pub add_unlike-requires-clause-fits : goal.add_unlike-requires-clause-fits
+add_unlike-requires-clause-fits c =
     let entry = nth_entry c.args.number c.args.other.now in
     let differs = nth_differs c.args.one.now c.args.other.now in
     let long = fits_so_far c.args.room.now.bytes c.args.entries.now (gathered entry differs 0 (8 * c.loop-k.k)) c.loop-k.room.bytes c.loop-k.entries c.loop-k.invariant.bytes in
     let short = length_entries_in c.args.number c.args.other.now differs 0 (8 * c.loop-k.k) in
     omega (arith, long, short, c.requires.fits, c.loop-k.invariant.room, c.loop-k-test.true)
 
-pub add_marked-requires-2-clause-fits : goal.add_marked-requires-2-clause-fits
-add_marked-requires-2-clause-fits c =
+pub add_marked-requires-clause-fits : goal.add_marked-requires-clause-fits
+add_marked-requires-clause-fits c =
     let entry = nth_entry c.args.number c.args.other.now in
     let differs = nth_differs c.args.one.now c.args.other.now in
     let long = fits_so_far c.args.room.now.bytes c.args.entries.now (gathered entry differs 0 (8 * c.loop-k.k)) c.loop-k.room.bytes c.loop-k.entries c.loop-k.invariant.bytes in
@@ -38,21 +39,21 @@ loop-k-preserved c =
     let place = 64 * k in
     let count = place + 64 - place in
     let part = take count (drop place other) in
-    let marks = c.marks_of_group-marks.result in
+    let marks = bit_xor 255 c.alike_in_group-alike.result in
     let eight : length part / 8 ≡ 8 = omega (arith, length-take count (drop place other), length-drop place other, c.requires.lengths, c.loop-k-test.true) in
     let next : 8 * (k + 1) ≡ 8 * k + 8 = omega arith in
     let more : gathered (nth_entry (c.args.number + 8 * k) part) (is_marked marks) 0 (length part / 8) ≡ gathered entry differs (8 * k) 8 =
     ap (gathered (nth_entry (c.args.number + 8 * k) part) (is_marked marks) 0) eight
-    ∙ part_entries one other marks c.args.number place (8 * k) count count 8 (omega arith) (omega arith) (omega arith) c.marks_of_group-marks.ensures in
+    ∙ part_entries one other marks c.args.number place (8 * k) count count 8 (omega arith) (omega arith) (omega arith) c.alike_in_group-alike.ensures in
     let both : gathered entry differs 0 (8 * (k + 1)) ≡ gathered entry differs 0 (8 * k) ++ gathered entry differs (8 * k) 8 =
     ap (gathered entry differs 0) next
     ∙ (gathered_split entry differs 0 (8 * k) 8 ∙ ap (λ (a : ℕ). gathered entry differs 0 (8 * k) ++ gathered entry differs a 8) (zero-add (8 * k))) in
     record {
-      opening = c.add_marked.ensures.place.opening ∙ c.loop-k.invariant.opening;
-      start = c.add_marked.ensures.place.start ∙ c.loop-k.invariant.start;
-      room = c.add_marked.ensures.place.room ∙ c.loop-k.invariant.room;
+      opening = c.add_unlike.ensures.place.opening ∙ c.loop-k.invariant.opening;
+      start = c.add_unlike.ensures.place.start ∙ c.loop-k.invariant.start;
+      room = c.add_unlike.ensures.place.room ∙ c.loop-k.invariant.room;
       bytes =
-          c.add_marked.ensures.bytes
+          c.add_unlike.ensures.bytes
           ∙ (ap (λ (xs : List ℕ). here ++ xs) more
           ∙ (ap (λ (xs : List ℕ). xs ++ gathered entry differs (8 * k) 8) c.loop-k.invariant.bytes
           ∙ (append_assoc old (gathered entry differs 0 (8 * k)) (gathered entry differs (8 * k) 8)
@@ -78,7 +79,7 @@ returns-clause-bytes c =
     let both : gathered entry differs 0 (length one / 8) ≡ gathered entry differs 0 (8 * groups) ++ gathered entry differs (8 * groups) n =
     ap (gathered entry differs 0) all
     ∙ (gathered_split entry differs 0 (8 * groups) n ∙ ap (λ (a : ℕ). gathered entry differs 0 (8 * groups) ++ gathered entry differs a n) (zero-add (8 * groups))) in
-    c.add_marked-2.ensures.bytes
+    c.add_marked.ensures.bytes
     ∙ (ap (λ (xs : List ℕ). here ++ xs) more
     ∙ (ap (λ (xs : List ℕ). xs ++ gathered entry differs (8 * groups) n) (c.loop-k.invariant.bytes ∙ ap (λ (k : ℕ). old ++ gathered entry differs 0 (8 * k)) same)
     ∙ (append_assoc old (gathered entry differs 0 (8 * groups)) (gathered entry differs (8 * groups) n)

@@ -110,6 +110,15 @@ impl Row {
         }
     }
 
+    /// The bytes that it leaves at the front of the page, behind which all are 0.
+    fn left(self) -> [u8; 9] {
+        match self {
+            Row::FullRing | Row::RoundOf128 => [0; 9],
+            Row::PolledInOrder | Row::PollWithOneSlot => [1, 0, 0, 0, 0, 0, 0, 0, 0],
+            Row::FenceInAQueue => [0, 0, 0, 0, 0, 0, 0, 0, 3],
+        }
+    }
+
     /// Expects it of a portal.
     fn expect<R: Abort + Threads + Wait + Sync>(self, rt: &R, alloc: Global, portal: One<'_>) {
         match self {

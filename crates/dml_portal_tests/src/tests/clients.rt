@@ -127,14 +127,20 @@ fn two_seats(rt: HostRuntime) {
 }
 
 /// A portal is not settled before each client has finished.
+pub(super) fn expect_strangers<R: Abort + Threads + Wait + Sync>(
+    rt: &R,
+    alloc: Global,
+    portal: Two<'_>,
+) {
+    let portal = submitted_at_once(rt, portal);
+    let settled = portal.settle_late(rt, alloc).expect(rt, "not settled");
+    expect_settled(rt, &settled);
+}
+
 #[test]
 fn strangers(rt: HostRuntime) {
     let portal = portal_of_two(rt.alloc()).expect(&rt, "no memory");
-    let portal = submitted_at_once(&rt, portal);
-    let settled = portal
-        .settle_late(&rt, rt.alloc())
-        .expect(&rt, "not settled");
-    expect_settled(&rt, &settled);
+    expect_strangers(&rt, rt.alloc(), portal);
 }
 
 /// Submits jobs and polls for so many turns: the seat, and the records that it has polled.

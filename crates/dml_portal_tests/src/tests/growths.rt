@@ -3,10 +3,11 @@ ghost use Rattle.std.specs.Prelude.{◌≡◌, ◌≤◌, [], IfSome, vec_capaci
 ghost use Rattle.dml_portal.specs.Settled.{AreSeatsOf};
 
 use super::claims::{holds, same};
+use super::lent::SETTINGS;
 use super::portals::{One, Two};
 use super::{done, engine, expect_bytes};
-use dml_engine::Engine;
-use dml_image::Image;
+use dml_engine::{Engine, EngineOver};
+use dml_image::{Image, Whole};
 use dml_pool::Free;
 use dml_portal::{Done, LogEntry, Portal, PortalError, Seat, Server, SettleFault, Settled};
 use dml_types::{Job, Record, Settings};
@@ -64,7 +65,7 @@ fn expect_sevens(rt: &impl Abort, image: &Image) {
 fn expect_settled_at_once<R: Abort + Threads + Wait + Sync>(
     rt: &R,
     alloc: Global,
-    portal: Two<'static>,
+    portal: Two<'_>,
     dones: Vec<Done>,
 )
     requires empty { dones.items ≡ [] }
@@ -77,26 +78,70 @@ fn expect_settled_at_once<R: Abort + Threads + Wait + Sync>(
 }
 
 /// An engine was handed back as it was, for want of memory.
-fn expect_handed_back(rt: &impl Abort, engine: &Engine, settings: Settings, error: PortalError) {
+fn expect_handed_back(
+    rt: &impl Abort,
+    engine: &EngineOver<'_>,
+    settings: Settings,
+    error: PortalError,
+) {
     same(rt, error, PortalError::NoMemory);
     same(rt, engine.settings(), settings);
     expect_sevens(rt, engine.image());
 }
 
 /// A server and a seat for each client, or the engine as it was.
+fn expect_opened<R: Abort + Threads + Wait + Sync>(
+    rt: &R,
+    alloc: Global,
+    engine: EngineOver<'_>,
+    dones: Vec<Done>,
+)
+    requires empty { dones.items ≡ [] }
+    requires room { 2 ≤ vec_capacity dones }
+{
+    let settings = engine.settings();
+    match Portal::open(alloc, engine, 2, 4) {
+        Ok((server, seats)) => {
+            expect_two_seats(rt, seats.as_slice());
+            let portal = Two::of(server, seats).expect(rt, "no seats");
+            expect_settled_at_once(rt, alloc, portal, dones);
+        }
+        Err((engine, error)) => expect_handed_back(rt, &engine, settings, error),
+    }
+}
+
 #[test]
 fn refused_open(rt: HostRuntime) {
     let engine = engine_of_sevens(rt.alloc()).expect(&rt, "no memory");
-    let settings = engine.settings();
     let dones = room_for_two(&rt, rt.alloc());
-    match Portal::open(rt.alloc(), engine, 2, 4) {
-        Ok((server, seats)) => {
-            expect_two_seats(&rt, seats.as_slice());
-            let portal = Two::of(server, seats).expect(&rt, "no seats");
-            expect_settled_at_once(&rt, rt.alloc(), portal, dones);
-        }
-        Err((engine, error)) => expect_handed_back(&rt, &engine, settings, error),
-    }
+    expect_opened(&rt, rt.alloc(), engine, dones);
+}
+
+/// An engine over a page that is lent in one piece.
+fn engine_over<'a>(rt: &impl Abort, alloc: Global, content: &'a mut [u8]) -> EngineOver<'a> {
+    let mut whole = Whole::new(content);
+    assert!(rt; whole.is_memory());
+    let engine = EngineOver::new(alloc, whole.take(), SETTINGS).ok();
+    engine.expect(rt, "no memory")
+}
+
+/// What `refused_open_over_one_piece` does before its call.
+#[test]
+fn set_up_of_open_over_one_piece(rt: HostRuntime) {
+    let mut content = [7; 4096];
+    let engine = engine_over(&rt, rt.alloc(), &mut content);
+    holds(&rt, room_for_two(&rt, rt.alloc()).is_empty());
+    expect_sevens(&rt, engine.image());
+}
+
+/// The same over a page of sevens that is lent in one piece, and that stays as it was.
+#[test]
+fn refused_open_over_one_piece(rt: HostRuntime) {
+    let mut content = [7; 4096];
+    let engine = engine_over(&rt, rt.alloc(), &mut content);
+    let dones = room_for_two(&rt, rt.alloc());
+    expect_opened(&rt, rt.alloc(), engine, dones);
+    holds(&rt, content == [7; 4096]);
 }
 
 /// Two clients of a portal submit: the first two jobs, the second one. The first job looks at the bytes that the next

@@ -1,9 +1,12 @@
 //! Portals over memory that a caller lends.
 
 use super::claims::{holds, same};
-use super::clients::{expect_polls_while_serving, expect_two_seats};
+use super::clients::{expect_polls_while_serving, expect_strangers, expect_two_seats};
 use super::portals::{One, Three, Two};
-use super::rounds::{expect_fetched_in_turn, expect_settled_in_turn, expect_two_fetched_in_turn};
+use super::rounds::{
+    FOUR_WORKERS, LEFT, expect_fetched_in_turn, expect_settled_in_turn, expect_three_seats,
+    expect_two_fetched_in_turn, expect_worth_four_workers,
+};
 use super::steps::{expect_polled, serve_long, submit_all};
 use super::{Row, done};
 use dml_engine::EngineOver;
@@ -15,7 +18,7 @@ use std::sync::Wait;
 use std::thread::Threads;
 
 /// A mebibyte of staging, tasks of a page, four workers.
-const SETTINGS: Settings = Settings {
+pub(super) const SETTINGS: Settings = Settings {
     staging: 1 << 20,
     chunk: 4096,
     workers: 4,
@@ -76,7 +79,7 @@ fn portal_over_lent_memory(rt: HostRuntime) {
 }
 
 /// So many pages of zeros.
-fn pages_of_zeros(rt: &impl Abort, alloc: Global, pages: u32) -> Vec<u8> {
+pub(super) fn pages_of_zeros(rt: &impl Abort, alloc: Global, pages: u32) -> Vec<u8> {
     let bytes = 4096 * pages as usize;
     vec![in alloc; 0; bytes].expect(rt, "no memory")
 }
@@ -104,12 +107,21 @@ pub(super) fn expect_row<R: Abort + Threads + Wait + Sync>(
     row.expect(rt, alloc, portal.expect(rt, "no memory"));
 }
 
+/// The caller's page begins with these bytes, and all behind them are 0.
+pub(super) fn expect_left(rt: &impl Abort, page: &[u8], left: &[u8]) {
+    let (front, behind) = page.split_at_checked(left.len()).expect(rt, "a short page");
+    same(rt, front, left);
+    holds(rt, behind.iter().all(|byte| *byte == 0));
+}
+
 /// Expects a row over a page that is lent.
 fn expect_row_over_lent_memory<R: Abort + Threads + Wait + Sync>(rt: &R, alloc: Global, row: Row) {
     let mut content = [0; 4096];
     let mut lent = Lent::new(&[true], &mut content);
     assert!(rt; lent.is_memory());
     expect_row(rt, alloc, lent.take(), row);
+    drop(lent);
+    expect_left(rt, &content, &row.left());
 }
 
 #[test]
@@ -125,6 +137,8 @@ fn expect_row_over_one_piece<R: Abort + Threads + Wait + Sync>(rt: &R, alloc: Gl
     let mut whole = Whole::new(&mut content);
     assert!(rt; whole.is_memory());
     expect_row(rt, alloc, whole.take(), row);
+    drop(whole);
+    expect_left(rt, &content, &row.left());
 }
 
 #[test]
@@ -138,22 +152,38 @@ fn rows_over_one_piece(rt: HostRuntime) {
 #[derive(Clone, Copy, Debug)]
 pub(super) enum RowOfTwo {
     SubmitAtOnce,
+    Strangers,
     FetchedInTurn,
     PollsWhileServing,
 }
 
 impl RowOfTwo {
     /// All of them.
-    pub(super) const ALL: [RowOfTwo; 3] = [
+    pub(super) const ALL: [RowOfTwo; 4] = [
         RowOfTwo::SubmitAtOnce,
+        RowOfTwo::Strangers,
         RowOfTwo::FetchedInTurn,
         RowOfTwo::PollsWhileServing,
     ];
+
+    /// The bytes that it leaves at the front of the page, behind which all are 0.
+    pub(super) fn left(self) -> [u8; 257] {
+        let mut left = [0; 257];
+        match self {
+            RowOfTwo::FetchedInTurn => left[0] = 4,
+            RowOfTwo::SubmitAtOnce | RowOfTwo::Strangers | RowOfTwo::PollsWhileServing => {
+                left[..64].fill(0xa5);
+                left[256] = 1;
+            }
+        }
+        left
+    }
 
     /// Expects it of a portal.
     fn expect<R: Abort + Threads + Wait + Sync>(self, rt: &R, alloc: Global, portal: Two<'_>) {
         match self {
             RowOfTwo::SubmitAtOnce => expect_two_seats(rt, alloc, portal),
+            RowOfTwo::Strangers => expect_strangers(rt, alloc, portal),
             RowOfTwo::FetchedInTurn => expect_two_fetched_in_turn(rt, alloc, portal),
             RowOfTwo::PollsWhileServing => expect_polls_while_serving(rt, alloc, portal),
         }
@@ -182,6 +212,8 @@ fn expect_two_over_lent_memory<R: Abort + Threads + Wait + Sync>(
     let mut lent = Lent::new(&[true], &mut content);
     assert!(rt; lent.is_memory());
     expect_row_of_two(rt, alloc, lent.take(), row);
+    drop(lent);
+    expect_left(rt, &content, &row.left());
 }
 
 #[test]
@@ -201,6 +233,8 @@ fn expect_two_over_one_piece<R: Abort + Threads + Wait + Sync>(
     let mut whole = Whole::new(&mut content);
     assert!(rt; whole.is_memory());
     expect_row_of_two(rt, alloc, whole.take(), row);
+    drop(whole);
+    expect_left(rt, &content, &row.left());
 }
 
 #[test]
@@ -210,53 +244,125 @@ fn rows_of_two_over_one_piece(rt: HostRuntime) {
     }
 }
 
-/// A portal of three clients over an image.
-fn three_over<'a>(alloc: Global, image: Image<'a>, capacity: u32) -> Option<Three<'a>> {
-    let engine = EngineOver::new(alloc, image, SETTINGS).ok()?;
-    Three::over(alloc, engine, capacity)
+/// A row of a portal of three clients over a page of zeros. All leave the same bytes.
+#[derive(Clone, Copy, Debug)]
+pub(super) enum RowOfThree {
+    FetchedInTurn,
+    SettledInTurn,
+    SubmitAtOnce,
 }
 
-/// Three clients over an image are fetched in turn as over an image's own pages.
-pub(super) fn expect_three_fetched<R: Abort + Threads + Wait + Sync>(
+impl RowOfThree {
+    /// All of them.
+    pub(super) const ALL: [RowOfThree; 3] = [
+        RowOfThree::FetchedInTurn,
+        RowOfThree::SettledInTurn,
+        RowOfThree::SubmitAtOnce,
+    ];
+
+    /// The room of the clients' rings.
+    fn capacity(self) -> u32 {
+        match self {
+            RowOfThree::FetchedInTurn | RowOfThree::SubmitAtOnce => 200,
+            RowOfThree::SettledInTurn => 130,
+        }
+    }
+
+    /// Expects it of a portal.
+    fn expect<R: Abort + Threads + Wait + Sync>(self, rt: &R, alloc: Global, portal: Three<'_>) {
+        match self {
+            RowOfThree::FetchedInTurn => expect_fetched_in_turn(rt, alloc, portal),
+            RowOfThree::SettledInTurn => expect_settled_in_turn(rt, alloc, portal),
+            RowOfThree::SubmitAtOnce => expect_three_seats(rt, alloc, portal),
+        }
+    }
+}
+
+/// Expects a row of three clients over an image.
+pub(super) fn expect_row_of_three<R: Abort + Threads + Wait + Sync>(
     rt: &R,
     alloc: Global,
     image: Image<'_>,
+    row: RowOfThree,
 ) {
-    let portal = three_over(alloc, image, 200).expect(rt, "no memory");
-    expect_fetched_in_turn(rt, alloc, portal);
+    let engine = EngineOver::new(alloc, image, SETTINGS).ok();
+    let portal = Three::over(alloc, engine.expect(rt, "no memory"), row.capacity());
+    row.expect(rt, alloc, portal.expect(rt, "no memory"));
 }
 
-/// The same by a settlement.
-pub(super) fn expect_three_settled<R: Abort + Threads + Wait + Sync>(
+/// Expects such a row over a page that is lent.
+fn expect_three_over_lent_memory<R: Abort + Threads + Wait + Sync>(
     rt: &R,
     alloc: Global,
-    image: Image<'_>,
+    row: RowOfThree,
 ) {
-    let portal = three_over(alloc, image, 130).expect(rt, "no memory");
-    expect_settled_in_turn(rt, alloc, portal);
+    let mut content = [0; 4096];
+    let mut lent = Lent::new(&[true], &mut content);
+    assert!(rt; lent.is_memory());
+    expect_row_of_three(rt, alloc, lent.take(), row);
+    drop(lent);
+    expect_left(rt, &content, &LEFT);
 }
 
 #[test]
-fn three_clients_over_lent_memory(rt: HostRuntime) {
-    let (mut content, mut other) = ([0; 4096], [0; 4096]);
-    let mut lent = Lent::new(&[true], &mut content);
+fn rows_of_three_over_lent_memory(rt: HostRuntime) {
+    for row in RowOfThree::ALL {
+        expect_three_over_lent_memory(&rt, rt.alloc(), row);
+    }
+}
+
+/// The same in one piece.
+fn expect_three_over_one_piece<R: Abort + Threads + Wait + Sync>(
+    rt: &R,
+    alloc: Global,
+    row: RowOfThree,
+) {
+    let mut content = [0; 4096];
+    let mut whole = Whole::new(&mut content);
+    assert!(rt; whole.is_memory());
+    expect_row_of_three(rt, alloc, whole.take(), row);
+    drop(whole);
+    expect_left(rt, &content, &LEFT);
+}
+
+#[test]
+fn rows_of_three_over_one_piece(rt: HostRuntime) {
+    for row in RowOfThree::ALL {
+        expect_three_over_one_piece(&rt, rt.alloc(), row);
+    }
+}
+
+/// A round that is worth four workers, over an image of two mebibytes of zeros.
+pub(super) fn expect_four_workers<R: Abort + Threads + Wait + Sync>(
+    rt: &R,
+    alloc: Global,
+    image: Image<'_>,
+) {
+    let engine = EngineOver::new(alloc, image, FOUR_WORKERS).ok();
+    let portal = One::over(alloc, engine.expect(rt, "no memory"), 4);
+    expect_worth_four_workers(rt, alloc, portal.expect(rt, "no memory"));
+}
+
+#[test]
+fn four_workers_over_lent_memory(rt: HostRuntime) {
+    let present = [true; 512];
+    let mut content = pages_of_zeros(&rt, rt.alloc(), 512);
+    let mut lent = Lent::new(&present, content.as_mut_slice());
     assert!(rt; lent.is_memory());
-    expect_three_fetched(&rt, rt.alloc(), lent.take());
-    let mut lent = Lent::new(&[true], &mut other);
-    assert!(rt; lent.is_memory());
-    expect_three_settled(&rt, rt.alloc(), lent.take());
+    expect_four_workers(&rt, rt.alloc(), lent.take());
+    drop(lent);
+    expect_left(&rt, &content, &[]);
 }
 
 /// The same in one piece.
 #[test]
-fn three_clients_over_one_piece(rt: HostRuntime) {
-    let (mut content, mut other) = ([0; 4096], [0; 4096]);
-    let mut whole = Whole::new(&mut content);
+fn four_workers_over_one_piece(rt: HostRuntime) {
+    let mut content = pages_of_zeros(&rt, rt.alloc(), 512);
+    let mut whole = Whole::new(content.as_mut_slice());
     assert!(rt; whole.is_memory());
-    expect_three_fetched(&rt, rt.alloc(), whole.take());
-    let mut whole = Whole::new(&mut other);
-    assert!(rt; whole.is_memory());
-    expect_three_settled(&rt, rt.alloc(), whole.take());
+    expect_four_workers(&rt, rt.alloc(), whole.take());
+    drop(whole);
+    expect_left(&rt, &content, &[]);
 }
 
 /// A server that stays up over an image of two pages, the second of which is absent and lent, brings no page, and a

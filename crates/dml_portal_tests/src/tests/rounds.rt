@@ -2,13 +2,11 @@
 ghost use Rattle.dml_portal.specs.Seats.{IsSameSeat};
 
 use super::claims::{holds, same};
-use super::portals::{Three, Two};
-use super::steps::{expect_polled, expect_served, submit_all};
+use super::portals::{One, Three, Two};
 use super::{done, engine, expect_bytes};
 use dml_engine::Engine;
 use dml_image::Image;
-use dml_pool::Free;
-use dml_portal::{LogEntry, Portal, Seat, Server};
+use dml_portal::{LogEntry, Seat};
 use dml_types::{Job, Settings};
 use std::alloc::Global;
 use std::process::Abort;
@@ -71,6 +69,9 @@ fn expect_all_polled(rt: &impl Abort, portal: &mut Three<'_>) {
 
 /// What the jobs of three clients leave of the page.
 const BYTES: [(u64, u8); 4] = [(0, 129), (8, 2), (16, 128), (24, 0)];
+
+/// The same at the front of the page, behind which all are 0.
+pub(super) const LEFT: [u8; 17] = [129, 0, 0, 0, 0, 0, 0, 0, 2, 0, 0, 0, 0, 0, 0, 0, 128];
 
 /// Three clients submit in turn, and are fetched by two rounds.
 pub(super) fn expect_fetched_in_turn<R: Abort + Threads + Wait + Sync>(
@@ -256,45 +257,57 @@ fn submitted_at_once<'a, R: Abort + Threads + Sync>(rt: &R, portal: Three<'a>) -
 }
 
 /// Three clients submit at once.
+pub(super) fn expect_three_seats<R: Abort + Threads + Wait + Sync>(
+    rt: &R,
+    alloc: Global,
+    portal: Three<'_>,
+) {
+    let portal = submitted_at_once(rt, portal);
+    let settled = portal.settle(rt, alloc).expect(rt, "not settled");
+    expect_log(rt, settled.log.list.as_slice(), &FETCHED);
+    expect_bytes(rt, &settled.image, &BYTES);
+}
+
 #[test]
 fn three_seats(rt: HostRuntime) {
     for _ in 0..10 {
         let portal = Three::open(rt.alloc(), 200).expect(&rt, "no memory");
-        let portal = submitted_at_once(&rt, portal);
-        let settled = portal.settle(&rt, rt.alloc()).expect(&rt, "not settled");
-        expect_log(&rt, settled.log.list.as_slice(), &FETCHED);
+        expect_three_seats(&rt, rt.alloc(), portal);
     }
 }
 
-/// An engine with no gate given over 512 pages of zeros, in chunks of 64 KiB, for four workers.
+/// Chunks of 64 KiB, for four workers.
+pub(super) const FOUR_WORKERS: Settings = Settings {
+    staging: 0,
+    chunk: 65_536,
+    workers: 4,
+};
+
+/// An engine with no gate given over 512 pages of zeros, for four workers.
 fn engine_of_two_mebibytes(alloc: Global) -> Option<Engine> {
     let mut image = Image::new(alloc, 512).ok()?;
     for page in 0..512 {
         image.bring(page, &[0; 4096]).ok()?;
     }
-    let settings = Settings {
-        staging: 0,
-        chunk: 65_536,
-        workers: 4,
-    };
-    Engine::new(alloc, image, settings).ok()
-}
-
-/// The server of a portal over that engine, and the seat of its one client.
-fn portal_of_two_mebibytes(alloc: Global) -> Option<(Server<Free>, Seat)> {
-    let Ok((server, mut seats)) = Portal::open(alloc, engine_of_two_mebibytes(alloc)?, 1, 4) else {
-        return None;
-    };
-    let seat = seats.pop()?;
-    Some((server, seat))
+    Engine::new(alloc, image, FOUR_WORKERS).ok()
 }
 
 /// Four compares of a mebibyte, which pay for four workers; how many threads the round starts is counted from outside
 /// (tests/starts.sh).
+pub(super) fn expect_worth_four_workers<R: Abort + Threads + Wait + Sync>(
+    rt: &R,
+    alloc: Global,
+    portal: One<'_>,
+) {
+    let mut portal = portal;
+    portal.submit_all(rt, &[Job::compare(0, 1_048_576, 1_048_576); 4]);
+    portal.expect_served(rt, alloc, 4);
+    portal.expect_polled(rt, &[done(1_048_576); 4]);
+}
+
 #[test]
 fn round_worth_four_workers(rt: HostRuntime) {
-    let (mut server, mut seat) = portal_of_two_mebibytes(rt.alloc()).expect(&rt, "no memory");
-    submit_all(&rt, &mut seat, &[Job::compare(0, 1_048_576, 1_048_576); 4]);
-    expect_served(&rt, rt.alloc(), &mut server, 4);
-    expect_polled(&rt, &mut seat, &[done(1_048_576); 4]);
+    let engine = engine_of_two_mebibytes(rt.alloc()).expect(&rt, "no memory");
+    let portal = One::over(rt.alloc(), engine, 4).expect(&rt, "no memory");
+    expect_worth_four_workers(&rt, rt.alloc(), portal);
 }

@@ -3,9 +3,10 @@
 use super::Row;
 use super::claims::{holds, same};
 use super::lent::{
-    RowOfTwo, expect_row, expect_row_of_two, expect_served, expect_stays_up, expect_three_fetched,
-    expect_three_settled,
+    RowOfThree, RowOfTwo, expect_four_workers, expect_left, expect_row, expect_row_of_three,
+    expect_row_of_two, expect_served, expect_stays_up, pages_of_zeros,
 };
+use super::rounds::LEFT;
 use dml_image::{Image, Segment, are_segments};
 use std::alloc::Global;
 use std::process::Abort;
@@ -66,6 +67,8 @@ fn expect_row_over_segments<R: Abort + Threads + Wait + Sync>(rt: &R, alloc: Glo
     let (mut low, mut high) = ([0; 4096], [0; 4096]);
     let image = memory(rt, alloc, (0, &mut low), (3, &mut high));
     expect_row(rt, alloc, image, row);
+    expect_left(rt, &low, &row.left());
+    expect_left(rt, &high, &[]);
 }
 
 #[test]
@@ -84,6 +87,8 @@ fn expect_two_over_segments<R: Abort + Threads + Wait + Sync>(
     let (mut low, mut high) = ([0; 4096], [0; 4096]);
     let image = memory(rt, alloc, (0, &mut low), (3, &mut high));
     expect_row_of_two(rt, alloc, image, row);
+    expect_left(rt, &low, &row.left());
+    expect_left(rt, &high, &[]);
 }
 
 #[test]
@@ -93,15 +98,36 @@ fn rows_of_two_over_segments(rt: HostRuntime) {
     }
 }
 
-/// Three clients are fetched in turn over segments as over an image's own pages.
+/// Expects a row of three clients over two segments.
+fn expect_three_over_segments<R: Abort + Threads + Wait + Sync>(
+    rt: &R,
+    alloc: Global,
+    row: RowOfThree,
+) {
+    let (mut low, mut high) = ([0; 4096], [0; 4096]);
+    let image = memory(rt, alloc, (0, &mut low), (3, &mut high));
+    expect_row_of_three(rt, alloc, image, row);
+    expect_left(rt, &low, &LEFT);
+    expect_left(rt, &high, &[]);
+}
+
 #[test]
-fn three_clients_over_segments(rt: HostRuntime) {
-    let (mut low, mut high) = ([0; 4096], [0; 4096]);
-    let image = memory(&rt, rt.alloc(), (0, &mut low), (3, &mut high));
-    expect_three_fetched(&rt, rt.alloc(), image);
-    let (mut low, mut high) = ([0; 4096], [0; 4096]);
-    let image = memory(&rt, rt.alloc(), (0, &mut low), (3, &mut high));
-    expect_three_settled(&rt, rt.alloc(), image);
+fn rows_of_three_over_segments(rt: HostRuntime) {
+    for row in RowOfThree::ALL {
+        expect_three_over_segments(&rt, rt.alloc(), row);
+    }
+}
+
+/// A round that is worth four workers, over two segments of a mebibyte.
+#[test]
+fn four_workers_over_segments(rt: HostRuntime) {
+    let mut low = pages_of_zeros(&rt, rt.alloc(), 256);
+    let mut high = pages_of_zeros(&rt, rt.alloc(), 256);
+    let (front, back) = (low.as_mut_slice(), high.as_mut_slice());
+    let image = memory(&rt, rt.alloc(), (0, front), (256, back));
+    expect_four_workers(&rt, rt.alloc(), image);
+    expect_left(&rt, &low, &[]);
+    expect_left(&rt, &high, &[]);
 }
 
 /// A server that stays up over segments brings no page into a hole, and a client's job faults there.

@@ -1,5 +1,5 @@
 -- What a move and a dualcast do to the image, by the bytes that were done.
-use Rattle.std.proofs.Common.{◌≡◌, ℕ, ◌+◌, ◌-◌, ◌<◌, ◌≤◌, ◌^◌, true, not, List, [], length, Some, refl, sym, ◌∙◌, ap, ap₂, arith, ⊎_elim, inl, inr}
+use Rattle.std.proofs.Common.{◌≡◌, ℕ, zero, suc, ◌+◌, ◌-◌, ◌<◌, ◌≤◌, ◌⊎◌, ◌^◌, true, not, List, [], length, Some, refl, sym, ◌∙◌, ap, ap₂, arith, ⊎_elim, inl, inr}
 use Rattle.dml_types.specs.declared.findings.Found.{Found}
 use Rattle.dml_types.specs.declared.findings.Found.TheVariants.{All}
 use Rattle.dml_types.specs.declared.jobs.Job.{Job}
@@ -20,7 +20,7 @@ use Rattle.dml_effect.specs.Joined.{copied_record}
 use Rattle.dml_effect.proofs.WholeLemmas.{move_source, move_target, dualcast_source, dualcast_target, dualcast_second, copied_count, whole_move, whole_dualcast, answer_of_move, answer_of_dualcast}
 use Rattle.dml_scan.specs.Found.{done_count}
 use Rattle.dml_image.proofs.RunLemmas.{present_toward_is}
-use Rattle.dml_scan.proofs.ReachLemmas.{done_found, found_all, move_done as scanned}
+use Rattle.dml_scan.proofs.ReachLemmas.{done_found, dualcast_done as scanned_twice, found_all, move_done as scanned}
 
 put_none : (memory : Memory) (address : ℕ) (bytes : List ℕ) → bytes ≡ [] → put memory address bytes ≡ memory
 put_none memory address bytes none = ap (put memory address) none ∙ put_nil memory address
@@ -203,3 +203,43 @@ module _ (memory : Memory) (job given : Job) (found : Found) (answer : Record) (
 
   pub twice_nothing : answer.completed ≡ 0 → memory ≡ (checked_step memory job).0
   twice_nothing = dualcast_nothing memory job given.source given.target given.extra answer.completed (ap (λ (j : Job). j.source) same) (ap (λ (j : Job). j.target) same) (ap (λ (j : Job). j.extra) same) twice_done checked operation
+
+-- a dualcast of which all is present is done whole
+forward_all : (memory : Memory) (address n : ℕ) → has_all memory address n ≡ true → present_toward Forward memory (address + 0) (n - 0) ≡ n
+forward_all memory address n all =
+    ap₂ (present_toward Forward memory) (omega arith) (omega arith) ∙ sym (all_toward Forward memory address n all)
+
+all_found_twice : (memory : Memory) (job : Job) (n : ℕ) → has_all memory job.source n ≡ true → has_all memory job.target n ≡ true → has_all memory job.extra n ≡ true → All ≡ scan_found Dualcast memory job 0 n
+all_found_twice memory job n at_source at_target at_extra =
+    found_all Dualcast memory job 0 n
+    (scanned_twice memory job 0 n ∙ omega (arith, forward_all memory job.source n at_source, forward_all memory job.target n at_target, forward_all memory job.extra n at_extra))
+
+module _ (memory : Memory) (job given : Job) (same : given ≡ job) (checked : IsChecked job) (operation : op_of job ≡ Some Dualcast) (at_source : has_all memory given.source given.size ≡ true) (at_target : has_all memory given.target given.size ≡ true) (at_extra : has_all memory given.extra given.size ≡ true) where
+  found_twice : All ≡ scan_found Dualcast memory job 0 given.size
+  found_twice =
+      all_found_twice memory job given.size (ap (λ (j : Job). has_all memory j.source given.size) (sym same) ∙ at_source) (ap (λ (j : Job). has_all memory j.target given.size) (sym same) ∙ at_target)
+      (ap (λ (j : Job). has_all memory j.extra given.size) (sym same) ∙ at_extra)
+
+  pub whole_twice_answer : copied_record job.size 0 All ≡ (checked_step memory job).1
+  whole_twice_answer =
+      ap (λ (n : ℕ). copied_record n 0 All) (ap (λ (j : Job). j.size) (sym same))
+      ∙ twice_answer memory job given All (copied_record given.size 0 All) same checked operation found_twice refl
+
+  pub whole_twice_image : IsWhole memory → put (put memory given.target (bytes_at memory given.source given.size)) given.extra (bytes_at (put memory given.target (bytes_at memory given.source given.size)) given.source given.size) ≡ (checked_step memory job).0
+  whole_twice_image whole = ⊎_elim none some (none_or_some given.size)
+    where
+      none_or_some : (n : ℕ) → (n ≡ 0) ⊎ (0 < n)
+      none_or_some zero = inl refl
+      none_or_some (suc n) = inr (omega arith)
+
+      once : Memory
+      once = put memory given.target (bytes_at memory given.source given.size)
+
+      none : given.size ≡ 0 → put once given.extra (bytes_at once given.source given.size) ≡ (checked_step memory job).0
+      none empty =
+          put_none once given.extra (bytes_at once given.source given.size) (bytes_at_none once given.source given.size empty)
+          ∙ (put_none memory given.target (bytes_at memory given.source given.size) (bytes_at_none memory given.source given.size empty)
+          ∙ twice_nothing memory job given All (copied_record given.size 0 All) same checked operation found_twice refl empty)
+
+      some : 0 < given.size → put once given.extra (bytes_at once given.source given.size) ≡ (checked_step memory job).0
+      some below = twice_image memory job given All (copied_record given.size 0 All) same checked operation found_twice refl whole below

@@ -1,6 +1,7 @@
 //! Jobs carried out on an image, each as one chunk.
-ghost use Rattle.std.specs.Prelude.{◌≡◌, ◌≢◌, ◌↔◌, ◌⊎◌, ◌<◌, ◌≤◌, ℕ, List, [], None, Some, IsTrue};
+ghost use Rattle.std.specs.Prelude.{◌≡◌, ◌≢◌, ◌↔◌, ◌⊎◌, ◌<◌, ◌≤◌, ℕ, List, [], None, Some, IsTrue, false};
 ghost use Rattle.dml_types.specs.declared.operations.Op.TheVariants.{ApplyDelta, CreateDelta, Dualcast, Fill, Move};
+ghost use Rattle.dml_types.specs.declared.findings.Found.TheVariants.{All};
 ghost use Rattle.dml_types.specs.Job.{op_of, unfenced};
 ghost use Rattle.dml_types.specs.Memory.{puts_made};
 ghost use Rattle.dml_types.specs.Refusal.{need, refusal};
@@ -22,6 +23,7 @@ use dml_image::Image;
 use dml_scan::{
     compare_found, compare_pattern_found, dualcast_found, fill_found, move_found, work_direction,
 };
+use dml_segments::rest_of_page;
 use dml_types::{Direction, Found, Job, Op, Record, Status};
 use std::iter;
 
@@ -279,6 +281,46 @@ fn move_scanned(image: &mut Image, job: &Checked) -> Record
 /// Carries out a dualcast within the image, with no stage: the first destination shares no byte with the source. It
 /// answers how that ended, and its caller makes the record: one that a call answers is read again at once, and waits.
 fn dualcast_straight(image: &mut Image, job: &Checked) -> Found
+    requires operation { op_of job.now ≡ Some Dualcast }
+    ensures answer { joined.copied_record job.now.size 0 result ≡ (checked_step image.old job.now).1 }
+    ensures image { image.new ≡ (checked_step image.old job.now).0 }
+{
+    if dualcast_in_page(image, job) {
+        return Found::All;
+    }
+    dualcast_scanned(image, job)
+}
+
+/// Carries out a dualcast at once where each of its ranges lies in one page, which is present. Answers whether it is so;
+/// where it is not, nothing is changed.
+fn dualcast_in_page(image: &mut Image, job: &Checked) -> bool
+    requires operation { op_of job.now ≡ Some Dualcast }
+    ensures answer { IsTrue result → joined.copied_record job.now.size 0 All ≡ (checked_step image.old job.now).1 }
+    ensures image { IsTrue result → image.new ≡ (checked_step image.old job.now).0 }
+    ensures unchanged { result ≡ false → image.new ≡ image.old }
+{
+    let _pages = image.pages(); // says what every image keeps
+    let &Job {
+        source,
+        target,
+        size,
+        extra,
+        ..
+    } = job.job();
+    // the second destination is looked at before the first is written
+    if rest_of_page(extra) < size as usize || !image.has(extra) {
+        return false;
+    }
+    if !image.move_in_page(source, target, size) {
+        return false;
+    }
+    image.move_within(source, extra, size);
+    true
+}
+
+/// Carries out a dualcast that meets a fault, or goes over a page's edge: first it is looked how far it comes.
+#[inline(never)]
+fn dualcast_scanned(image: &mut Image, job: &Checked) -> Found
     requires operation { op_of job.now ≡ Some Dualcast }
     ensures answer { joined.copied_record job.now.size 0 result ≡ (checked_step image.old job.now).1 }
     ensures image { image.new ≡ (checked_step image.old job.now).0 }

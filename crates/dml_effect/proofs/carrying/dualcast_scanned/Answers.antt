@@ -3,7 +3,7 @@ use Rattle.dml_types.specs.declared.jobs.Job.{Job}
 use Rattle.dml_effect.specs.Joined.{copied_record}
 use Rattle.dml_types.specs.Memory.{Memory, has_all, bytes_at, put}
 use Rattle.dml_effect.proofs.StraightLemmas.{twice_answer, twice_image, twice_nothing, twice_reads, twice_writes, twice_writes_second}
-use Rattle.dml_effect.proofs.carrying.dualcast_straight.Goals as goal
+use Rattle.dml_effect.proofs.carrying.dualcast_scanned.Goals as goal
 
 pub move_within-requires-clause-source : goal.move_within-requires-clause-source
 move_within-requires-clause-source c = twice_reads c.args.image.now c.args.job.now c.job.result.now c.dualcast_found-found.result c.copied_record-answer.result c.job.ensures.job c.job.ensures.checked c.requires.operation c.dualcast_found-found.ensures c.copied_record-answer.ensures

@@ -1,9 +1,9 @@
 #!/bin/sh
-# Counts the threads that `dmljob run`, a list of an engine, lists and batches over lent memory, a round of a portal and
-# the guide's monitor start, by tests/started.c: no gate is given there, and no answer and no contract tells how many
-# workers a list or a batch had. Where the system has no thread left, the answers are the same. Works on the programs
-# and on the tests of dml_engine and dml_portal that the gate leaves in crates/NAME/out; `check` calls it. Needs the GNU
-# C library, timeout, and a C compiler (CC, or cc).
+# Counts the threads that `dmljob run`, a list of an engine, lists and batches over lent memory, rounds of portals, and
+# the guide's monitor and pool start, by tests/started.c: no gate is given there, and no answer and no contract tells
+# how many workers a list or a batch had. Where the system has no thread left, the answers are the same. Works on the
+# programs and on the tests of dml_engine and dml_portal that the gate leaves in crates/NAME/out; `check` calls it.
+# Needs the GNU C library, timeout, and a C compiler (CC, or cc).
 cd "$(dirname "$0")/.." || exit 2
 work=$(mktemp -d) || exit 2
 trap 'rm -rf "$work"' EXIT
@@ -11,9 +11,10 @@ dmljob=crates/dmljob/out/dmljob
 engines=crates/dml_engine_tests/out/dml_engine_tests_tests
 portals=crates/dml_portal_tests/out/dml_portal_tests_tests
 guest=crates/example_guest/out/example_guest
+pool=crates/example_pool/out/example_pool
 chunk=65536
 failed=0
-for program in "$dmljob" "$engines" "$portals" "$guest"; do
+for program in "$dmljob" "$engines" "$portals" "$guest" "$pool"; do
     [ -x "$program" ] || { echo "starts: $program is missing: run rt ci first" >&2; exit 1; }
 done
 "${CC:-cc}" -O2 -Wall -Wextra -Werror -shared -fPIC -o "$work/started.so" tests/started.c -ldl || exit 1
@@ -109,14 +110,14 @@ test_of() {
     fi
 }
 
-# guest_starts WANTED: the guide's monitor starts so many threads, and prints what it is to
-guest_starts() {
+# example_starts WANTED PROGRAM: a program of the guide starts so many threads, and prints what it is to
+example_starts() {
     rm -f "$work/log"
-    timeout 60 env STARTED_LOG="$work/log" LD_PRELOAD="$work/started.so" "$guest" >"$work/out" 2>&1 </dev/null
+    timeout 60 env STARTED_LOG="$work/log" LD_PRELOAD="$work/started.so" "$2" >"$work/out" 2>&1 </dev/null
     status=$?
     started=$(threads)
-    if [ "$status" -ne 0 ] || [ "$started" != "$1" ] || ! cmp "$work/out" crates/example_guest/stdout >&2; then
-        echo "starts: example_guest: status $status, $started threads started, not $1" >&2
+    if [ "$status" -ne 0 ] || [ "$started" != "$1" ] || ! cmp "$work/out" "crates/${2##*/}/stdout" >&2; then
+        echo "starts: ${2##*/}: status $status, $started threads started, not $1" >&2
         failed=1
     fi
 }
@@ -163,8 +164,11 @@ batch none >"$work/jobs"
 expect 3 4 1048576 4 'a batch of 4 compares' <"$work/jobs"
 batch 2 >"$work/jobs"
 expect 2 4 1048576 4 'a batch of 2 compares and 2 behind a fence' <"$work/jobs"
-# A round of a portal is one list.
+# A round of a portal is one list, over an image of its own and over lent memory.
 test_of 3 "$portals" tests::rounds::round_worth_four_workers
+test_of 3 "$portals" tests::lent::four_workers_over_lent_memory
+test_of 3 "$portals" tests::lent::four_workers_over_one_piece
+test_of 3 "$portals" tests::segments::four_workers_over_segments
 test_of 0 "$portals" tests::round_of_128
 # So is one of the caller that takes its records from the engine: eight compares of 1 MiB share 7,995,392 bytes, which
 # pay for the four workers that there may be, ten times over.
@@ -177,7 +181,11 @@ test_of 4 "$engines" tests::pieces::batch_on_workers_over_one_piece
 # A list over segments: see there what each of its waves shares.
 test_of 2 "$engines" tests::segments::list_on_workers_over_eight_segments
 # A monitor's batch over two segments: the two compares before its fence share 1,998,848 bytes, which pay for two.
-guest_starts 1
+example_starts 1 "$guest"
+# A pool's 1,024 creates of 64 KiB need 80 KiB of staging each, of 16 MiB: so they are five waves of 204, which share
+# 9,609,216 bytes each and pay for the four workers that there may be, and one of four, which pays for one. The repairs
+# share none. As many compares are one wave, which pays for four.
+example_starts 18 "$pool"
 # Each wave of a list is judged by itself: the fills between the compares share nothing, and those behind them pay again.
 twice >"$work/jobs"
 expect 6 4 1048576 8 'four compares, fills into their sources, and four compares' <"$work/jobs"

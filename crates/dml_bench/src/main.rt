@@ -13,6 +13,7 @@
 ghost use Rattle.std.specs.Prelude.{◌≡◌, ◌<◌, ◌≤◌};
 ghost use Rattle.dml_types.specs.Step.{step};
 
+mod anywhere;
 mod bells;
 mod clients;
 mod deltas;
@@ -281,6 +282,7 @@ fn main(rt: HostRuntime) -> io::Result<()> {
     time_smaller(&rt, &image, if measures { 1 << 24 } else { 1 })?;
     lent::time_lent(&rt, if measures { 200_000 } else { 1 })?;
     lent::time_own(&rt, &mut image, if measures { 200_000 } else { 1 })?;
+    anywhere::time_anywhere(&rt, measures)?;
     segments::time_segments(&rt, measures)?;
     deltas::time_deltas(&rt, alloc, if measures { 50 } else { 1 })?;
     lists::time_levels(&rt, if measures { 20 } else { 1 })?;

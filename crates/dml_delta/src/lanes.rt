@@ -77,8 +77,8 @@ fn marks_of_group(one: &[u8], other: &[u8]) -> u64
     ALL ^ alike_in_group(one, other)
 }
 
-/// Which of eight blocks are alike. A loop over groups tests this: marks of those that differ are turned from it, by
-/// three instructions a group.
+/// Which of eight blocks are alike. `add_differing` tests this: marks of those that differ are turned from it, by three
+/// instructions a group.
 #[inline(always)]
 fn alike_in_group(one: &[u8], other: &[u8]) -> u64
     requires lengths { (length one.now ≡ 64) × (length other.now ≡ 64) }
@@ -124,7 +124,8 @@ fn add_unlike(entries: &mut Entries, alike: u64, blocks: &[u8], number: u32, roo
         ++ gathered (nth_entry number blocks.now) (is_marked (bit_xor 255 alike)) 0 (length blocks.now / 8) }
 {
     if alike != ALL {
-        add_marked(entries, ALL ^ alike, blocks, number, room);
+        entries.make_room(room);
+        add_entries(entries, ALL ^ alike, blocks, number);
     }
 }
 

@@ -1,5 +1,5 @@
 -- What a move and a dualcast do to the image, by the bytes that were done.
-use Rattle.std.proofs.Common.{◌≡◌, ℕ, zero, suc, ◌+◌, ◌-◌, ◌<◌, ◌≤◌, ◌⊎◌, ◌^◌, true, not, List, [], length, Some, refl, sym, ◌∙◌, ap, ap₂, arith, ⊎_elim, inl, inr}
+use Rattle.std.proofs.Common.{◌≡◌, ℕ, ◌+◌, ◌-◌, ◌<◌, ◌≤◌, ◌^◌, true, not, List, [], length, Some, refl, sym, ◌∙◌, ap, ap₂, arith, ⊎_elim, inl, inr}
 use Rattle.dml_types.specs.declared.findings.Found.{Found}
 use Rattle.dml_types.specs.declared.findings.Found.TheVariants.{All}
 use Rattle.dml_types.specs.declared.jobs.Job.{Job}
@@ -13,6 +13,7 @@ use Rattle.dml_types.specs.Bytewise.{operation_direction, result_of, lowest_done
 use Rattle.dml_types.specs.Chunk.{scan_found}
 use Rattle.dml_types.proofs.FirstLemmas.{first_le}
 use Rattle.dml_types.proofs.MemoryLemmas.{bytes_at_none, put_nil, has_all_at, length_bytes_at, has_all_within, read_beside}
+use Rattle.std.proofs.lemmas.Bool.{cases_lt}
 use Rattle.dml_desc.proofs.CheckedLemmas.{checked_step_is}
 use Rattle.dml_desc.specs.Checked.{checked_step, IsChecked, DualcastLimits, PairLimits}
 use Rattle.dml_desc.proofs.CheckedLemmas.{apart_ends, limits_of}
@@ -226,12 +227,8 @@ module _ (memory : Memory) (job given : Job) (same : given ≡ job) (checked : I
       ∙ twice_answer memory job given All (copied_record given.size 0 All) same checked operation found_twice refl
 
   pub whole_twice_image : IsWhole memory → put (put memory given.target (bytes_at memory given.source given.size)) given.extra (bytes_at (put memory given.target (bytes_at memory given.source given.size)) given.source given.size) ≡ (checked_step memory job).0
-  whole_twice_image whole = ⊎_elim none some (none_or_some given.size)
+  whole_twice_image whole = ⊎_elim some (λ past. none (omega arith)) (cases_lt 0 given.size)
     where
-      none_or_some : (n : ℕ) → (n ≡ 0) ⊎ (0 < n)
-      none_or_some zero = inl refl
-      none_or_some (suc n) = inr (omega arith)
-
       once : Memory
       once = put memory given.target (bytes_at memory given.source given.size)
 

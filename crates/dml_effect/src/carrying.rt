@@ -1,9 +1,9 @@
 //! Jobs carried out on an image, each as one chunk.
-ghost use Rattle.std.specs.Prelude.{◌≡◌, ◌≢◌, ◌↔◌, ◌⊎◌, ◌<◌, ◌≤◌, ℕ, List, [], None, Some, IsTrue, false};
+ghost use Rattle.std.specs.Prelude.{◌≡◌, ◌≢◌, ◌↔◌, ◌⊎◌, ◌+◌, ◌%◌, ◌<◌, ◌≤◌, ℕ, List, [], None, Some, IsTrue, false};
 ghost use Rattle.dml_types.specs.declared.operations.Op.TheVariants.{ApplyDelta, CreateDelta, Dualcast, Fill, Move};
 ghost use Rattle.dml_types.specs.declared.findings.Found.TheVariants.{All};
 ghost use Rattle.dml_types.specs.Job.{op_of, unfenced};
-ghost use Rattle.dml_types.specs.Memory.{puts_made};
+ghost use Rattle.dml_types.specs.Memory.{has, puts_made};
 ghost use Rattle.dml_types.specs.Refusal.{need, refusal};
 ghost use Rattle.dml_types.specs.Step.{step};
 ghost use Rattle.dml_desc.specs.Checked.{checked_step};
@@ -291,12 +291,16 @@ fn dualcast_straight(image: &mut Image, job: &Checked) -> Found
     dualcast_scanned(image, job)
 }
 
-/// Carries out a dualcast at once where each of its ranges lies in one page, which is present. Answers whether it is so;
-/// where it is not, nothing is changed.
+/// Carries out a dualcast at once where each of its ranges lies in one page, which is present. Answers whether it was
+/// done; else nothing is changed.
 fn dualcast_in_page(image: &mut Image, job: &Checked) -> bool
     requires operation { op_of job.now ≡ Some Dualcast }
     ensures answer { IsTrue result → joined.copied_record job.now.size 0 All ≡ (checked_step image.old job.now).1 }
     ensures image { IsTrue result → image.new ≡ (checked_step image.old job.now).0 }
+    ensures goes { 0 < job.now.size → job.now.source % 4096 + job.now.size ≤ 4096
+        → job.now.target % 4096 + job.now.size ≤ 4096 → job.now.extra % 4096 + job.now.size ≤ 4096
+        → IsTrue (has image.old job.now.source) → IsTrue (has image.old job.now.target)
+        → IsTrue (has image.old job.now.extra) → IsTrue result }
     ensures unchanged { result ≡ false → image.new ≡ image.old }
 {
     let _pages = image.pages(); // says what every image keeps
@@ -318,7 +322,8 @@ fn dualcast_in_page(image: &mut Image, job: &Checked) -> bool
     true
 }
 
-/// Carries out a dualcast that meets a fault, or goes over a page's edge: first it is looked how far it comes.
+/// Carries out a dualcast that meets a fault, goes over a page's edge, or has no bytes: first it is looked how far it
+/// comes. It stands apart, so that a dualcast within pages has none of its frame.
 #[inline(never)]
 fn dualcast_scanned(image: &mut Image, job: &Checked) -> Found
     requires operation { op_of job.now ≡ Some Dualcast }

@@ -145,7 +145,7 @@ repeats_in_front xs pattern from n k within is short i below =
     let g : ℕ → ℕ = λ j. pattern_byte pattern (from + j) in
     sym (front_byte xs n i (omega arith)) ∙ equal_before (length (take n xs)) f g i (omega (arith, is))
 
-pub unlike_in_front : (xs : List ℕ) (pattern from n k : ℕ) → n ≤ length xs → k ≡ first_unlike (take n xs) pattern from → k < n → k ≡ first_unlike xs pattern from
+unlike_in_front : (xs : List ℕ) (pattern from n k : ℕ) → n ≤ length xs → k ≡ first_unlike (take n xs) pattern from → k < n → k ≡ first_unlike xs pattern from
 unlike_in_front xs pattern from n k within is below =
     let f : ℕ → ℕ = λ j. get_or (take n xs) j 0 in
     let g : ℕ → ℕ = λ j. pattern_byte pattern (from + j) in

@@ -17,15 +17,15 @@ move_within-requires-clause-target c =
 -- each range is present, so all is copied to both destinations
 pub returns-clause-answer : goal.returns-clause-answer
 returns-clause-answer c = λ _.
+    let second = has_all_of_page c.args.image.now c.job.result.now.extra c.job.result.now.size (omega (arith, c.rest_of_page.ensures, c.if-rest_of_page-size.false)) (sym c.has.ensures.value ∙ c.if-not-has.false) in
     whole_twice_answer c.args.image.now c.args.job.now c.job.result.now c.job.ensures.job c.job.ensures.checked c.requires.operation
-    (c.if-not-move_in_page.ensures.source refl) (c.if-not-move_in_page.ensures.target refl)
-    (has_all_of_page c.args.image.now c.job.result.now.extra c.job.result.now.size (omega (arith, c.rest_of_page.ensures, c.if-rest_of_page-size.false)) (sym c.has.ensures.value ∙ c.if-not-has.false))
+    (c.if-not-move_in_page.ensures.source refl) (c.if-not-move_in_page.ensures.target refl) second
 
 pub returns-clause-image : goal.returns-clause-image
 returns-clause-image c = λ _.
+    let second = has_all_of_page c.args.image.now c.job.result.now.extra c.job.result.now.size (omega (arith, c.rest_of_page.ensures, c.if-rest_of_page-size.false)) (sym c.has.ensures.value ∙ c.if-not-has.false) in
     c.move_within.ensures.bytes
     ∙ (ap (λ (m : Memory). put m c.job.result.now.extra (bytes_at m c.job.result.now.source c.job.result.now.size)) (c.if-not-move_in_page.ensures.bytes refl)
     ∙ whole_twice_image c.args.image.now c.args.job.now c.job.result.now c.job.ensures.job c.job.ensures.checked c.requires.operation
-    (c.if-not-move_in_page.ensures.source refl) (c.if-not-move_in_page.ensures.target refl)
-    (has_all_of_page c.args.image.now c.job.result.now.extra c.job.result.now.size (omega (arith, c.rest_of_page.ensures, c.if-rest_of_page-size.false)) (sym c.has.ensures.value ∙ c.if-not-has.false))
+    (c.if-not-move_in_page.ensures.source refl) (c.if-not-move_in_page.ensures.target refl) second
     c.pages-pages.ensures.memory.whole)

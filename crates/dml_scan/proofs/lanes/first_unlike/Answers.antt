@@ -1,4 +1,4 @@
-use Rattle.std.proofs.Common.{◌≡◌, ◌≤◌, ◌∙◌, List, ℕ, ap, length, min, take, arith}
+use Rattle.std.proofs.Common.{◌∙◌, ℕ, ap, take, arith}
 use Rattle.std.proofs.lemmas.List.{length-take}
 use Rattle.dml_scan.specs.Lanes.{first_unlike}
 use Rattle.dml_scan.proofs.LaneLemmas.{repeats_in_front, unlike_near}

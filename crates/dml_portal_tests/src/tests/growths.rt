@@ -134,7 +134,7 @@ fn set_up_of_open_over_one_piece(rt: HostRuntime) {
     expect_sevens(&rt, engine.image());
 }
 
-/// The same over a page of sevens that is lent in one piece, and that stays as it was.
+/// What `refused_open` asks, over a page of sevens that is lent in one piece, and that stays as it was.
 #[test]
 fn refused_open_over_one_piece(rt: HostRuntime) {
     let mut content = [7; 4096];

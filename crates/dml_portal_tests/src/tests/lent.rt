@@ -107,9 +107,9 @@ pub(super) fn expect_row<R: Abort + Threads + Wait + Sync>(
     row.expect(rt, alloc, portal.expect(rt, "no memory"));
 }
 
-/// The caller's page begins with these bytes, and all behind them are 0.
-pub(super) fn expect_left(rt: &impl Abort, page: &[u8], left: &[u8]) {
-    let (front, behind) = page.split_at_checked(left.len()).expect(rt, "a short page");
+/// The caller's bytes begin with these, and all behind them are 0.
+pub(super) fn expect_left(rt: &impl Abort, content: &[u8], left: &[u8]) {
+    let (front, behind) = content.split_at_checked(left.len()).expect(rt, "few bytes");
     same(rt, front, left);
     holds(rt, behind.iter().all(|byte| *byte == 0));
 }

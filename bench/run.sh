@@ -120,7 +120,7 @@ awk '
         rows = split("create_equal:524288 create_sixteenth:524288 submit_create_equal:524288 " \
             "submit_create_sixteenth:524288 words_equal:524288 words_sixteenth:524288 apply_entries:32768 " \
             "submit_apply_entries:32768 tasks_wave:8192 tasks_alone:8192 each_page_moves:1 " \
-            "over_move:64 over_move:4096 own_move:64 own_move:4096 " \
+            "over_move:64 over_move:4096 own_move:64 own_move:4096 whole_move:4096 page_copy:4096 " \
             "addresses_ps:16777216 piece_has_ps:16777216 piece_present_ps:16777216 piece_move:64 piece_move:4096 " \
             "piece_move:1048576 " \
             "piece_edge:4096 piece_fill:4096 one_segment_has_ps:16777216 one_segment_present_ps:16777216 " \

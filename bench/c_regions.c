@@ -1,9 +1,9 @@
 /*
  * The time of jobs with the staging of an engine, beside the same ones by kazovuni_submit_whole, which takes its own
  * from malloc; of a job over eight regions beside the same one over a single region; and of a batch of moves of a page
- * beside a list of them, over one piece, on an image of an engine's own, and over eight regions. Rows of a name, a
- * number of bytes and the nanoseconds of one job, the median of rounds in which two go by turns. bench/c_calls.sh
- * builds and runs it.
+ * beside a list of them, over one piece, and on an image of an engine's own and over eight regions. Rows of a name, a
+ * number of bytes and the nanoseconds of one job, the median of rounds in which two over the same memory go by turns.
+ * bench/c_calls.sh builds and runs it.
  */
 #include "kazovuni.h"
 #include "timing.h"
@@ -100,6 +100,16 @@ static void print_rows(
     }
 }
 
+/* One way by itself: another one over other memory by turns with it would drive its pages out of the cache. */
+static void print_row(const char *name, size_t size, uint8_t (*way)(void), int calls, int jobs)
+{
+    static double times[ROUNDS];
+    for (int round = 0; round < ROUNDS; round++)
+        times[round] = timed(way, calls) / jobs;
+    qsort(times, ROUNDS, sizeof(double), is_more);
+    printf("%s %zu %.2f\n", name, size, times[ROUNDS / 2]);
+}
+
 static void describe(kazovuni_job job)
 {
     if (!kazovuni_encode(&job, descriptor))
@@ -170,7 +180,8 @@ static void print_moves(void)
         if (kazovuni_bring(&image, i, bytes + (size_t)i * PAGE) != KAZOVUNI_OK)
             give_up("a page");
     print_rows("moves", PAGE, "list", list, "batch", batch_in, 4, MOVES);
-    print_rows("moves", PAGE, "batch_on_image", batch_on_image, "batch_at", batch_at, 4, MOVES);
+    print_row("moves_batch_on_image", PAGE, batch_on_image, 4, MOVES);
+    print_row("moves_batch_at", PAGE, batch_at, 4, MOVES);
     kazovuni_free(&image);
 }
 

@@ -1,8 +1,7 @@
 //! How far bytes are alike from the front, those of two slices or those of a slice and a repeated pattern.
 //!
-//! Two slices are first compared in blocks of four steps with one test each, a slice and a pattern so from its second
-//! kibibyte on. What is left is compared in steps of four vectors with one test, then a vector at a time, and at the end
-//! byte by byte.
+//! Two slices are first compared in blocks of four steps with one test each. What is left, as a slice and a pattern, is
+//! compared in steps of four vectors with one test, then a vector at a time, and at the end byte by byte.
 
 ghost use Rattle.std.specs.Prelude.{◌≡◌, ℕ, ◌+◌, ◌*◌, ◌<◌, ◌≤◌, ◌↔◌, IsTrue, length, slice_index, slice_range};
 ghost use Rattle.dml_types.specs.Bytewise.{pattern_byte};
@@ -20,10 +19,6 @@ const STEP: usize = 128;
 
 /// The bytes of a block of four steps.
 const BLOCK: usize = 512;
-
-/// How many bytes of a slice are compared with a pattern step by step: pages that are looked through for zeros mostly
-/// differ in these.
-const NEAR: usize = 1024;
 
 /// The first place at which two slices of one length differ; their length where they are equal.
 pub fn first_difference(a: &[u8], b: &[u8]) -> usize
@@ -112,50 +107,17 @@ fn alike_step(a: &[u8], b: &[u8], at: usize) -> u8x32
     all_of(first, second, third, fourth)
 }
 
-/// Whether a block of a slice, from a place on, repeats a vector, by one test.
-#[inline(always)]
-fn is_repeated_block(bytes: &[u8], repeated: u8x32, at: usize) -> bool
-    requires { at + BLOCK ≤ length bytes.now }
-    ensures { IsTrue result ↔ AreRepeated bytes.now repeated at 512 }
-{
-    is_full(both(
-        repeated_steps(bytes, repeated, at),
-        repeated_steps(bytes, repeated, at + 2 * STEP),
-    ))
-}
-
-/// Full lanes where all vectors of two steps of a slice, from a place on, are a vector that is repeated.
-#[inline(always)]
-fn repeated_steps(bytes: &[u8], repeated: u8x32, at: usize) -> u8x32
-    requires { at + 2 * STEP ≤ length bytes.now }
-    ensures { AreFull result ↔ AreRepeated bytes.now repeated at 256 }
-{
-    both(
-        repeated_step(bytes, repeated, at),
-        repeated_step(bytes, repeated, at + STEP),
-    )
-}
-
 /// Whether a step of a slice, from a place on, repeats a vector.
 #[inline(always)]
 fn is_repeated_step(bytes: &[u8], repeated: u8x32, at: usize) -> bool
     requires { at + STEP ≤ length bytes.now }
     ensures { IsTrue result ↔ AreRepeated bytes.now repeated at 128 }
 {
-    is_full(repeated_step(bytes, repeated, at))
-}
-
-/// Full lanes where all vectors of a step of a slice, from a place on, are a vector that is repeated.
-#[inline(always)]
-fn repeated_step(bytes: &[u8], repeated: u8x32, at: usize) -> u8x32
-    requires { at + STEP ≤ length bytes.now }
-    ensures { AreFull result ↔ AreRepeated bytes.now repeated at 128 }
-{
     let first = alike(load(bytes, at), repeated);
     let second = alike(load(bytes, at + LANES), repeated);
     let third = alike(load(bytes, at + 2 * LANES), repeated);
     let fourth = alike(load(bytes, at + 3 * LANES), repeated);
-    all_of(first, second, third, fourth)
+    is_full(all_of(first, second, third, fourth))
 }
 
 /// The bytes of a slice from a place on.
@@ -216,49 +178,6 @@ fn first_lane(a: u8x32, b: u8x32) -> usize
 /// The first place at which a slice differs from the 8 bytes of a pattern, low byte first, repeated from its byte
 /// `from` mod 8 on; the slice's length where there is none.
 pub fn first_unlike(bytes: &[u8], pattern: u64, from: u32) -> usize
-    ensures value { result ≡ lanes.first_unlike bytes.now pattern from }
-    ensures within { result ≤ length bytes.now }
-{
-    let near = bytes.len().min(NEAR);
-    let same = unlike_by_steps(&bytes[..near], pattern, from);
-    if same < NEAR {
-        return same;
-    }
-    first_unlike_far(bytes, pattern, from)
-}
-
-/// The same, where the near bytes repeat the pattern. It stands apart, so that slices that differ in these have none of
-/// its frame.
-#[inline(never)]
-fn first_unlike_far(bytes: &[u8], pattern: u64, from: u32) -> usize
-    requires some { NEAR ≤ length bytes.now }
-    requires near { (i : ℕ) → i < NEAR → slice_index bytes.now i ≡ pattern_byte pattern (from + i) }
-    ensures value { result ≡ lanes.first_unlike bytes.now pattern from }
-    ensures within { result ≤ length bytes.now }
-{
-    let repeated = repeated_from(pattern, from);
-    let mut at = NEAR;
-    while bytes.len() - at >= BLOCK && is_repeated_block(bytes, repeated, at) {
-        at += BLOCK;
-    }
-    if at == bytes.len() {
-        return at;
-    }
-    at + unlike_behind_blocks(&bytes[at..], pattern, from)
-}
-
-/// The first place by steps alone. It stands apart, so that the loop over blocks keeps nothing of one in memory.
-#[inline(never)]
-fn unlike_behind_blocks(bytes: &[u8], pattern: u64, from: u32) -> usize
-    ensures value { result ≡ lanes.first_unlike bytes.now pattern from }
-    ensures within { result ≤ length bytes.now }
-{
-    unlike_by_steps(bytes, pattern, from)
-}
-
-/// The first place by steps alone.
-#[inline(always)]
-fn unlike_by_steps(bytes: &[u8], pattern: u64, from: u32) -> usize
     ensures value { result ≡ lanes.first_unlike bytes.now pattern from }
     ensures within { result ≤ length bytes.now }
 {

@@ -305,7 +305,7 @@ fn expect_three_over_lent_memory<R: Abort + Threads + Wait + Sync>(
 }
 
 #[test]
-fn rows_of_three_over_lent_memory(rt: HostRuntime) {
+fn three_clients_over_lent_memory(rt: HostRuntime) {
     for row in RowOfThree::ALL {
         expect_three_over_lent_memory(&rt, rt.alloc(), row);
     }
@@ -326,7 +326,7 @@ fn expect_three_over_one_piece<R: Abort + Threads + Wait + Sync>(
 }
 
 #[test]
-fn rows_of_three_over_one_piece(rt: HostRuntime) {
+fn three_clients_over_one_piece(rt: HostRuntime) {
     for row in RowOfThree::ALL {
         expect_three_over_one_piece(&rt, rt.alloc(), row);
     }

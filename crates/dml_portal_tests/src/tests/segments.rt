@@ -112,7 +112,7 @@ fn expect_three_over_segments<R: Abort + Threads + Wait + Sync>(
 }
 
 #[test]
-fn rows_of_three_over_segments(rt: HostRuntime) {
+fn three_clients_over_segments(rt: HostRuntime) {
     for row in RowOfThree::ALL {
         expect_three_over_segments(&rt, rt.alloc(), row);
     }

@@ -1,18 +1,43 @@
-use Rattle.std.proofs.Common.{◌∙◌, ℕ, ap, take, arith}
-use Rattle.std.proofs.lemmas.List.{length-take}
-use Rattle.dml_scan.specs.Lanes.{first_unlike}
-use Rattle.dml_scan.proofs.LaneLemmas.{repeats_in_front, unlike_near}
+use Rattle.std.proofs.Common.{◌≡◌, ◌+◌, ◌≤◌, List, ℕ, length, sym, ◌∙◌, ap, arith}
+use Rattle.dml_scan.specs.Lanes.{first_difference}
+use Rattle.dml_scan.proofs.LaneLemmas.{block_byte, lane_unlike, lanes_repeat, pattern_differs, pattern_repeats, repeats_more}
 use Rattle.dml_scan.proofs.lanes.first_unlike.Goals as goal
 
-pub returns-then-same-lt-NEAR-clause-value : goal.returns-then-same-lt-NEAR-clause-value
-returns-then-same-lt-NEAR-clause-value c =
-    let xs = c.args.bytes.now in
-    let in_front = c.unlike_by_steps-same.ensures.value ∙ ap (λ (n : ℕ). first_unlike (take n xs) c.args.pattern c.args.from) c.min-near.ensures in
-    unlike_near xs c.args.pattern c.args.from 1024 c.unlike_by_steps-same.result in_front c.if-same-lt-NEAR.true
+pub loop-at-preserved : goal.loop-at-preserved
+loop-at-preserved c =
+    let inv = c.loop-at.invariant in
+    record {
+      within = omega (arith, c.loop-at-test.true, inv.within);
+      whole = omega (arith, inv.whole);
+      repeats = repeats_more c.args.bytes.now c.repeated_from-repeated.result c.args.pattern c.args.from c.loop-at.at 128 inv.whole c.repeated_from-repeated.ensures inv.repeats (c.is_repeated_step.ensures.0 c.if-is_repeated_step.true);
+    }
 
-pub first_unlike_far-requires-clause-near : goal.first_unlike_far-requires-clause-near
-first_unlike_far-requires-clause-near c =
-    let near = c.min-near.result in
-    let within = c.unlike_by_steps-same.ensures.within in
-    let short = length-take near c.args.bytes.now in
-    λ i below. repeats_in_front c.args.bytes.now c.args.pattern c.args.from near c.unlike_by_steps-same.result (omega (arith, c.min-near.ensures)) c.unlike_by_steps-same.ensures.value (omega (arith, within, short)) i (omega (arith, below, c.if-same-lt-NEAR.false))
+pub returns-then-same-lt-LANES-clause-value : goal.returns-then-same-lt-LANES-clause-value
+returns-then-same-lt-LANES-clause-value c =
+    let inv = c.loop-at-2.invariant in
+    let block = c.repeated_from-repeated.result in
+    let lane = c.first_lane-same.ensures.value ∙ ap (λ (a : List ℕ). first_difference a block) c.load.ensures in
+    lane_unlike c.args.bytes.now block c.args.pattern c.args.from c.loop-at-2.at c.first_lane-same.result inv.whole (omega (arith, c.loop-at-2-test.true, inv.within)) c.repeated_from-repeated.ensures inv.repeats lane c.if-same-lt-LANES.true
+
+pub loop-at-2-preserved : goal.loop-at-2-preserved
+loop-at-2-preserved c =
+    let inv = c.loop-at-2.invariant in
+    let block = c.repeated_from-repeated.result in
+    let same = c.first_lane-same.result in
+    let lane = c.first_lane-same.ensures.value ∙ ap (λ (a : List ℕ). first_difference a block) c.load.ensures in
+    let within : c.loop-at-2.at + 32 ≤ length c.args.bytes.now = omega (arith, c.loop-at-2-test.true, inv.within) in
+    let all : same ≡ 32 = omega (arith, c.if-same-lt-LANES.false, c.first_lane-same.ensures.within) in
+    record {
+      within = omega (arith, within, all);
+      whole = omega (arith, inv.whole, all);
+      repeats = repeats_more c.args.bytes.now block c.args.pattern c.args.from c.loop-at-2.at same inv.whole c.repeated_from-repeated.ensures inv.repeats (lanes_repeat c.args.bytes.now block c.loop-at-2.at same within lane);
+    }
+
+pub returns-else-bytes-at-clause-value : goal.returns-else-bytes-at-clause-value
+returns-else-bytes-at-clause-value c =
+    pattern_differs c.args.bytes.now c.args.pattern c.args.from c.loop-at-3.at c.loop-at-3-test.true c.loop-at-3.invariant.repeats (λ same.
+    c.if-bytes-at.false (same ∙ sym (block_byte c.repeated_from-repeated.result c.args.pattern c.args.from c.loop-at-3.at c.repeated_from-repeated.ensures)))
+
+pub returns-after-loop-at-3-clause-value : goal.returns-after-loop-at-3-clause-value
+returns-after-loop-at-3-clause-value c =
+    pattern_repeats c.args.bytes.now c.args.pattern c.args.from c.loop-at-3.at (omega (arith, c.loop-at-3-test.false, c.loop-at-3.invariant.within)) c.loop-at-3.invariant.repeats

@@ -1,6 +1,6 @@
 use Rattle.std.proofs.Common.{◌≡◌, ◌-◌, ◌%◌, ◌≤◌, length}
 use Rattle.dml_scan.proofs.LaneLemmas.{RepeatsBelow}
-use Rattle.dml_scan.proofs.lanes.unlike_by_steps.Given as goal
+use Rattle.dml_scan.proofs.lanes.first_unlike.Given as goal
 
 abbrev pub invariant-loop-at : goal.invariant-loop-at
 invariant-loop-at l = record { within : l.at ≤ length l.bytes; whole : l.at % 32 ≡ 0; repeats : RepeatsBelow l.bytes l.pattern l.from l.at }

@@ -211,6 +211,8 @@ awk -v busy="$busy" -v older="${older:+1}" -v listed="${listed:+1}" '
             for (bytes = 64; bytes <= 4096; bytes *= 64)
                 bar(regional[n] " of " bytes " bytes over eight regions, over the same over one", \
                     over(regional[n] "_at_eight", regional[n] "_at_one", bytes), 40)
+        if (!listed)
+            print "no bar on batches: BENCH is not given"
         for (n = 1; n <= places; n++) {
             text = "batch of 1,024 moves of a page " place_names[n] ", to a list on an engine"
             printf("%-72s %6.3f\n", text, ratio(place[n], "list_page_moves", 4096))

@@ -165,9 +165,13 @@ static void print_deltas(void)
     print_regions("apply", apply);
 }
 
-/* A batch of moves, each of a page to the one beside it, as dml_bench moves them in its list_page_moves. */
+/*
+ * A batch of moves, each of a page to the one beside it, as dml_bench moves them in its list_page_moves: of pages that
+ * were written, since one that was only read may be the kernel's one page of zeros.
+ */
 static void print_moves(void)
 {
+    memset(bytes, 0x5a, SIZE);
     for (uint64_t i = 0; i < MOVES; i++) {
         kazovuni_job move = {
             .opcode = KAZOVUNI_OP_MOVE, .source = 2 * i * PAGE, .target = (2 * i + 1) * PAGE, .size = PAGE};

@@ -4,7 +4,7 @@
 # of the codes, and worked rows (regions.c), those of batches and fences among them (fences.c, batches.c); random jobs,
 # lists and batches over random regions beside the same ones on an engine's own pages (regions_random.c): all of these
 # as gcc and clang compile them, under the address, leak and undefined-behaviour sanitizers. And threads with engines of
-# their own over pages that stand side by side, and with one engine and its page that go round (regions_threads.c),
+# their own over pages that stand side by side, and with one engine and its page that go round (threads.c),
 # under helgrind and drd, each of which has to report two planted races: one handle in two threads with no lock, and one
 # page in two tables. An atomic, by which it goes round too, these two do not know: the thread sanitizer looks at that,
 # as far as it is told of memory, and has to report the same round by an atomic that orders nothing. It looks too at
@@ -70,9 +70,9 @@ left_out() {
 
 # reports TOOL: each planted race is reported, and without one nothing is
 reports() {
-    passes "$1 over the threads" valgrind --tool="$1" --error-exitcode=9 "$work/regions_threads" 40
+    passes "$1 over the threads" valgrind --tool="$1" --error-exitcode=9 "$work/threads" 40
     for race in handle region; do
-        valgrind --tool="$1" --error-exitcode=9 "$work/regions_threads" 40 "$race" >"$work/out" 2>&1
+        valgrind --tool="$1" --error-exitcode=9 "$work/threads" 40 "$race" >"$work/out" 2>&1
         status=$?
         [ "$status" = 9 ] || complain "$1 does not report the planted race of a $race: status $status"
     done
@@ -81,10 +81,10 @@ reports() {
 # orders: a round by an atomic, and records at a completion address; and what has to be reported: an atomic that orders
 # nothing (relaxed), and a record that memcpy writes (early)
 orders() {
-    passes "the thread sanitizer over an atomic $by" "$work/regions_threads" 40 atomic
-    passes "the thread sanitizer over records $by" "$work/regions_threads" 40 record
+    passes "the thread sanitizer over an atomic $by" "$work/threads" 40 atomic
+    passes "the thread sanitizer over records $by" "$work/threads" 40 record
     for race in relaxed early; do
-        "$work/regions_threads" 40 "$race" >"$work/out" 2>&1
+        "$work/threads" 40 "$race" >"$work/out" 2>&1
         status=$?
         [ "$status" = 66 ] || complain "the thread sanitizer does not report the planted race $race $by: status $status"
     done
@@ -105,19 +105,19 @@ for compiler in gcc clang; do
         compiled batches "$compiler" $sanitized && passes "batches $by" "$work/batches" && left_out
         compiled regions_random "$compiler" $sanitized &&
             passes "random jobs $by" "$work/regions_random" "$count" "$seed"
-        compiled regions_threads "$compiler" $sanitized && passes "threads $by" "$work/regions_threads" 200 &&
-            passes "threads by an atomic $by" "$work/regions_threads" 200 atomic &&
-            passes "records $by" "$work/regions_threads" 200 record
+        compiled threads "$compiler" $sanitized && passes "threads $by" "$work/threads" 200 &&
+            passes "threads by an atomic $by" "$work/threads" 200 atomic &&
+            passes "records $by" "$work/threads" 200 record
     done
     sanitizes "$compiler" $ordered || continue
     for kit in llvm rattle; do
         by="by $compiler on the library of $kit"
-        compiled regions_threads "$compiler" $ordered && orders
+        compiled threads "$compiler" $ordered && orders
     done
 done
 [ -n "$tried" ] || { complain "neither gcc nor clang is here with its sanitizers"; exit 1; }
 has valgrind && for kit in llvm rattle; do
-    compiled regions_threads ${tried##* } -O2 || continue
+    compiled threads ${tried##* } -O2 || continue
     reports helgrind
     reports drd
 done

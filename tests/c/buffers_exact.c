@@ -334,10 +334,14 @@ static void try_alignments(const struct job *job, enum kind kind, size_t step)
     try_by_pointers(job, &answer);
 }
 
-/* Compares at the edges of their steps, of 128 bytes, and of blocks of four steps. */
+/*
+ * Compares at the edges of their steps, of 128 bytes, and of blocks of four steps, and behind a page, from where on a
+ * buffer goes by blocks beside a pattern too.
+ */
 static void try_blocks(size_t step)
 {
-    static const uint32_t sizes[] = {255, 256, 257, 383, 384, 385, 511, 512, 513, 639, 640, 641};
+    static const uint32_t sizes[] = {255,  256,  257,  383,  384,  385,  511,  512,  513, 639,
+                                     640,  641,  4095, 4096, 4097, 4607, 4608, 4609, 4737};
     for (uint8_t opcode = COMPARE; opcode <= COMPARE_PATTERN; opcode++)
         for (size_t i = 0; i < sizeof sizes / sizeof *sizes; i++)
             for (enum kind kind = PLAIN; kind <= LAST; kind++) {

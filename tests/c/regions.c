@@ -180,13 +180,34 @@ static void try_two_regions(kazovuni_engine *engine)
         /* a region before one that does not rise, and before one that breaks an earlier rule */
         {{{1, page, 2 * PAGE}, {PAGE, page + 2 * PAGE, PAGE}}, KAZOVUNI_BAD_ADDRESS},
         {{{1, page, 2 * PAGE}, {0, page + 2 * PAGE, 1}}, KAZOVUNI_BAD_ADDRESS},
+        /* a region that ends too high before one that breaks an earlier rule */
+        {{{MOST_END, page, PAGE}, {0, page + PAGE, 1}}, KAZOVUNI_REGION_PAST},
+        {{{MOST_END, page, PAGE}, {1, page + PAGE, PAGE}}, KAZOVUNI_REGION_PAST},
         /* an earlier rule, of the region that does not rise */
         {{{PAGE, page, PAGE}, {0, page + PAGE, 1}}, KAZOVUNI_BAD_LENGTH},
+        /* a NULL behind a region that breaks one other rule, and before one */
+        {{{0, page, 1}, {PAGE, NULL, PAGE}}, KAZOVUNI_NULL_REGION},
+        {{{1, page, PAGE}, {2 * PAGE, NULL, PAGE}}, KAZOVUNI_NULL_REGION},
+        {{{MOST_END, page, PAGE}, {0, NULL, PAGE}}, KAZOVUNI_NULL_REGION},
+        {{{0, NULL, PAGE}, {PAGE, page, 1}}, KAZOVUNI_NULL_REGION},
+        {{{0, NULL, PAGE}, {PAGE + 1, page, PAGE}}, KAZOVUNI_NULL_REGION},
+        {{{0, NULL, PAGE}, {MOST_END, page, PAGE}}, KAZOVUNI_NULL_REGION},
+        {{{PAGE, NULL, PAGE}, {0, page, PAGE}}, KAZOVUNI_NULL_REGION},
     };
     for (size_t i = 0; i < sizeof rows / sizeof rows[0]; i++) {
         kazovuni_region regions[2] = {rows[i].regions[0], rows[i].regions[1]};
         EXPECT(code_of(engine, regions, 2) == rows[i].code);
         EXPECT(code_of(&none, regions, 2) == KAZOVUNI_NO_ENGINE);
+    }
+}
+
+/* A region that does not rise before one that breaks an earlier rule. */
+static void try_three_regions(kazovuni_engine *engine)
+{
+    const kazovuni_region last[] = {{0, page, 1}, {1, page, PAGE}, {MOST_END, page, PAGE}, {0, page, PAGE}};
+    for (size_t i = 0; i < sizeof last / sizeof last[0]; i++) {
+        kazovuni_region regions[3] = {{PAGE, page, PAGE}, {PAGE, page + PAGE, PAGE}, last[i]};
+        EXPECT(code_of(engine, regions, 3) == KAZOVUNI_NOT_RISING);
     }
 }
 
@@ -270,6 +291,7 @@ static void try_tables(kazovuni_engine *engine)
     try_numbers(engine);
     try_one_region(engine);
     try_two_regions(engine);
+    try_three_regions(engine);
     try_null_regions(engine);
     try_null_beside_sound(engine);
     for (size_t i = 0; i < sizeof page; i++)

@@ -339,7 +339,7 @@ static void expect_left(const uint8_t *piece)
 static void try_no_piece(uint8_t *piece, const uint8_t *list)
 {
     static uint8_t records[PIECE_ROWS + 1][32];
-    uint8_t *record = records[0];
+    uint8_t *record = records[0], batch[32] = {0xcc};
     memset(records, 0xcc, sizeof records);
     EXPECT(kazovuni_submit_whole(piece, MOST_PIECE + PAGE, list, MIB, record) == KAZOVUNI_NOT_PAGES);
     EXPECT(kazovuni_submit_whole(piece, MOST_PIECE - 1, list, MIB, record) == KAZOVUNI_NOT_PAGES);
@@ -347,7 +347,15 @@ static void try_no_piece(uint8_t *piece, const uint8_t *list)
            KAZOVUNI_NOT_PAGES);
     EXPECT(kazovuni_submit_list_whole(piece, MOST_PIECE, list, PIECE_ROWS, MIB, record, PIECE_ROWS + 1) ==
            KAZOVUNI_NOT_AS_MANY);
-    EXPECT(records[0][0] == 0xcc && piece[MOST_PIECE - 8] == 0);
+    kazovuni_engine engine = {0};
+    EXPECT(kazovuni_create_staging(&engine, MIB) == KAZOVUNI_OK);
+    EXPECT(kazovuni_submit_in(&engine, piece, MOST_PIECE + PAGE, list, record) == KAZOVUNI_NOT_PAGES);
+    EXPECT(kazovuni_submit_list_in(&engine, piece, MOST_PIECE + PAGE, list, PIECE_ROWS, record, PIECE_ROWS) ==
+           KAZOVUNI_NOT_PAGES);
+    EXPECT(kazovuni_submit_batch_in(&engine, piece, MOST_PIECE + PAGE, list, PIECE_ROWS, record, PIECE_ROWS, batch) ==
+           KAZOVUNI_NOT_PAGES);
+    kazovuni_free(&engine);
+    EXPECT(records[0][0] == 0xcc && batch[0] == 0xcc && piece[MOST_PIECE - 8] == 0);
 }
 
 /* The largest piece that there may be, job by job or as a list. */

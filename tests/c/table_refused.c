@@ -337,6 +337,27 @@ static void walk_image_budget(const uint8_t page[PAGE])
     budget = SIZE_MAX;
 }
 
+/* What is wrong with a call is answered where there is no memory for it either: nothing is asked for. */
+static void try_wrong_calls(const uint8_t page[PAGE])
+{
+    kazovuni_engine none = {0}, engine = {0};
+    create_by_budget(&engine);
+    budget = growths = refused = 0;
+    expect("no staging so large", kazovuni_create_staging(&none, KAZOVUNI_MOST_STAGING + 1) == KAZOVUNI_BAD_SETTINGS);
+    expect("no pages", kazovuni_create(&none, 0, NEED) == KAZOVUNI_BAD_PAGES);
+    expect("no settings", kazovuni_create(&none, 2, KAZOVUNI_MOST_STAGING + 1) == KAZOVUNI_BAD_SETTINGS);
+    expect("no engine", kazovuni_bring(&none, 0, page) == KAZOVUNI_NO_ENGINE);
+    expect("an engine", kazovuni_create(&engine, 2, NEED) == KAZOVUNI_HAS_ENGINE);
+    expect("an engine", kazovuni_create(&engine, 0, KAZOVUNI_MOST_STAGING + 1) == KAZOVUNI_HAS_ENGINE);
+    expect("an engine", kazovuni_create_staging(&engine, NEED) == KAZOVUNI_HAS_ENGINE);
+    expect("an engine", kazovuni_create_staging(&engine, KAZOVUNI_MOST_STAGING + 1) == KAZOVUNI_HAS_ENGINE);
+    expect("no such page", kazovuni_bring(&engine, 2, page) == KAZOVUNI_NO_SUCH_PAGE);
+    expect("a wrong call asks for memory", growths == 0 && none.engine == NULL && blocks == 5);
+    kazovuni_free(&engine);
+    expect("free", blocks == 0);
+    budget = SIZE_MAX;
+}
+
 static uint8_t submit(enum call call, uint8_t bytes[PAGE], uint8_t records[1][32])
 {
     uint8_t by_pointers[64];
@@ -492,6 +513,7 @@ int main(void)
     } while (growths >= refused);
     walk_budget(page);
     walk_image_budget(page);
+    try_wrong_calls(page);
     printf("table_refused:");
     for (enum call call = CREATE; call < CALLS; call++) {
         printf(" %s %zu", names[call], met[call]);

@@ -62,6 +62,21 @@ fn compares_with_a_pattern(rt: HostRuntime) {
     assert_eq!(rt; answer, record(Status::Success, 1, 10));
 }
 
+/// A buffer of more than a page, which goes by blocks: its last byte, and one in its ninth block, is another one.
+#[test]
+fn compares_a_long_buffer_with_a_pattern(rt: HostRuntime) {
+    let mut bytes = [0x5a; 4737];
+    let job = Job::compare_pattern(0x1003, 0x5a5a_5a5a_5a5a_5a5a, 4737);
+    let job = checked(&rt, &job, Op::ComparePattern);
+    let answer = compare_pattern(&job, &bytes);
+    assert_eq!(rt; answer, record(Status::Success, 0, 4737));
+    for place in [4736, 4200] {
+        bytes[place] = 0;
+        let answer = compare_pattern(&job, &bytes);
+        assert_eq!(rt; answer, record(Status::Success, 1, place as u32));
+    }
+}
+
 #[test]
 fn fills(rt: HostRuntime) {
     let mut target = [0xee; 11];

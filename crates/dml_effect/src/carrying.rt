@@ -23,7 +23,6 @@ use dml_image::Image;
 use dml_scan::{
     compare_found, compare_pattern_found, dualcast_found, fill_found, move_found, work_direction,
 };
-use dml_segments::rest_of_page;
 use dml_types::{Direction, Found, Job, Op, Record, Status};
 use std::iter;
 
@@ -311,15 +310,7 @@ fn dualcast_in_page(image: &mut Image, job: &Checked) -> bool
         extra,
         ..
     } = job.job();
-    // the second destination is looked at before the first is written
-    if rest_of_page(extra) < size as usize || !image.has(extra) {
-        return false;
-    }
-    if !image.move_in_page(source, target, size) {
-        return false;
-    }
-    image.move_within(source, extra, size);
-    true
+    image.copy_twice_in_page(source, target, extra, size)
 }
 
 /// Carries out a dualcast that meets a fault, goes over a page's edge, or has no bytes: first it is looked how far it

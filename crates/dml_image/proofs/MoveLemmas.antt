@@ -3,6 +3,7 @@ use Rattle.std.proofs.Common.{◌≡◌, ℕ, zero, suc, ◌+◌, ◌-◌, ◌<�
 use Rattle.std.proofs.lemmas.List.{places, same_lists}
 use Rattle.std.proofs.lemmas.Bool.{and_parts}
 use Rattle.dml_image.proofs.RunLemmas.{has_all_of_page}
+use Rattle.dml_segments.specs.Copied.{copied}
 use Rattle.dml_types.specs.Memory.{Memory, IsMemory, has, has_all, bytes_at, put}
 use Rattle.dml_types.proofs.MemoryLemmas.{bytes_at_none, has_all_at, has_all_from, has_all_within, length_bytes_at, put_append, put_comm, put_keeps, put_nil, read_beside}
 
@@ -113,6 +114,22 @@ kept_in_page inside now after source target n true is good in_source in_target p
     let all = both_in_page inside source target n in_source in_target present in
     kept_after_move inside inside after source target n refl good all.0 all.1 (done refl)
 kept_in_page inside now after source target n false is good in_source in_target present done kept =
+    subst IsMemory (sym (kept refl)) good
+
+-- and one to a page and then to another
+pub all_three : (memory : Memory) (source first second n : ℕ) → source % 4096 + n ≤ 4096 → first % 4096 + n ≤ 4096 → second % 4096 + n ≤ 4096 → true ≡ (has memory second && (has memory source && has memory first)) → (has_all memory source n ≡ true) × (has_all memory first n ≡ true) × (has_all memory second n ≡ true)
+all_three memory source first second n in_source in_first in_second present =
+    let here = and_parts (has memory second) (has memory source && has memory first) (sym present) in
+    let both = both_in_page memory source first n in_source in_first (sym here.1) in
+    (both.0, both.1, has_all_of_page memory second n in_second here.0)
+
+pub kept_twice : (inside after : Memory) (source first second n : ℕ) (moved : Bool) → IsMemory inside → source % 4096 + n ≤ 4096 → first % 4096 + n ≤ 4096 → second % 4096 + n ≤ 4096 → moved ≡ (has inside second && (has inside source && has inside first)) → (moved ≡ true → after ≡ copied (copied inside source first n) source second n) → (moved ≡ false → after ≡ inside) → IsMemory after
+kept_twice inside after source first second n true good in_source in_first in_second present done kept =
+    let all = all_three inside source first second n in_source in_first in_second present in
+    let once : Memory = copied inside source first n in
+    let between = kept_after_move inside inside once source first n refl good all.0 all.1 refl in
+    kept_after_move once once after source second n refl between all.0 all.2 (done refl)
+kept_twice inside after source first second n false good in_source in_first in_second present done kept =
     subst IsMemory (sym (kept refl)) good
 
 -- and a fill of a page

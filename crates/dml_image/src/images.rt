@@ -3,7 +3,7 @@ ghost use Rattle.dml_types.specs.Memory.{IsMemory, has, has_all, byte_at, bytes_
 ghost use Rattle.dml_types.specs.Bytewise.{pattern_bytes};
 ghost use Rattle.dml_segments.specs.Blocks.{are_present, block_puts};
 ghost use Rattle.dml_segments.specs.Brought.{all_absent, brought, evicted, has_page};
-ghost use Rattle.dml_segments.specs.Copied.{IsOneCopy};
+ghost use Rattle.dml_segments.specs.Copied.{copied, IsOneCopy};
 ghost use Rattle.dml_image.specs.Kept.{kept_by, loan_memory};
 ghost use Rattle.dml_segments.specs.Present.{IsPartOfPage};
 ghost use Rattle.dml_segments.specs.Pieces.{AreSegments, pieces_memory, pieces_of};
@@ -413,6 +413,35 @@ impl Image<'_> {
             return false;
         }
         self.pages.copy_in_page(source, target, bytes)
+    }
+
+    /// Copies `len` bytes from the address `source` on to those from `first` on, and then to those from `second` on,
+    /// where there is a byte at least, each of the three ranges lies in one page, which is present, and the source
+    /// shares no byte with the other two, or is at most [`SHORT`](crate::SHORT) bytes long. Answers whether that was
+    /// done; else nothing is changed.
+    pub fn copy_twice_in_page(&mut self, source: u64, first: u64, second: u64, len: u32) -> bool
+        ensures source { IsTrue result → IsTrue (has_all self.old source len) }
+        ensures first { IsTrue result → IsTrue (has_all self.old first len) }
+        ensures second { IsTrue result → IsTrue (has_all self.old second len) }
+        ensures bytes { IsTrue result → self.new ≡ copied (copied self.old source first len) source second len }
+        ensures goes { 0 < len → source % 4096 + len ≤ 4096 → first % 4096 + len ≤ 4096 → second % 4096 + len ≤ 4096
+            → IsOneCopy source first len → IsOneCopy source second len → IsTrue (has self.old source)
+            → IsTrue (has self.old first) → IsTrue (has self.old second) → IsTrue result }
+        ensures unchanged { result ≡ false → self.new ≡ self.old }
+        ensures memory { IsMemory self.new }
+    {
+        let _ = &self.pages; // what is looked at is an image
+        let bytes = len as usize;
+        if bytes == 0 || !is_one_copy(source, first, bytes) || !is_one_copy(source, second, bytes) {
+            return false;
+        }
+        let most = rest_of_page(source)
+            .min(rest_of_page(first))
+            .min(rest_of_page(second));
+        if most < bytes {
+            return false;
+        }
+        self.pages.copy_twice_in_page(source, first, second, bytes)
     }
 
     /// How many of `len` bytes from this address on come before the first absent one.

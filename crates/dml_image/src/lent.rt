@@ -2,7 +2,7 @@ ghost use Rattle.std.specs.Prelude.{◌≡◌, ◌≢◌, ◌+◌, ◌-◌, ◌%
 ghost use Rattle.dml_types.specs.Memory.{IsMemory, has, has_all, bytes_at, put, puts_made};
 ghost use Rattle.dml_types.specs.Bytewise.{pattern_bytes};
 ghost use Rattle.dml_segments.specs.Blocks.{are_present, block_puts};
-ghost use Rattle.dml_segments.specs.Copied.{IsOneCopy};
+ghost use Rattle.dml_segments.specs.Copied.{copied, IsOneCopy};
 ghost use Rattle.dml_segments.specs.Present.{IsPartOfPage};
 ghost use Rattle.dml_image.specs.Kept.{lent_memory, loan_memory};
 ghost use Rattle.dml_segments.specs.Brought.{brought, has_page};
@@ -244,6 +244,32 @@ impl<'a> Lent<'a> {
             return false;
         }
         self.copy_part(from, to, len);
+        true
+    }
+
+    /// Copies `len` bytes of one page to one page, and then to another, where all three are present. Returns whether
+    /// they are.
+    pub(crate) fn copy_twice_in_page(
+        &mut self,
+        from: u64,
+        first: u64,
+        second: u64,
+        len: usize,
+    ) -> bool
+        requires memory { IsMemory (loan_memory self.old) }
+        requires some { 0 < len }
+        requires within { (from % 4096 + len ≤ 4096) × (first % 4096 + len ≤ 4096) × (second % 4096 + len ≤ 4096) }
+        requires apart { IsOneCopy from first len × IsOneCopy from second len }
+        ensures present { result ≡ (has (loan_memory self.old) second
+            && (has (loan_memory self.old) from && has (loan_memory self.old) first)) }
+        ensures copied { IsTrue result
+            → loan_memory self.new ≡ copied (copied (loan_memory self.old) from first len) from second len }
+        ensures kept { result ≡ false → loan_memory self.new ≡ loan_memory self.old }
+    {
+        if !self.has(second) || !self.copy_in_page(from, first, len) {
+            return false;
+        }
+        self.copy_part(from, second, len);
         true
     }
 }

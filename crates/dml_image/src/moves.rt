@@ -2,7 +2,7 @@
 ghost use Rattle.std.specs.Prelude.{◌≡◌, ◌+◌, ◌-◌, ◌<◌, ◌≤◌, ◌⊎◌, IsTrue, ◌&&◌, ◌%◌, false};
 ghost use Rattle.dml_types.specs.Memory.{IsMemory, has_all, bytes_at, put, has};
 ghost use Rattle.dml_types.specs.Bytewise.{pattern_bytes};
-ghost use Rattle.dml_segments.specs.Copied.{IsOneCopy};
+ghost use Rattle.dml_segments.specs.Copied.{copied, IsOneCopy};
 ghost use Rattle.dml_image.specs.Copied.{IsCopyIn};
 ghost use Rattle.dml_image.specs.Kept.{kept_by};
 
@@ -178,6 +178,28 @@ impl Pages<'_> {
             Pages::Own(table) => table.copy_in_page(source, target, len),
             Pages::Lent(lent) => lent.copy_in_page(source, target, len),
             Pages::Segments(segments) => segments.copy_in_page(source, target, len),
+        }
+    }
+
+    /// Copies `len` bytes of one page to one page, and then to another, where all three are present. Returns whether
+    /// they are.
+    // It stands apart, as `copy_in_page` does.
+    #[inline(never)]
+    pub fn copy_twice_in_page(&mut self, source: u64, first: u64, second: u64, len: usize) -> bool
+        requires memory { IsMemory (kept_by self.old) }
+        requires some { 0 < len }
+        requires within { (source % 4096 + len ≤ 4096) × (first % 4096 + len ≤ 4096) × (second % 4096 + len ≤ 4096) }
+        requires apart { IsOneCopy source first len × IsOneCopy source second len }
+        ensures present { result
+            ≡ (has (kept_by self.old) second && (has (kept_by self.old) source && has (kept_by self.old) first)) }
+        ensures copied { IsTrue result
+            → kept_by self.new ≡ copied (copied (kept_by self.old) source first len) source second len }
+        ensures kept { result ≡ false → kept_by self.new ≡ kept_by self.old }
+    {
+        match self {
+            Pages::Own(table) => table.copy_twice_in_page(source, first, second, len),
+            Pages::Lent(lent) => lent.copy_twice_in_page(source, first, second, len),
+            Pages::Segments(segments) => segments.copy_twice_in_page(source, first, second, len),
         }
     }
 

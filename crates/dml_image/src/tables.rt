@@ -3,7 +3,7 @@ ghost use Rattle.dml_types.specs.Memory.{has, bytes_at, overwrite, is_in_segment
 ghost use Rattle.dml_types.specs.Bytewise.{pattern_bytes};
 ghost use Rattle.dml_segments.specs.Blocks.{block_puts_from};
 ghost use Rattle.dml_segments.specs.Brought.{all_absent, brought, evicted, has_page};
-ghost use Rattle.dml_segments.specs.Copied.{IsOneCopy};
+ghost use Rattle.dml_segments.specs.Copied.{copied, IsOneCopy};
 ghost use Rattle.dml_segments.specs.Present.{IsPartOfPage};
 ghost use Rattle.dml_image.specs.Table.{page_bytes};
 
@@ -211,6 +211,22 @@ impl Table {
             return false;
         }
         self.copy_part(from, to, len);
+        true
+    }
+
+    /// Copies `len` bytes of one page to one page, and then to another, where all three are present. Returns whether
+    /// they are.
+    pub fn copy_twice_in_page(&mut self, from: u64, first: u64, second: u64, len: usize) -> bool
+        requires within { (from % 4096 + len ≤ 4096) × (first % 4096 + len ≤ 4096) × (second % 4096 + len ≤ 4096) }
+        requires apart { IsOneCopy from first len × IsOneCopy from second len }
+        ensures present { result ≡ (has self.old second && (has self.old from && has self.old first)) }
+        ensures copied { IsTrue result → self.new ≡ copied (copied self.old from first len) from second len }
+        ensures kept { result ≡ false → self.new ≡ self.old }
+    {
+        if !self.has(second) || !self.copy_in_page(from, first, len) {
+            return false;
+        }
+        self.copy_part(from, second, len);
         true
     }
 }

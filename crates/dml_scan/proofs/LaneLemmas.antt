@@ -1,8 +1,8 @@
 -- The first place at which two rows of numbers differ.
 use Rattle.std.specs.Prelude.{◌==◌, slice_range}
-use Rattle.std.proofs.Common.{◌≡◌, ℕ, ◌+◌, ◌-◌, ◌%◌, ◌<◌, ◌≤◌, ◌↔◌, Bool, true, false, not, List, length, get_or, refl, sym, ◌∙◌, ap, arith, rules, ⊎_elim}
+use Rattle.std.proofs.Common.{◌≡◌, ℕ, ◌+◌, ◌-◌, ◌%◌, ◌<◌, ◌≤◌, ◌↔◌, Bool, true, false, not, List, length, get_or, drop, refl, sym, ◌∙◌, ap, arith, rules, ⊎_elim}
 use Rattle.std.proofs.lemmas.Bool.{cases_lt, eqb-false, not-false, not-true, eq-eqb, eqb-true}
-use Rattle.std.proofs.lemmas.List.{places}
+use Rattle.std.proofs.lemmas.List.{places, length-drop}
 use Rattle.dml_types.specs.Memory.{first}
 use Rattle.dml_types.specs.Bytewise.{pattern_byte}
 use Rattle.dml_types.proofs.FirstLemmas.{first_is, first_le, fails_before, passes_at}
@@ -131,3 +131,45 @@ lane_unlike xs block pattern from at k whole within repeats before is below =
     eqb-false (f k) (g k) differ
     (range_read xs at 32 k below
     ∙ (same ∙ (sym (block_byte block pattern from (at + k) repeats) ∙ ap (λ j. get_or block j 0) lane))))
+
+-- the first place in what is behind a part that repeats the pattern
+rest_byte : (xs : List ℕ) (n i : ℕ) → get_or (drop n xs) i 0 ≡ get_or xs (n + i) 0
+rest_byte xs n i = search (rules, places)
+
+pub unlike_in_rest : (xs : List ℕ) (pattern from n k : ℕ) → n % 8 ≡ 0 → n ≤ length xs → RepeatsBelow xs pattern from n → k ≡ first_unlike (drop n xs) pattern from → n + k ≡ first_unlike xs pattern from
+unlike_in_rest xs pattern from n k whole within before is =
+    let f : ℕ → ℕ = λ j. get_or (drop n xs) j 0 in
+    let g : ℕ → ℕ = λ j. pattern_byte pattern (from + j) in
+    let long : length (drop n xs) ≡ length xs - n = length-drop n xs in
+    let most : k ≤ length (drop n xs) = omega (arith, is, first_le (length (drop n xs)) (unequal f g)) in
+    let turned : (j : ℕ) → g j ≡ pattern_byte pattern (from + (n + j)) =
+    λ j. (let same : (from + j) % 8 ≡ (from + (n + j)) % 8 = omega (arith, whole) in ap (λ b. get_or (to_le_bytes w64 pattern) b 0) same) in
+    let all : RepeatsBelow xs pattern from (n + k) =
+    λ i below.
+    ⊎_elim (λ low. before i low) (λ high.
+    let place : n + (i - n) ≡ i = omega arith in
+    ap (λ b. get_or xs b 0) (sym place) ∙ (sym (rest_byte xs n (i - n)) ∙ (equal_before (length (drop n xs)) f g (i - n) (omega (arith, is)) ∙ (turned (i - n) ∙ ap (λ b. pattern_byte pattern (from + b)) place))))
+    (cases_lt i n) in
+    ⊎_elim (λ short.
+    let differ : (f k == g k) ≡ false = ap (λ j. f j == g j) is ∙ unequal_here (length (drop n xs)) f g (omega (arith, is, short)) in
+    pattern_differs xs pattern from (n + k) (omega (arith, short, long)) all (λ same.
+    eqb-false (f k) (g k) differ (rest_byte xs n k ∙ (same ∙ sym (turned k)))))
+    (λ past. pattern_repeats xs pattern from (n + k) (omega (arith, past, most, long, within)) all)
+    (cases_lt k (length (drop n xs)))
+
+-- two stretches side by side
+pub both_repeated : (xs block : List ℕ) (at n m : ℕ) → n % 32 ≡ 0 → AreRepeated xs block at (n + m) ↔ (AreRepeated xs block at n × AreRepeated xs block (at + n) m)
+both_repeated xs block at n m turn = (
+  λ whole. (
+    λ i below. whole i (omega arith),
+    λ i below. (let place : at + (n + i) ≡ at + n + i = omega arith in
+        let lane : (n + i) % 32 ≡ i % 32 = omega arith in
+        sym (ap (λ k. get_or xs k 0) place) ∙ (whole (n + i) (omega arith) ∙ ap (λ k. get_or block k 0) lane)),
+  ),
+  λ parts i below.
+      ⊎_elim (λ low. parts.0 i low) (λ high.
+      let place : at + n + (i - n) ≡ at + i = omega arith in
+      let lane : (i - n) % 32 ≡ i % 32 = omega arith in
+      sym (ap (λ k. get_or xs k 0) place) ∙ (parts.1 (i - n) (omega arith) ∙ ap (λ k. get_or block k 0) lane))
+      (cases_lt i n),
+)

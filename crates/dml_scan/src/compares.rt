@@ -6,9 +6,10 @@ ghost use Rattle.dml_types.specs.Job.{op_of};
 ghost use Rattle.dml_types.specs.Memory.{has};
 ghost use Rattle.dml_types.specs.Chunk.{scan_found};
 ghost use Rattle.dml_buffers.specs.Holds.{Holds};
+ghost use Rattle.dml_scan.specs.Lanes as lanes;
 ghost use Rattle.dml_scan.specs.Parts.{IsPartWithin};
 
-use crate::lanes::{first_difference, first_unlike};
+use crate::lanes::{first_difference, first_unlike, first_unlike_long};
 use crate::reach::read_fault;
 use dml_desc::Checked;
 use dml_image::Image;
@@ -64,6 +65,20 @@ pub fn compare_found(image: &Image, job: &Checked, from: u32, to: u32) -> Found
     Found::All
 }
 
+/// The first place at which a part of a chunk differs from a pattern; its length where there is none. A first part
+/// often differs near its beginning, one behind it seldom.
+#[inline(always)]
+fn unlike_in_part(part: &[u8], pattern: u64, from: u32, is_first: bool) -> usize
+    ensures value { result ≡ lanes.first_unlike part.now pattern from }
+    ensures within { result ≤ length part.now }
+{
+    if is_first {
+        first_unlike(part, pattern, from)
+    } else {
+        first_unlike_long(part, pattern, from)
+    }
+}
+
 /// How the scan of a chunk of a compare with a pattern ends: at one offset an absent byte comes before a difference.
 #[tactic(auto, using(crate::proofs::CompareLemmas::part_none, crate::proofs::CompareLemmas::passed_none))]
 pub fn compare_pattern_found(image: &Image, job: &Checked, from: u32, to: u32) -> Found
@@ -79,7 +94,7 @@ pub fn compare_pattern_found(image: &Image, job: &Checked, from: u32, to: u32) -
         let Some(part) = next_part(image, &[], place, to - at) else {
             return read_fault(at - from, place);
         };
-        let same = first_unlike(part, job.target, at);
+        let same = unlike_in_part(part, job.target, at, at == from);
         at += same as u32;
         if same < part.len() {
             return Found::Differs { done: at - from };

@@ -1,7 +1,8 @@
 //! How far bytes are alike from the front, those of two slices or those of a slice and a repeated pattern.
 //!
-//! Two slices are first compared in blocks of four steps with one test each. What is left, as a slice and a pattern, is
-//! compared in steps of four vectors with one test, then a vector at a time, and at the end byte by byte.
+//! Two slices, and a long slice and a pattern, are first compared in blocks of four steps with one test each. What is
+//! left, as a slice and a pattern, is compared in steps of four vectors with one test, then a vector at a time, and at
+//! the end byte by byte.
 
 ghost use Rattle.std.specs.Prelude.{◌≡◌, ℕ, ◌+◌, ◌*◌, ◌<◌, ◌≤◌, ◌↔◌, IsTrue, length, slice_index, slice_range};
 ghost use Rattle.dml_types.specs.Bytewise.{pattern_byte};
@@ -107,17 +108,50 @@ fn alike_step(a: &[u8], b: &[u8], at: usize) -> u8x32
     all_of(first, second, third, fourth)
 }
 
+/// Whether a block of a slice, from a place on, repeats a vector, by one test.
+#[inline(always)]
+fn is_repeated_block(bytes: &[u8], repeated: u8x32, at: usize) -> bool
+    requires { at + BLOCK ≤ length bytes.now }
+    ensures { IsTrue result ↔ AreRepeated bytes.now repeated at 512 }
+{
+    is_full(both(
+        repeated_steps(bytes, repeated, at),
+        repeated_steps(bytes, repeated, at + 2 * STEP),
+    ))
+}
+
+/// Full lanes where all vectors of two steps of a slice, from a place on, are a vector that is repeated.
+#[inline(always)]
+fn repeated_steps(bytes: &[u8], repeated: u8x32, at: usize) -> u8x32
+    requires { at + 2 * STEP ≤ length bytes.now }
+    ensures { AreFull result ↔ AreRepeated bytes.now repeated at 256 }
+{
+    both(
+        repeated_step(bytes, repeated, at),
+        repeated_step(bytes, repeated, at + STEP),
+    )
+}
+
 /// Whether a step of a slice, from a place on, repeats a vector.
 #[inline(always)]
 fn is_repeated_step(bytes: &[u8], repeated: u8x32, at: usize) -> bool
     requires { at + STEP ≤ length bytes.now }
     ensures { IsTrue result ↔ AreRepeated bytes.now repeated at 128 }
 {
+    is_full(repeated_step(bytes, repeated, at))
+}
+
+/// Full lanes where all vectors of a step of a slice, from a place on, are a vector that is repeated.
+#[inline(always)]
+fn repeated_step(bytes: &[u8], repeated: u8x32, at: usize) -> u8x32
+    requires { at + STEP ≤ length bytes.now }
+    ensures { AreFull result ↔ AreRepeated bytes.now repeated at 128 }
+{
     let first = alike(load(bytes, at), repeated);
     let second = alike(load(bytes, at + LANES), repeated);
     let third = alike(load(bytes, at + 2 * LANES), repeated);
     let fourth = alike(load(bytes, at + 3 * LANES), repeated);
-    is_full(all_of(first, second, third, fourth))
+    all_of(first, second, third, fourth)
 }
 
 /// The bytes of a slice from a place on.
@@ -198,6 +232,32 @@ pub fn first_unlike(bytes: &[u8], pattern: u64, from: u32) -> usize
         at += 1;
     }
     at
+}
+
+/// The same of a long slice, or of one behind bytes that were alike, so that more are likely to be: in blocks first.
+#[inline(never)]
+pub fn first_unlike_long(bytes: &[u8], pattern: u64, from: u32) -> usize
+    ensures value { result ≡ lanes.first_unlike bytes.now pattern from }
+    ensures within { result ≤ length bytes.now }
+{
+    let repeated = repeated_from(pattern, from);
+    let mut at = 0;
+    while bytes.len() - at >= BLOCK && is_repeated_block(bytes, repeated, at) {
+        at += BLOCK;
+    }
+    if at == bytes.len() {
+        return at;
+    }
+    at + unlike_behind_blocks(&bytes[at..], pattern, from)
+}
+
+/// The first place behind blocks. It stands apart, so that the loop over blocks keeps nothing of one in memory.
+#[inline(never)]
+fn unlike_behind_blocks(bytes: &[u8], pattern: u64, from: u32) -> usize
+    ensures value { result ≡ lanes.first_unlike bytes.now pattern from }
+    ensures within { result ≤ length bytes.now }
+{
+    first_unlike(bytes, pattern, from)
 }
 
 /// The bytes of a pattern, low byte first, repeated from its byte `from` mod 8 on.

@@ -13,7 +13,7 @@ mod staging;
 
 pub use compares::{compare_found, compare_pattern_found};
 pub use dml_types::Found;
-pub use lanes::{first_difference, first_unlike};
+pub use lanes::{first_difference, first_unlike, first_unlike_long};
 pub use reach::{dualcast_found, fill_found, move_found, work_direction};
 pub use scans::{
     ScanPiece, scan_compare, scan_compare_pattern, scan_dualcast, scan_fill, scan_move,

@@ -5,7 +5,8 @@ use Rattle.std.proofs.lemmas.Bool.{cases_lt, false≢true}
 use Rattle.dml_types.specs.Memory.{Memory, IsMemory, InSegments, Place, Put, has, bytes_at, overwrite, put, puts_made}
 use Rattle.dml_types.proofs.MemoryLemmas.{length_overwrite}
 use Rattle.dml_segments.specs.Blocks.{after_puts, AreInside}
-use Rattle.dml_segments.specs.Pieces.{Piece, AreInOrder, AreSegments, IsIn, bytes_from, end_of, marks_from, no_piece, over, pages_of, piece_at, pieces_memory, place_of, written}
+use Rattle.dml_segments.specs.declared.segments.Spot.{Spot}
+use Rattle.dml_segments.specs.Pieces.{Piece, AreInOrder, AreSegments, IsAt, IsIn, bytes_from, end_of, marks_from, no_piece, over, pages_of, piece_at, pieces_memory, place_of, written}
 use Rattle.dml_segments.proofs.JoinLemmas.{overwrite_back, overwrite_front, same_back, same_front}
 
 -- each page has its bytes
@@ -235,6 +236,32 @@ module _ (pieces : List Piece) (order : AreInOrder 0 pieces) where
       let bytes = write_pieces 0 pieces k s no_piece new order below within ∙ ap (λ i. overwrite (bytes_from 0 pieces) i new) (omega (arith, at)) in
       ap (λ (places : List Place). in_places places (marks_from 0 (written pieces k s new)) (bytes_from 0 (written pieces k s new))) (same_places pieces k s no_piece new below within)
       ∙ ap₂ (in_places (map place_of pieces)) marks bytes
+
+-- what a write over one piece leaves of each
+same_lengths : (pieces : List Piece) (k s i : ℕ) (d : Piece) (new : List ℕ) → k < length pieces → s + length new ≤ length (get_or pieces k d).bytes → length (get_or (set pieces k (over (get_or pieces k d) s new)) i d).bytes ≡ length (get_or pieces i d).bytes
+same_lengths [] k s i d new below within = absurd (omega arith)
+same_lengths (piece ∷ pieces) zero s zero d new below within = length_overwrite piece.bytes s new within
+same_lengths (piece ∷ pieces) zero s (suc i) d new below within = refl
+same_lengths (piece ∷ pieces) (suc k) s zero d new below within = refl
+same_lengths (piece ∷ pieces) (suc k) s (suc i) d new below within = same_lengths pieces k s i d new (omega arith) within
+
+same_firsts : (pieces : List Piece) (k s i : ℕ) (d : Piece) (new : List ℕ) → (get_or (set pieces k (over (get_or pieces k d) s new)) i d).first ≡ (get_or pieces i d).first
+same_firsts [] k s i d new = refl
+same_firsts (piece ∷ pieces) zero s zero d new = refl
+same_firsts (piece ∷ pieces) zero s (suc i) d new = refl
+same_firsts (piece ∷ pieces) (suc k) s zero d new = refl
+same_firsts (piece ∷ pieces) (suc k) s (suc i) d new = same_firsts pieces k s i d new
+
+pub spot_written : (pieces : List Piece) (k s : ℕ) (new : List ℕ) (spot : Spot) (address : ℕ) → k < length pieces → s + length new ≤ length (piece_at pieces k).bytes → IsAt pieces spot address → IsAt (written pieces k s new) spot address
+spot_written pieces k s new spot address below within at =
+    let long = same_lengths pieces k s spot.segment no_piece new below within in
+    let first = same_firsts pieces k s spot.segment no_piece new in
+    record {
+      below = omega (arith, at.below, length-set pieces k (over (piece_at pieces k) s new));
+      some = at.some;
+      room = omega (arith, at.room, long);
+      here = omega (arith, at.here, first);
+    }
 
 -- puts of blocks that are all inside a piece
 abbrev pub put_over : Piece → List Put → Piece

@@ -4,10 +4,11 @@ use Rattle.std.proofs.lemmas.List.{places, get_or-set_other}
 use Rattle.std.proofs.lemmas.Bool.{cases_lt}
 use Rattle.dml_types.specs.Memory.{Memory, Place, Put, bytes_at, has, overwrite, put, puts_made}
 use Rattle.dml_segments.specs.Blocks.{after_puts, AreInside}
+use Rattle.dml_segments.specs.Copied.{copied}
 use Rattle.dml_segments.specs.declared.segments.Segment.{Segment}
 use Rattle.dml_segments.specs.declared.segments.Spot.{Spot}
 use Rattle.dml_segments.specs.Pieces.{Piece, AreInOrder, IsAt, end_of, marks_from, no_piece, over, pages_of, piece_at, piece_of, pieces_memory, pieces_of, written, place_at, place_of, segment_bytes}
-use Rattle.dml_segments.proofs.PieceLemmas.{blocks_made, end_low, first_rises, has_in, has_out, last_end, order_written, piece_read, piece_written, put_over, whole_piece, within_pieces, piece_bytes}
+use Rattle.dml_segments.proofs.PieceLemmas.{blocks_made, end_low, first_rises, has_in, has_out, last_end, order_written, piece_read, piece_written, put_over, spot_written, whole_piece, within_pieces, piece_bytes}
 
 rest_long : (s : ℕ) (bytes : List ℕ) → length (take (length bytes - s) (drop s bytes)) ≡ length bytes - s
 rest_long s bytes = search (rules, places)
@@ -59,6 +60,18 @@ module _ (list items : List Segment) (now : Memory) (same : list ≡ items) (ord
             ∙ (piece_written pieces order k to target part below_k fits at_target ∙ ap₂ (λ (m : Memory) (bytes : List ℕ). put m target bytes) shown read),
         subst (AreInOrder 0) (sym is) (order_written pieces order k to part below_k fits),
       )
+    where
+      short : (s n : ℕ) (bytes : List ℕ) → length (slice_range bytes s (s + n)) ≤ n
+      short s n bytes = search (rules, places)
+
+  -- and a spot behind that
+  pub spot_after : (new : List Segment) (j from k to n : ℕ) (spot : Spot) (address : ℕ) → k < length (pieces_of items) → to + n ≤ length (piece_at (pieces_of items) k).bytes → pieces_of new ≡ written (pieces_of list) k to (slice_range (piece_at (pieces_of list) j).bytes from (from + n)) → IsAt (pieces_of list) spot address → IsAt (pieces_of new) spot address
+  spot_after new j from k to n spot address below in_target done at =
+      let part = slice_range (piece_at (pieces_of list) j).bytes from (from + n) in
+      let fits : to + length part ≤ length (piece_at (pieces_of list) k).bytes =
+      omega (arith, in_target, short from n (piece_at (pieces_of list) j).bytes, ap (λ l. length (piece_at (pieces_of l) k).bytes) same) in
+      subst (λ (p : List Piece). IsAt p spot address) (sym done)
+      (spot_written (pieces_of list) k to part spot address (omega (arith, below, ap (λ l. length (pieces_of l)) same)) fits at)
     where
       short : (s n : ℕ) (bytes : List ℕ) → length (slice_range bytes s (s + n)) ≤ n
       short s n bytes = search (rules, places)
@@ -124,6 +137,37 @@ module _ (list items : List Segment) (now : Memory) (same : list ≡ items) (ord
           pieces_set items spot.segment other
           ∙ ap (set (pieces_of items) spot.segment) (is ∙ ap (λ n. record (piece_of segment) { bytes = after_puts n segment.content.now puts }) starts) in
           (ap pieces_memory after ∙ (made.0 ∙ ap (λ (m : Memory). puts_made m puts) shown), subst (AreInOrder 0) (sym after) made.1)
+
+-- bytes copied from one spot to another, and then to a third
+module _ (list items one : List Segment) (now : Memory) (same : list ≡ items) (order : AreInOrder 0 (pieces_of items)) (shown : pieces_memory (pieces_of items) ≡ now) (source first second : Spot) (from to also n : ℕ) (at_source : IsAt (pieces_of items) source from) (at_first : IsAt (pieces_of items) first to) (at_second : IsAt (pieces_of items) second also) (source_room : n ≤ source.room) (first_room : n ≤ first.room) (second_room : n ≤ second.room) (once : pieces_of one ≡ written (pieces_of list) first.segment first.place (slice_range (piece_at (pieces_of list) source.segment).bytes source.place (source.place + n))) where
+  copied_once : (pieces_memory (pieces_of one) ≡ put now to (bytes_at now from n)) × AreInOrder 0 (pieces_of one)
+  copied_once =
+      copied_here list items now same order shown one source.segment source.place first.segment first.place n from to
+      at_source.below (omega (arith, at_source.room, source_room)) at_source.here
+      at_first.below (omega (arith, at_first.room, first_room)) at_first.here once
+
+  stays : (spot : Spot) (address : ℕ) → IsAt (pieces_of items) spot address → IsAt (pieces_of one) spot address
+  stays spot address at =
+      spot_after list items now same order shown one source.segment source.place first.segment first.place n spot address
+      at_first.below (omega (arith, at_first.room, first_room)) once (subst (λ l. IsAt (pieces_of l) spot address) (sym same) at)
+
+  pub source_stays : (source.segment < length one) × (source.place + n ≤ length (piece_at (pieces_of one) source.segment).bytes)
+  source_stays =
+      let at = stays source from at_source in
+      (omega (arith, at.below, pieces_length one), omega (arith, at.room, source_room))
+
+  pub second_stays : (second.segment < length one) × (second.place + n ≤ length (piece_at (pieces_of one) second.segment).bytes)
+  second_stays =
+      let at = stays second also at_second in
+      (omega (arith, at.below, pieces_length one), omega (arith, at.room, second_room))
+
+  pub copied_twice : (two : List Segment) → pieces_of two ≡ written (pieces_of one) second.segment second.place (slice_range (piece_at (pieces_of one) source.segment).bytes source.place (source.place + n)) → (pieces_memory (pieces_of two) ≡ copied (copied now from to n) from also n) × AreInOrder 0 (pieces_of two)
+  copied_twice two again =
+      let from_at = stays source from at_source in
+      let to_at = stays second also at_second in
+      copied_here one one (copied now from to n) refl copied_once.1 copied_once.0 two source.segment source.place second.segment second.place n from also
+      from_at.below (omega (arith, from_at.room, source_room)) from_at.here
+      to_at.below (omega (arith, to_at.room, second_room)) to_at.here again
 
 -- segments in front of one that begins at an address or before do so too, and those behind one that does not, do not
 module _ (list : List Segment) (middle address : ℕ) (segment : Segment) (order : AreInOrder 0 (pieces_of list)) (below : middle < length list) (seen : segment ≡ get_or list middle segment) where

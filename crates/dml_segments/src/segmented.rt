@@ -5,7 +5,7 @@ ghost use Rattle.dml_types.specs.Bytewise.{pattern_bytes};
 ghost use Rattle.dml_segments.specs.Blocks.{are_present, block_puts, block_puts_from};
 ghost use Rattle.dml_segments.specs.Brought.{brought, has_page};
 ghost use Rattle.dml_segments.specs.Pieces.{AreInOrder, pieces_memory, pieces_of};
-ghost use Rattle.dml_segments.specs.Copied.{IsOneCopy};
+ghost use Rattle.dml_segments.specs.Copied.{copied, IsOneCopy};
 ghost use Rattle.dml_segments.specs.Present.{IsPartOfPage};
 
 use crate::PAGE_SIZE;
@@ -337,6 +337,45 @@ impl Segments<'_> {
             source.place,
             target.segment,
             target.place,
+            len,
+        );
+        true
+    }
+
+    /// Copies `len` bytes of one page to one page, and then to another, where all three are present. Returns whether
+    /// they are.
+    #[inline(never)]
+    pub fn copy_twice_in_page(&mut self, from: u64, first: u64, second: u64, len: usize) -> bool
+        requires within { (from % 4096 + len ≤ 4096) × (first % 4096 + len ≤ 4096) × (second % 4096 + len ≤ 4096) }
+        requires apart { IsOneCopy from first len × IsOneCopy from second len }
+        ensures present { result ≡ (has self.old second && (has self.old from && has self.old first)) }
+        ensures copied { IsTrue result → self.new ≡ copied (copied self.old from first len) from second len }
+        ensures kept { result ≡ false → self.new ≡ self.old }
+    {
+        let Some(other) = find(self.list.as_slice(), second) else {
+            return false;
+        };
+        let Some(source) = find(self.list.as_slice(), from) else {
+            return false;
+        };
+        let Some(target) = find(self.list.as_slice(), first) else {
+            return false;
+        };
+        let list = self.list.as_mut_slice();
+        copy_between(
+            list,
+            source.segment,
+            source.place,
+            target.segment,
+            target.place,
+            len,
+        );
+        copy_between(
+            list,
+            source.segment,
+            source.place,
+            other.segment,
+            other.place,
             len,
         );
         true

@@ -1,5 +1,5 @@
-//! Moves that are one copy, from page to page, and fills within a page: which go, and what they leave; and parts of
-//! pages that are looked at.
+//! Moves that are one copy, from page to page, two copies of one page, and fills within a page: which go, and what they
+//! leave; and parts of pages that are looked at.
 
 use super::{image_with, moved, some_bytes};
 use dml_image::{Image, Lent, Segment, Whole, are_segments};
@@ -8,13 +8,16 @@ use std::process::Abort;
 use std::test::Fail;
 
 /// Source, target and length, and whether the move goes, in three pages that are present and a fourth that is absent.
-const ROWS: [(u64, u64, u32, bool); 21] = [
+const ROWS: [(u64, u64, u32, bool); 24] = [
     (0, 4096, 4096, true),
     (8192, 0, 4096, true),
     (4096, 4096, 4096, false), // more bytes than are held, over themselves
     (10, 20, 8, true),
     (20, 10, 8, true),
     (100, 100, 64, true),
+    (0, 32, 64, true),
+    (33, 1, 65, true),
+    (7, 107, 200, true),
     (0, 255, 256, true),
     (255, 0, 256, true),
     (0, 256, 257, false),
@@ -41,6 +44,46 @@ fn expect_row(rt: &impl Abort, image: &mut Image, row: (u64, u64, u32, bool)) {
     assert_eq!(rt; image.move_in_page(source, target, len), goes, "{row:?}");
     let wanted = if goes {
         moved(rt, &before, (source, target, len))
+    } else {
+        before
+    };
+    let mut after = [0; 12_288];
+    assert!(rt; image.first_absent(0, 12_288, Direction::Forward).is_none());
+    image.read_into(0, &mut after);
+    assert!(rt; after == wanted, "{row:?}");
+}
+
+/// Source, both targets and length of two copies, and whether they go, in the same pages.
+const TWICE: [(u64, u64, u64, u32, bool); 16] = [
+    (0, 4096, 8192, 4096, true),
+    (8192, 0, 4096, 4096, true),
+    (10, 20, 4116, 8, true),
+    (100, 100, 164, 64, true),
+    (0, 255, 4096, 256, true), // the second copy reads what the first wrote
+    (4096, 0, 4351, 256, true),
+    (0, 256, 4096, 257, false), // more bytes than are held, over themselves
+    (0, 4096, 256, 257, false),
+    (4095, 0, 8192, 2, false), // over an edge
+    (0, 4095, 8192, 2, false),
+    (0, 4096, 8191, 2, false),
+    (12_288, 0, 4096, 8, false), // absent
+    (0, 12_288, 4096, 8, false),
+    (0, 4096, 12_288, 8, false),
+    (0, 4096, u64::MAX, 1, false), // past the last page
+    (0, 0, 0, 0, false),
+];
+
+/// Tries two copies, and checks the bytes of the first three pages.
+fn expect_copies(rt: &impl Abort, image: &mut Image, row: (u64, u64, u64, u32, bool)) {
+    let (source, first, second, len, goes) = row;
+    let before = some_bytes();
+    assert!(rt; image.first_absent(0, 12_288, Direction::Forward).is_none());
+    image.write(0, &before);
+    let went = image.copy_twice_in_page(source, first, second, len);
+    assert_eq!(rt; went, goes, "{row:?}");
+    let wanted = if goes {
+        let once = moved(rt, &before, (source, first, len));
+        moved(rt, &once, (source, second, len))
     } else {
         before
     };
@@ -117,6 +160,9 @@ fn expect_part(rt: &impl Abort, image: &mut Image, row: (u64, u32, Option<usize>
 fn expect_all(rt: &impl Abort, image: &mut Image) {
     for row in ROWS {
         expect_row(rt, image, row);
+    }
+    for row in TWICE {
+        expect_copies(rt, image, row);
     }
     for row in FILLS {
         expect_fill(rt, image, row);

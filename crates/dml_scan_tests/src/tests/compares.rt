@@ -81,7 +81,8 @@ fn compares_from_any_offset(rt: HostRuntime) -> Result<(), Fail> {
     Ok(())
 }
 
-/// A difference in each step of two blocks of four, and behind them.
+/// A difference in each step of two blocks of four, and behind them: of two ranges, and of a range and a pattern in the
+/// second page of the range.
 #[test]
 fn compares_of_blocks(rt: HostRuntime) -> Result<(), Fail> {
     let mut arena = Arena::new(rt.alloc(), STAGING)?;
@@ -98,6 +99,18 @@ fn compares_of_blocks(rt: HostRuntime) -> Result<(), Fail> {
             };
             let found = found_of(&rt, &image, &mut arena, &job);
             assert_eq!(rt; found, want, "{len} with another byte at {place}");
+            let job = Job::compare_pattern(3996, 0x5a5a_5a5a_5a5a_5a5a, 100 + len);
+            let want = if place < len {
+                Found::Differs { done: 100 + place }
+            } else {
+                Found::All
+            };
+            let found = found_of(&rt, &image, &mut arena, &job);
+            assert_eq!(rt;
+                found,
+                want,
+                "a pattern: {len} with another byte at {place}"
+            );
         }
     }
     Ok(())

@@ -21,7 +21,7 @@ returns-then-same-part c =
     let job = c.job-job.result.now in
     let part = c.in-Some.ensures in
     pattern_stops memory job c.args.from c.args.to c.loop-at.at c.in-Some.part.now inv.order (omega (arith, part.within, c.loop-at-test.true)) inv.passed
-    (subst (λ n. Holds memory (job.source + n) c.in-Some.part.now) c.from.ensures part.part) _ c.first_unlike-same.ensures.value c.if-same-part.true
+    (subst (λ n. Holds memory (job.source + n) c.in-Some.part.now) c.from.ensures part.part) _ c.unlike_in_part-same.ensures.value c.if-same-part.true
     ∙ ap (λ (j : Job). scan_found ComparePattern memory j c.args.from c.args.to) c.job-job.ensures.job
 
 pub loop-at-preserved : goal.loop-at-preserved
@@ -32,10 +32,10 @@ loop-at-preserved c =
     let part = c.in-Some.ensures in
     record {
       order = omega (arith, inv.order);
-      within = omega (arith, c.first_unlike-same.ensures.within, part.within, c.loop-at-test.true);
+      within = omega (arith, c.unlike_in_part-same.ensures.within, part.within, c.loop-at-test.true);
       passed =
-          passed_more ComparePattern memory job c.args.from c.loop-at.at c.first_unlike-same.result inv.passed
-          (λ i below. pattern_passes memory job c.loop-at.at c.in-Some.part.now (subst (λ n. Holds memory (job.source + n) c.in-Some.part.now) c.from.ensures part.part) i (omega (arith, c.first_unlike-same.ensures.value)));
+          passed_more ComparePattern memory job c.args.from c.loop-at.at c.unlike_in_part-same.result inv.passed
+          (λ i below. pattern_passes memory job c.loop-at.at c.in-Some.part.now (subst (λ n. Holds memory (job.source + n) c.in-Some.part.now) c.from.ensures part.part) i (omega (arith, c.unlike_in_part-same.ensures.value)));
     }
 
 pub returns : goal.returns

@@ -6,7 +6,7 @@
  * leaves the next by a job. And records that one thread writes at a completion address by kazovuni_put_record, and
  * another one waits for. valgrind's helgrind and drd watch it, and the thread sanitizer (tests/c_regions.sh).
  *
- * Usage: regions_threads ROUNDS [handle | region | atomic | relaxed | record | early]   handle: two threads have one
+ * Usage: threads ROUNDS [handle | region | atomic | relaxed | record | early]   handle: two threads have one
  * handle with no lock between them; region: two of them have the same page; relaxed: the atomic orders nothing; early:
  * a record is written with no order among its bytes. Each of these has to be reported. atomic: the round by the atomic
  * alone; record: the records alone. helgrind and drd do not know atomics, and so are shown neither.
@@ -307,7 +307,7 @@ int main(int count, char **words)
     unsigned long wrong = run_way(parts, way);
     free(pages);
     bool has_race = has_handle_race || has_region_race || has_relaxed_race || has_early_race;
-    printf("regions_threads: %d threads, %lu rounds, %s\n", THREADS, rounds,
+    printf("threads: %d threads, %lu rounds, %s\n", THREADS, rounds,
            has_race ? "with a race" : wrong == 0 ? "all as alone" : "and some are wrong");
     return has_race || wrong == 0 ? 0 : 1;
 }

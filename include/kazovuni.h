@@ -14,8 +14,8 @@
  * whatever the job touches, and no other thread, process or device may touch any of it meanwhile. Over buffers of the
  * caller's that is a job's own written ranges alone; over whole pages it is all of their bytes, which have to be
  * writable, for a compare too. A descriptor in memory that others can write is to be copied first: some calls read it
- * twice. A handle may be handed to another thread: one call at a time is made with it, and a lock, a thread's start or
- * join, or a sequentially consistent atomic stands between the calls of two threads.
+ * more than once. A handle may be handed to another thread: one call at a time is made with it, and a lock, a thread's
+ * start or join, or a sequentially consistent atomic stands between the calls of two threads.
  *
  * Descriptors, records and the bytes that jobs work on need no alignment but what a job's rules ask of its addresses.
  * The completion address of a descriptor is read past: its record goes where the call is told.

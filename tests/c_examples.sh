@@ -172,6 +172,7 @@ cat >"$work/left" <<'END'
 memcmp(to, from, 5000) == 0
 records[1][0] == 0x01 && memcmp(to, pool + 100, 500) == 0
 memcmp(replica, pool + 100, 5000) == 0
+memcmp(replica, pool, 8192) == 0
 memcmp(pool + 40000, pool + 100, 5000) == 0
 END
 

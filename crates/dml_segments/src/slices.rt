@@ -6,9 +6,6 @@ ghost use Rattle.dml_segments.specs.Copied.{IsOneCopy};
 /// The most bytes that are copied at once where two ranges overlap: they are held between reading and writing.
 pub const SHORT: usize = 256;
 
-/// Up to so many overlapping bytes are held in so many zeros, more of them in [`SHORT`].
-const LINE: usize = 64;
-
 // The bytes of a pattern.
 pub const WORD_SIZE: usize = 8;
 
@@ -36,10 +33,6 @@ pub fn copy_at(content: &mut [u8], from: usize, to: usize, len: usize)
         front[to..to + len].copy_from_slice(&behind[..len]);
     } else if len == SHORT {
         copy_short(content, from, to);
-    } else if len <= LINE {
-        let mut line = [0; LINE];
-        line[..len].copy_from_slice(&content[from..from + len]);
-        content[to..to + len].copy_from_slice(&line[..len]);
     } else {
         let mut held = [0; SHORT];
         held[..len].copy_from_slice(&content[from..from + len]);

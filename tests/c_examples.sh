@@ -174,6 +174,7 @@ records[1][0] == 0x01 && memcmp(to, pool + 100, 500) == 0
 memcmp(replica, pool + 100, 5000) == 0
 memcmp(replica, pool, 8192) == 0
 memcmp(pool + 40000, pool + 100, 5000) == 0
+memcmp(pool + 40000, pool + 100, 5000) == 0 && memcmp(pool + 60000, pool + 100, 5000) == 0
 END
 
 # Cuts them out of the page: each block that is indented, and declares something of a type of kazovuni.h.

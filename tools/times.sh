@@ -1,6 +1,7 @@
 #!/bin/sh
 # Times of each crate `rt check`, `rt test` and `rt must-fail CRATE`, each whole and one after another, outside the gate.
-# Usage: tools/times.sh [CRATE..]; with none, all crates, in the order of crates.txt.
+# Usage: tools/times.sh [CRATE..]; with none, all crates, in the order of crates.txt. With `ONLY='test must-fail'` it
+# runs these commands alone.
 #
 # The figures are from nothing only in a fresh clone, on a machine on which no check ran before and with nothing beside
 # it: rt begins with what earlier checks there kept. A crate behind which another one stands has that one's work done.
@@ -26,13 +27,20 @@ timed() {
     }' "$work/spent" | tee -a "$work/lines"
 }
 
+# wanted COMMAND: whether a command is to be timed
+wanted() {
+    case " ${ONLY:-check test must-fail} " in *" $1 "*) ;; *) return 1 ;; esac
+}
+
 printf '%-20s %-28s %6s %8s %8s %s\n' crate command clock user system status
 for crate in ${*:-$(sed -n 's/^\([a-z_0-9]*\)[ :].*/\1/p' crates.txt)}; do
-    timed "$crate" "crates/$crate" rt check
-    if grep -rq '^ *#\[test\]' "crates/$crate/src"; then
+    if wanted check; then
+        timed "$crate" "crates/$crate" rt check
+    fi
+    if wanted test && grep -rq '^ *#\[test\]' "crates/$crate/src"; then
         timed "$crate" "crates/$crate" rt test
     fi
-    if ls "crates/$crate"/must-fail/*.edit >"$work/edits" 2>&1; then
+    if wanted must-fail && ls "crates/$crate"/must-fail/*.edit >"$work/edits" 2>&1; then
         timed "$crate" . rt must-fail "$crate"
     fi
 done

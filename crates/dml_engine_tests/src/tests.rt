@@ -13,6 +13,7 @@ mod operations;
 mod pieces;
 mod refusals;
 mod resuming;
+mod resuming_segments;
 mod rows;
 mod segments;
 

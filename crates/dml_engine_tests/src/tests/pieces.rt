@@ -66,7 +66,7 @@ const LEFT: [(u64, &[u8]); 6] = [
 ];
 
 /// Expects bytes of the caller's memory.
-fn expect_content(rt: &impl Abort, content: &[u8], left: &[(u64, &[u8])]) {
+pub(super) fn expect_content(rt: &impl Abort, content: &[u8], left: &[(u64, &[u8])]) {
     for (addr, bytes) in left {
         for (at, byte) in (*addr..u64::MAX).zip(*bytes) {
             assert_eq!(rt; content.get(at as usize), Some(byte), "byte {at}");

@@ -1,7 +1,10 @@
 //! Jobs that a page fault stops: submitted, the page brought, and the rest submitted, at many settings with the same
-//! answers. Beside each goes the whole job with the page there from the start. The expected values are the profile's.
+//! answers. Beside each goes the whole job with the page there from the start, and the same over memory in segments. The
+//! expected values are the profile's.
 
 use super::claims::{same, same_for};
+use super::pieces::expect_content;
+use super::resuming_segments::{engine_of_holes, go_on_over_segments, on_demand_over_segments};
 use super::rows::{expect_bytes, settings, with_given};
 use super::{USUAL, answer, engine_with, expect_at, full_image, page_of};
 use dml_desc::rest;
@@ -15,20 +18,20 @@ use std::thread::Threads;
 
 /// A job that a page fault stops, and what is left of it once the page is there.
 #[derive(Clone, Copy)]
-struct Row<'a> {
-    pages: u32,
+pub(super) struct Row<'a> {
+    pub pages: u32,
     /// The pages that are present, with the bytes that each begins with; all others are 0.
-    present: &'a [(u32, &'a [u8])],
-    job: Job,
-    stopped: Record,
+    pub present: &'a [(u32, &'a [u8])],
+    pub job: Job,
+    pub stopped: Record,
     /// The page that is brought then, with the bytes that it begins with.
-    brought: (u32, &'a [u8]),
-    left: Job,
-    resumed: Record,
+    pub brought: (u32, &'a [u8]),
+    pub left: Job,
+    pub resumed: Record,
     /// The record of the whole job where the page was there from the start.
-    whole: Record,
+    pub whole: Record,
     /// Bytes that both leave, from an address on.
-    shown: (u64, &'a [u8]),
+    pub shown: (u64, &'a [u8]),
 }
 
 /// An engine over an image of so many pages, with those that are present.
@@ -84,6 +87,14 @@ fn expect_left(rt: &impl Abort, row: &Row, parts: &Image, whole: &Image) {
     expect_bytes(rt, "what both leave", parts, row.shown.0, row.shown.1);
 }
 
+/// The caller's memory has the bytes of an image of its own, and 0 where a page is absent.
+fn expect_as_own(rt: &impl Abort, job: Job, own: &Image, content: &[u8]) {
+    for (addr, byte) in (0..u64::MAX).zip(content) {
+        let there = own.byte(addr).unwrap_or(0);
+        assert_eq!(rt; *byte, there, "{job:?} at {addr} of a segment");
+    }
+}
+
 /// Cites the law on resuming, which says what the row's job and its rest do; it does nothing.
 fn cite_law(engine: &Engine, row: &Row) {
     engine.law_resume(&row.job, row.brought.0, &page_of(row.brought.1));
@@ -105,6 +116,9 @@ fn expect_with<R: Abort + Threads + Wait + Sync>(
     go_on(rt, alloc, row, &mut parts);
     go_at_once(rt, alloc, row, &mut whole);
     expect_left(rt, row, parts.image(), whole.image());
+    let content = go_on_over_segments(rt, alloc, row, settings, given);
+    expect_as_own(rt, row.job, parts.image(), &content);
+    expect_content(rt, &content, &[row.shown]);
 }
 
 /// Expects a row's answers at all settings, with the engine's own gate and with one given.
@@ -275,6 +289,8 @@ fn every_page_absent(rt: HostRuntime) {
         for given in [false, true] {
             let engine = engine_of(rt.alloc(), 4096, &[], settings).expect(&rt, "no memory");
             expect_absent(&rt, rt.alloc(), &mut with_given(engine, given));
+            let holes = engine_of_holes(&rt, rt.alloc(), 4096, settings);
+            expect_absent(&rt, rt.alloc(), &mut with_given(holes, given));
         }
     }
 }
@@ -390,6 +406,11 @@ fn expect_on_demand_with<R: Abort + Threads + Wait + Sync>(
     let mut whole = engine_of_four(alloc, settings, true, given).expect(rt, "no memory");
     expect_parts(rt, alloc, &mut parts, &mut whole, job, records);
     expect_at(rt, &parts, shown);
+    let content = on_demand_over_segments(rt, alloc, job, records, settings, given);
+    expect_as_own(rt, job, parts.image(), &content);
+    for (addr, byte) in shown {
+        same_for(rt, job, content.get(*addr as usize), Some(byte));
+    }
 }
 
 /// The same at all settings, with the engine's own gate and with one given.

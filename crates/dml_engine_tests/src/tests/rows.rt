@@ -1,5 +1,6 @@
 //! Rows: an image, jobs on it, what they answer and what they leave. Each is submitted as a list and as a batch, at
 //! many settings, all with the same answers.
+ghost use Rattle.std.specs.Prelude.{◌≡◌};
 
 use super::claims::same_in;
 use super::kinds::everywhere;
@@ -165,7 +166,9 @@ pub(super) fn engine_of(
 }
 
 /// The engine with its own gate, or with one given.
-pub(super) fn with_given(engine: EngineOver<'_>, given: bool) -> EngineOver<'_> {
+pub(super) fn with_given(engine: EngineOver<'_>, given: bool) -> EngineOver<'_>
+    ensures image { result.image ≡ engine.entry.image }
+{
     if given {
         engine.with_gate(Free)
     } else {

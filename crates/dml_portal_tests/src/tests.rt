@@ -8,6 +8,7 @@ mod entering;
 mod gates;
 mod given_back;
 mod growths;
+mod kinds;
 mod lent;
 mod parts;
 mod portals;
@@ -33,10 +34,16 @@ use std::process::Abort;
 use std::sync::Wait;
 use std::thread::Threads;
 
-/// An engine over an image of one page, which is present.
-fn engine(alloc: Global) -> Option<Engine> {
+/// An image of one page of zeros, which is present.
+fn page_of_zeros(alloc: Global) -> Option<Image<'static>> {
     let mut image = Image::new(alloc, 1).ok()?;
     image.bring(0, &[0; 4096]).ok()?;
+    Some(image)
+}
+
+/// An engine over it.
+fn engine(alloc: Global) -> Option<Engine> {
+    let image = page_of_zeros(alloc)?;
     let settings = Settings {
         staging: 1 << 20,
         chunk: 4096,

@@ -2,17 +2,21 @@
 ghost use Rattle.std.specs.Prelude.{◌≡◌};
 
 use super::claims::same;
+use super::kinds::Kind;
+use super::lent::{SETTINGS, expect_left};
 use super::portals::One;
 use super::stays::Stay;
 use super::{done, expect_bytes};
 use dml_desc::rest;
-use dml_engine::Engine;
+use dml_engine::{Engine, EngineOver};
 use dml_image::{Image, ImageError};
 use dml_pool::Free;
 use dml_portal::{LongServer, ServerOver};
 use dml_types::{Direction, Job, Record, Settings, Status};
 use std::alloc::Global;
 use std::process::Abort;
+use std::sync::Wait;
+use std::thread::Threads;
 
 /// An engine over an image of two pages, of which the second is absent.
 fn engine_of_two(alloc: Global) -> Option<Engine> {
@@ -109,7 +113,18 @@ fn write_bytes(rt: &impl Abort, server: &mut ServerOver<'_, Free>)
 /// The bytes that they leave once a client has moved them.
 const MOVED: [(u64, u8); 5] = [(8, 1), (10, 3), (16, 1), (18, 3), (19, 0)];
 
+/// The same at the front of the page, behind which all are 0.
+const LEFT: [u8; 19] = [0, 0, 0, 0, 0, 0, 0, 0, 1, 2, 3, 0, 0, 0, 0, 0, 1, 2, 3];
+
 /// Three bytes are written between rounds, and the next round finds them.
+fn expect_written<R: Abort + Threads + Wait + Sync>(rt: &R, alloc: Global, portal: One<'_>) {
+    let mut portal = portal;
+    write_bytes(rt, &mut portal.server);
+    portal.submit_all(rt, &[Job::move_bytes(8, 16, 3)]);
+    portal.expect_served(rt, alloc, 1);
+    expect_bytes(rt, portal.image(), &MOVED);
+}
+
 #[test]
 fn bytes_written(rt: HostRuntime) {
     let engine = engine_of_two(rt.alloc()).expect(&rt, "no memory");
@@ -121,10 +136,27 @@ fn bytes_written(rt: HostRuntime) {
         portal.bring(2, &[0; 4096]),
         Err(ImageError::NoSuchPage),
     );
-    write_bytes(&rt, &mut portal.server);
-    portal.submit_all(&rt, &[Job::move_bytes(8, 16, 3)]);
-    portal.expect_served(&rt, rt.alloc(), 1);
-    expect_bytes(&rt, portal.image(), &MOVED);
+    expect_written(&rt, rt.alloc(), portal);
+}
+
+/// The same over memory of a kind, which is lent.
+fn expect_written_over<R: Abort + Threads + Wait + Sync>(rt: &R, alloc: Global, kind: Kind) {
+    let mut content = [0; 8192];
+    let image = kind.image(rt, alloc, &mut content);
+    let engine = EngineOver::new(alloc, image, SETTINGS).ok();
+    let portal = One::over(alloc, engine.expect(rt, "no memory"), 4);
+    let portal = portal.expect(rt, "no memory");
+    same(rt, portal.settings(), SETTINGS);
+    expect_written(rt, alloc, portal);
+    expect_left(rt, &content, &LEFT);
+}
+
+/// What is written stands in the caller's memory, and so does what a client moves of it.
+#[test]
+fn bytes_written_over_lent_memory(rt: HostRuntime) {
+    for kind in Kind::LENT {
+        expect_written_over(&rt, rt.alloc(), kind);
+    }
 }
 
 /// Writes them into that of a server that stays up.

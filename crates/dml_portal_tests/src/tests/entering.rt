@@ -2,9 +2,10 @@
 
 use super::done;
 use super::gates::gated;
+use super::kinds::Kind;
 use super::steps::{expect_polled, expect_served, submit_all};
 use dml_pool::Gate;
-use dml_portal::{Seat, Server};
+use dml_portal::{Seat, ServerOver};
 use dml_types::Job;
 use std::alloc::Global;
 use std::process::Abort;
@@ -57,7 +58,7 @@ impl<'c> Gate for Counting<'c> {
 fn expect_rounds<R: Abort + Threads + Wait + Sync, G: Gate + Sync + Drop>(
     rt: &R,
     alloc: Global,
-    server: Server<G>,
+    server: ServerOver<'_, G>,
     seat: Seat,
 ) {
     let mut server = server;
@@ -82,19 +83,45 @@ fn expect_rounds<R: Abort + Threads + Wait + Sync, G: Gate + Sync + Drop>(
     expect_served(rt, alloc, &mut server, 128);
 }
 
+/// What they leave at the front of a page of zeros.
+fn left() -> [u8; 137] {
+    let mut left = [0; 137];
+    left[0] = 1;
+    left[8] = 1;
+    left[64] = 2;
+    left[128] = 1;
+    left[136] = 1;
+    left
+}
+
+/// Expects the rounds over memory of a kind, with so many workers.
+fn expect_entered<R: Abort + Threads + Wait + Sync>(
+    rt: &R,
+    alloc: Global,
+    kind: Kind,
+    workers: u32,
+) {
+    let counts = Counts::new();
+    let gate = Counting { counts: &counts };
+    let mut content = [0; 8192];
+    let image = kind.image(rt, alloc, &mut content);
+    let (server, seat) = gated(alloc, image, workers, gate, 128).expect(rt, "no memory");
+    expect_rounds(rt, alloc, server, seat);
+    assert_eq!(rt;
+        counts.both(),
+        (0x1111_1111_1111_1245, 112),
+        "{workers} workers: {kind:?}"
+    );
+    kind.expect_left(rt, &content, &left());
+}
+
 /// The first task of a wave entered in five waves, the second in four, the third in two, and each other one of the first
 /// sixteen in one, in which there are 112 more.
 #[test]
 fn tasks_of_rounds_enter_once(rt: HostRuntime) {
     for workers in [1, 2, 16] {
-        let counts = Counts::new();
-        let gate = Counting { counts: &counts };
-        let (server, seat) = gated(rt.alloc(), workers, gate, 128).expect(&rt, "no memory");
-        expect_rounds(&rt, rt.alloc(), server, seat);
-        assert_eq!(rt;
-            counts.both(),
-            (0x1111_1111_1111_1245, 112),
-            "{workers} workers"
-        );
+        for kind in Kind::ALL {
+            expect_entered(&rt, rt.alloc(), kind, workers);
+        }
     }
 }

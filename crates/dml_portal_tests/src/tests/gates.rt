@@ -1,11 +1,12 @@
 //! Rounds whose tasks are held.
 
 use super::done;
+use super::kinds::Kind;
 use super::steps::{expect_polled, expect_served, submit_all};
-use dml_engine::Engine;
+use dml_engine::EngineOver;
 use dml_image::Image;
 use dml_pool::Gate;
-use dml_portal::{Portal, PortalError, Seat, Server};
+use dml_portal::{Portal, PortalError, Seat, ServerOver};
 use dml_types::{Job, Record, Settings};
 use std::alloc::Global;
 use std::process::Abort;
@@ -69,27 +70,26 @@ impl<'c, C: Clock> Gate for Meeting<'c, C> {
     }
 }
 
-/// An engine over a page of zeros whose jobs are cut in chunks of 8 bytes.
-fn engine_of_eight(alloc: Global, workers: u32) -> Option<Engine> {
-    let mut image = Image::new(alloc, 1).ok()?;
-    image.bring(0, &[0; 4096]).ok()?;
+/// An engine over an image whose jobs are cut in chunks of 8 bytes.
+fn engine_of_eight<'a>(alloc: Global, image: Image<'a>, workers: u32) -> Option<EngineOver<'a>> {
     let settings = Settings {
         staging: 1 << 20,
         chunk: 8,
         workers,
     };
-    Engine::new(alloc, image, settings).ok()
+    EngineOver::new(alloc, image, settings).ok()
 }
 
-/// The server of a portal whose lists all go through this gate, and the seat of its one client, with rings for so many
-/// items.
-pub(super) fn gated<G: Gate + Drop>(
+/// The server of a portal over an image, whose lists all go through this gate, and the seat of its one client, with
+/// rings for so many items.
+pub(super) fn gated<'a, G: Gate + Drop>(
     alloc: Global,
+    image: Image<'a>,
     workers: u32,
     gate: G,
     capacity: u32,
-) -> Option<(Server<G>, Seat)> {
-    let engine = engine_of_eight(alloc, workers)?.with_gate(gate);
+) -> Option<(ServerOver<'a, G>, Seat)> {
+    let engine = engine_of_eight(alloc, image, workers)?.with_gate(gate);
     let Ok((server, mut seats)) = Portal::open(alloc, engine, 1, capacity) else {
         return None;
     };
@@ -102,11 +102,20 @@ fn two_fills() -> [Job; 2] {
     [Job::fill(1, 0, 16), Job::fill(2, 64, 8)]
 }
 
+/// What they leave at the front of a page of zeros.
+fn filled() -> [u8; 65] {
+    let mut filled = [0; 65];
+    filled[0] = 1;
+    filled[8] = 1;
+    filled[64] = 2;
+    filled
+}
+
 /// A round carries out two jobs of the client.
 fn expect_fills<R: Abort + Threads + Wait + Sync, G: Gate + Sync + Drop>(
     rt: &R,
     alloc: Global,
-    server: Server<G>,
+    server: ServerOver<'_, G>,
     seat: Seat,
 ) {
     let mut server = server;
@@ -116,18 +125,33 @@ fn expect_fills<R: Abort + Threads + Wait + Sync, G: Gate + Sync + Drop>(
     expect_polled(rt, &mut seat, &[done(16), done(8)]);
 }
 
+/// Expects a round over memory of a kind, whose tasks enter at once.
+fn expect_at_once<R: Abort + Clock + Threads + Wait + Sync>(
+    rt: &R,
+    alloc: Global,
+    kind: Kind,
+    turn: u32,
+) {
+    let counts = Counts::new();
+    let gate = Meeting {
+        clock: rt,
+        counts: &counts,
+    };
+    let mut content = [0; 8192];
+    let image = kind.image(rt, alloc, &mut content);
+    let (server, seat) = gated(alloc, image, 3, gate, 2).expect(rt, "no memory");
+    expect_fills(rt, alloc, server, seat);
+    assert_eq!(rt; counts.both(), (ALL_ONCE, 0), "turn {turn}: {kind:?}");
+    kind.expect_left(rt, &content, &filled());
+}
+
 /// The tasks of a round enter at once.
 #[test]
 fn every_submit_runs_at_once(rt: HostRuntime) {
     for turn in 0..10 {
-        let counts = Counts::new();
-        let gate = Meeting {
-            clock: &rt,
-            counts: &counts,
-        };
-        let (server, seat) = gated(rt.alloc(), 3, gate, 2).expect(&rt, "no memory");
-        expect_fills(&rt, rt.alloc(), server, seat);
-        assert_eq!(rt; counts.both(), (ALL_ONCE, 0), "turn {turn}");
+        for kind in Kind::ALL {
+            expect_at_once(&rt, rt.alloc(), kind, turn);
+        }
     }
 }
 
@@ -167,7 +191,7 @@ fn polled_once<C: Clock>(clock: &C, seat: Seat, counts: &Counts) -> Option<Recor
 fn served_once<R: Threads + Wait + Sync, G: Gate + Sync + Drop>(
     rt: &R,
     alloc: Global,
-    server: Server<G>,
+    server: ServerOver<'_, G>,
 ) -> Result<usize, PortalError> {
     let mut server = server;
     server.serve_round(rt, alloc)
@@ -177,7 +201,7 @@ fn served_once<R: Threads + Wait + Sync, G: Gate + Sync + Drop>(
 fn polled_while_served<R: Threads + Wait + Sync + Clock, G: Gate + Sync + Drop>(
     rt: &R,
     alloc: Global,
-    server: Server<G>,
+    server: ServerOver<'_, G>,
     seat: Seat,
     counts: &Counts,
 ) -> (Option<Record>, Result<usize, PortalError>) {
@@ -192,7 +216,7 @@ fn polled_while_served<R: Threads + Wait + Sync + Clock, G: Gate + Sync + Drop>(
 fn fill_rings<R: Abort + Threads + Wait + Sync, G: Gate + Sync>(
     rt: &R,
     alloc: Global,
-    server: &mut Server<G>,
+    server: &mut ServerOver<'_, G>,
     seat: &mut Seat,
 ) {
     for _ in 0..2 {
@@ -203,19 +227,34 @@ fn fill_rings<R: Abort + Threads + Wait + Sync, G: Gate + Sync>(
     submit_all(rt, seat, &two_fills());
 }
 
+/// Expects a round over memory of a kind, whose tasks are held until a record that waited is polled.
+fn expect_pushed<R: Abort + Clock + Threads + Wait + Sync>(
+    rt: &R,
+    alloc: Global,
+    kind: Kind,
+    turn: u32,
+) {
+    let counts = Counts::new();
+    let gate = Held {
+        clock: rt,
+        counts: &counts,
+    };
+    let mut content = [0; 8192];
+    let image = kind.image(rt, alloc, &mut content);
+    let (mut server, mut seat) = gated(alloc, image, 3, gate, 2).expect(rt, "no memory");
+    fill_rings(rt, alloc, &mut server, &mut seat);
+    let answers = polled_while_served(rt, alloc, server, seat, &counts);
+    let wanted = ((Some(done(0)), Ok(2)), (1, 0));
+    assert_eq!(rt; (answers, counts.both()), wanted, "turn {turn}: {kind:?}");
+    kind.expect_left(rt, &content, &filled());
+}
+
 /// A round pushes the records that wait before its own jobs are carried out.
 #[test]
 fn pushed_before_tasks(rt: HostRuntime) {
     for turn in 0..10 {
-        let counts = Counts::new();
-        let gate = Held {
-            clock: &rt,
-            counts: &counts,
-        };
-        let (mut server, mut seat) = gated(rt.alloc(), 3, gate, 2).expect(&rt, "no memory");
-        fill_rings(&rt, rt.alloc(), &mut server, &mut seat);
-        let answers = polled_while_served(&rt, rt.alloc(), server, seat, &counts);
-        let wanted = ((Some(done(0)), Ok(2)), (1, 0));
-        assert_eq!(rt; (answers, counts.both()), wanted, "turn {turn}");
+        for kind in Kind::ALL {
+            expect_pushed(&rt, rt.alloc(), kind, turn);
+        }
     }
 }

@@ -365,18 +365,19 @@ fn four_workers_over_one_piece(rt: HostRuntime) {
     expect_left(&rt, &content, &[]);
 }
 
-/// A server that stays up over an image of two pages, the second of which is absent and lent, brings no page, and a
+/// A server that stays up over an image that a caller lends, whose second page is absent, brings no such page, and a
 /// client's job faults on it.
 pub(super) fn expect_stays_up<R: Abort + Threads + Wait + Sync>(
     rt: &R,
     alloc: Global,
     image: Image<'_>,
+    refused: ImageError,
 ) {
     let engine = EngineOver::new(alloc, image, SETTINGS).ok();
     let portal = One::over(alloc, engine.expect(rt, "no memory"), 4).expect(rt, "no memory");
     let One { server, mut seat } = portal;
     let mut server = server.stay_up(4).ok().expect(rt, "no memory");
-    same(rt, server.bring(1, &[0; 4096]), Err(ImageError::NoMemory));
+    same(rt, server.bring(1, &[0; 4096]), Err(refused));
     submit_all(rt, &mut seat, &[Job::fill(7, 4092, 8)]);
     same(rt, serve_long(rt, alloc, &mut server), Ok(1));
     let fault = Record {
@@ -394,7 +395,18 @@ fn stays_up_over_lent_memory(rt: HostRuntime) {
     let mut content = [0; 8192];
     let mut lent = Lent::new(&[true, false], &mut content);
     assert!(rt; lent.is_memory());
-    expect_stays_up(&rt, rt.alloc(), lent.take());
+    expect_stays_up(&rt, rt.alloc(), lent.take(), ImageError::NoMemory);
     drop(lent);
     same(&rt, (content[4092], content[4096]), (7, 0));
+}
+
+/// The same in one piece, which ends where the job faults.
+#[test]
+fn stays_up_over_one_piece(rt: HostRuntime) {
+    let mut content = [0; 4096];
+    let mut whole = Whole::new(&mut content);
+    assert!(rt; whole.is_memory());
+    expect_stays_up(&rt, rt.alloc(), whole.take(), ImageError::NoSuchPage);
+    drop(whole);
+    same(&rt, content[4092], 7);
 }

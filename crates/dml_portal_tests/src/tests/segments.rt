@@ -7,14 +7,14 @@ use super::lent::{
     expect_row_of_two, expect_served, expect_stays_up, pages_of_zeros,
 };
 use super::rounds::LEFT;
-use dml_image::{Image, Segment, are_segments};
+use dml_image::{Image, ImageError, Segment, are_segments};
 use std::alloc::Global;
 use std::process::Abort;
 use std::sync::Wait;
 use std::thread::Threads;
 
 /// A memory of two segments that begin at these pages.
-fn memory<'a>(
+pub(super) fn memory<'a>(
     rt: &impl Abort,
     alloc: Global,
     low: (u32, &'a mut [u8]),
@@ -135,6 +135,6 @@ fn four_workers_over_segments(rt: HostRuntime) {
 fn stays_up_over_segments(rt: HostRuntime) {
     let (mut low, mut high) = ([0; 4096], [0; 4096]);
     let image = memory(&rt, rt.alloc(), (0, &mut low), (2, &mut high));
-    expect_stays_up(&rt, rt.alloc(), image);
+    expect_stays_up(&rt, rt.alloc(), image, ImageError::NoMemory);
     same(&rt, (low[4091], low[4092], high[0]), (0, 7, 0));
 }

@@ -91,7 +91,7 @@ fn expect_left(rt: &impl Abort, row: &Row, parts: &Image, whole: &Image) {
 fn expect_as_own(rt: &impl Abort, job: Job, own: &Image, content: &[u8]) {
     for (addr, byte) in (0..u64::MAX).zip(content) {
         let there = own.byte(addr).unwrap_or(0);
-        assert_eq!(rt; *byte, there, "{job:?} at {addr} of a segment");
+        assert_eq!(rt; *byte, there, "{job:?} at {addr} over segments");
     }
 }
 

@@ -180,6 +180,8 @@ impl Table {
 
     /// Copies `len` bytes from one address on to another, each of them up to the end of the page at most. Ranges that
     /// overlap are short.
+    // It is put into each caller: a short copy costs less than a call.
+    #[inline(always)]
     pub fn copy_part(&mut self, from: u64, to: u64, len: usize)
         requires present { IsTrue (has self.old from) × IsTrue (has self.old to) }
         requires within { (from % 4096 + len ≤ 4096) × (to % 4096 + len ≤ 4096) }

@@ -31,25 +31,11 @@ pub fn copy_at(content: &mut [u8], from: usize, to: usize, len: usize)
     } else if to + len <= from {
         let (front, behind) = content.split_at_mut(from);
         front[to..to + len].copy_from_slice(&behind[..len]);
-    } else if len == SHORT {
-        copy_short(content, from, to);
     } else {
         let mut held = [0; SHORT];
         held[..len].copy_from_slice(&content[from..from + len]);
         content[to..to + len].copy_from_slice(&held[..len]);
     }
-}
-
-/// Copies [`SHORT`] bytes of a slice from one place to another. Their number is known, so what they are held in needs
-/// no zeros first.
-#[tactic(auto, using(crate::proofs::SliceLemmas::put_mid_overwrite))]
-fn copy_short(content: &mut [u8], from: usize, to: usize)
-    requires { (from + 256 ≤ length content.old) × (to + 256 ≤ length content.old) }
-    ensures { content.new ≡ overwrite content.old to (slice_range content.old from (from + 256)) }
-{
-    let mut held = [0; SHORT];
-    held.copy_from_slice(&content[from..from + SHORT]);
-    content[to..to + SHORT].copy_from_slice(&held);
 }
 
 /// How many bytes are copied at once from one address on to another, `most` at most.

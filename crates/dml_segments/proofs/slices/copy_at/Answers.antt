@@ -11,7 +11,7 @@ returns-then-to-len c =
     copied_front _ _ _ _ _ _ _ c.split_at_mut-front-then-to-len.ensures.front c.split_at_mut-front-then-to-len.ensures.back
     c.copy_from_slice-then-to-len.ensures.after c.if-to-len.true c.requires.within.0
 
-pub returns-else-len-eq-SHORT : goal.returns-else-len-eq-SHORT
-returns-else-len-eq-SHORT c =
-    copied_held _ _ _ _ c.args.from _ _ c.copy_from_slice-else-len-eq-SHORT.ensures.after c.copy_from_slice-else-len-eq-SHORT-2.ensures.after
+pub returns-else-to-len : goal.returns-else-to-len
+returns-else-to-len c =
+    copied_held _ _ _ _ c.args.from _ _ c.copy_from_slice-else-to-len.ensures.after c.copy_from_slice-else-to-len-2.ensures.after
     c.requires.within.0 c.requires.within.1

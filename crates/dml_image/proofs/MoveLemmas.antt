@@ -89,11 +89,6 @@ pub down_start : (old : Memory) (source target len : ℕ) → old ≡ put old (t
 down_start old source target len =
     sym (ap (put old (target + len)) (bytes_at_none old (source + len) (len - len) (omega arith)) ∙ put_nil old (target + len))
 
-pub down_end : (old now : Memory) (source target len rest : ℕ) → now ≡ put old (target + rest) (bytes_at old (source + rest) (len - rest)) → rest ≡ 0 → now ≡ put old target (bytes_at old source len)
-down_end old now source target len rest is none =
-    is ∙ (ap (λ r. put old (target + r) (bytes_at old (source + r) (len - r))) none
-    ∙ (ap (λ a. put old a (bytes_at old (source + 0) (len - 0))) (omega arith) ∙ ap₂ (λ a n. put old target (bytes_at old a n)) (omega arith) (omega arith)))
-
 pub first_present : (memory : Memory) (address n : ℕ) → has_all memory address n ≡ true → 0 < n → has memory address ≡ true
 first_present memory address n all some = ap (has memory) (omega arith) ∙ has_all_at memory address n 0 all some
 

@@ -2,6 +2,7 @@
 use Rattle.std.proofs.Common.{◌≡◌, ℕ, zero, suc, ◌+◌, ◌-◌, ◌*◌, ◌/◌, ◌%◌, ◌<◌, ◌≤◌, Bool, true, false, List, [], ◌∷◌, ◌++◌, Option, Some, None, flat_map, is_some, length, map, get_or, replicate, set, take, drop, rules, refl, sym, ◌∙◌, ap, ap₂, arith, ⊎_elim}
 use Rattle.std.proofs.lemmas.List.{places, same_lists, map-set, get_or_past, get_or-set_same, length-map, length-replicate, length-set}
 use Rattle.std.proofs.Math.Seq.{map-set_same}
+use Rattle.std.specs.List.{FoldsTo}
 use Rattle.std.proofs.lemmas.Bool.{cases_lt, false≢true}
 use Rattle.dml_types.specs.Memory.{Memory, Put, has, memory_of, bytes_at, overwrite, put, puts_made}
 use Rattle.dml_types.proofs.MemoryLemmas.{length_overwrite}
@@ -270,6 +271,21 @@ none_present n = ap₂ (λ (present : List Bool) (items : List ℕ). own_memory 
 pub none_whole : (n : ℕ) → AreWhole (all_none n)
 none_whole zero = tt
 none_whole (suc n) = (length-replicate {A = ℕ} 4096 0, none_whole n)
+
+-- what calls that make no page give, one after another
+pub none_made : {F : Type 0} (step : F → Option (List ℕ) → F → Type 0) → ((before : F) (page : Option (List ℕ)) (after : F) → step before page after → page ≡ None) → (first last : F) (pages : List (Option (List ℕ))) → FoldsTo step first pages last → pages ≡ all_none (length pages)
+none_made step none first last [] made = refl
+none_made step none first last (page ∷ pages) made =
+    ap₂ (λ (p : Option (List ℕ)) (rest : List (Option (List ℕ))). p ∷ rest) (none first page made.0 made.1) (none_made step none made.0 last pages made.2)
+
+pub all_made : (old new pages : List (Option (List ℕ))) (n : ℕ) → old ≡ [] → new ≡ take n old ++ pages → length new ≡ n → pages ≡ all_none (length pages) → new ≡ all_none n
+all_made old new pages n empty is long none =
+    let only : new ≡ pages = is ∙ (ap (λ (o : List (Option (List ℕ))). take n o ++ pages) empty ∙ ap (λ (o : List (Option (List ℕ))). o ++ pages) (take_none n)) in
+    only ∙ (none ∙ ap all_none (ap length (sym only) ∙ long))
+  where
+    take_none : (n : ℕ) → take {A = Option (List ℕ)} n [] ≡ []
+    take_none zero = refl
+    take_none (suc n) = refl
 
 -- the puts of a table's page
 pub made_in_page : (pages : List (Option (List ℕ))) (now : Memory) (k : ℕ) (old after : List ℕ) (page : Option (List ℕ)) (puts : List Put) → table_memory pages ≡ now → AreWhole pages → k < length pages → page ≡ get_or pages k page → page ≡ Some old → AreInside (4096 * k) 4096 puts → after ≡ after_puts (4096 * k) old puts → table_memory (set pages k (Some after)) ≡ puts_made now puts

@@ -354,8 +354,8 @@ impl Image<'_> {
         self.pages.fill(addr, len, pattern);
     }
 
-    /// The same where the range lies in one page, and that page is present. Answers whether it was done; else nothing is
-    /// changed.
+    /// The same where the range lies in one page, and that page is present. Answers whether it was done; else nothing
+    /// is changed.
     pub fn fill_in_page(&mut self, addr: u64, len: u32, pattern: u64) -> bool
         ensures target { IsTrue result → IsTrue (has_all self.old addr len) }
         ensures bytes { IsTrue result → self.new ≡ put self.old addr (pattern_bytes pattern len) }

@@ -9,6 +9,7 @@ mod images;
 mod lent;
 mod moves;
 mod pages;
+mod parts;
 mod ranges;
 mod runs;
 mod tables;

@@ -1,5 +1,5 @@
 //! Moves of bytes inside an image, whatever ranges overlap, with no stage and no allocation.
-ghost use Rattle.std.specs.Prelude.{◌≡◌, ◌+◌, ◌-◌, ◌<◌, ◌≤◌, ◌⊎◌, IsTrue, ◌&&◌, ◌%◌, false};
+ghost use Rattle.std.specs.Prelude.{◌≡◌, ◌+◌, ◌<◌, ◌≤◌, IsTrue, ◌&&◌, ◌%◌, false};
 ghost use Rattle.dml_types.specs.Memory.{IsMemory, has_all, bytes_at, put, has};
 ghost use Rattle.dml_types.specs.Bytewise.{pattern_bytes};
 ghost use Rattle.dml_segments.specs.Copied.{copied, IsOneCopy};
@@ -7,8 +7,8 @@ ghost use Rattle.dml_image.specs.Copied.{IsCopyIn};
 ghost use Rattle.dml_image.specs.Kept.{kept_by};
 
 use crate::images::Pages;
-use dml_segments::{at_once, begin_of_page, rest_of_page};
-use dml_types::Direction;
+use crate::parts::move_range;
+use dml_segments::{at_once, rest_of_page};
 
 impl Pages<'_> {
     /// Copies the bytes of one range to another; where the two overlap, the bytes as they stood.
@@ -26,7 +26,8 @@ impl Pages<'_> {
         }
     }
 
-    /// The same in parts. It stands apart, so that a move of one part has none of its frame.
+    /// The same in parts. It stands apart, so that a move of one part has none of its frame, and asks once whose pages
+    /// they are.
     #[inline(never)]
     fn move_by_parts(&mut self, source: u64, target: u64, len: u32)
         requires memory { IsMemory (kept_by self.old) }
@@ -34,96 +35,10 @@ impl Pages<'_> {
         requires target { IsTrue (has_all (kept_by self.old) target len) }
         ensures { kept_by self.new ≡ put (kept_by self.old) target (bytes_at (kept_by self.old) source len) }
     {
-        match Direction::of_move(source, target, len) {
-            Direction::Backward => self.move_down(source, target, len as usize),
-            Direction::Forward => self.move_up(source, target, len as usize),
-        }
-    }
-
-    /// Copies from the first byte on.
-    fn move_up(&mut self, source: u64, target: u64, len: usize)
-        requires memory { IsMemory (kept_by self.old) }
-        requires source { IsTrue (has_all (kept_by self.old) source len) }
-        requires target { IsTrue (has_all (kept_by self.old) target len) }
-        requires order { (target ≤ source) ⊎ (source + len ≤ target) }
-        ensures { kept_by self.new ≡ put (kept_by self.old) target (bytes_at (kept_by self.old) source len) }
-    {
-        let mut done = 0;
-        while done < len {
-            let (from, to) = (source + done as u64, target + done as u64);
-            let part = self.copy_behind(from, to, len - done);
-            done += part;
-        }
-    }
-
-    /// Copies from the last byte on.
-    fn move_down(&mut self, source: u64, target: u64, len: usize)
-        requires memory { IsMemory (kept_by self.old) }
-        requires source { IsTrue (has_all (kept_by self.old) source len) }
-        requires target { IsTrue (has_all (kept_by self.old) target len) }
-        requires order { source ≤ target }
-        ensures { kept_by self.new ≡ put (kept_by self.old) target (bytes_at (kept_by self.old) source len) }
-    {
-        let mut left = len;
-        while left > 0 {
-            let part = self.copy_before(source + left as u64, target + left as u64, left);
-            left -= part;
-        }
-    }
-
-    /// Copies bytes from one address on to those from another on, as many as go at once, `most` at most. Returns how
-    /// many.
-    fn copy_behind(&mut self, from: u64, to: u64, most: usize) -> usize
-        requires memory { IsMemory (kept_by self.old) }
-        requires some { 0 < most }
-        requires from { IsTrue (has_all (kept_by self.old) from most) }
-        requires to { IsTrue (has_all (kept_by self.old) to most) }
-        ensures some { 0 < result }
-        ensures most { result ≤ most }
-        ensures copied { kept_by self.new ≡ put (kept_by self.old) to (bytes_at (kept_by self.old) from result) }
-    {
         match self {
-            Pages::Own(table) => {
-                let in_page = rest_of_page(from).min(rest_of_page(to));
-                let part = at_once(from, to, most.min(in_page));
-                table.copy_part(from, to, part);
-                part
-            }
-            Pages::Lent(lent) => {
-                let part = at_once(from, to, most);
-                lent.copy_part(from, to, part);
-                part
-            }
-            Pages::Segments(segments) => segments.copy_behind(from, to, most),
-        }
-    }
-
-    /// Copies bytes before one address to those before another, as many as go at once, `most` at most. Returns how
-    /// many.
-    fn copy_before(&mut self, from: u64, to: u64, most: usize) -> usize
-        requires memory { IsMemory (kept_by self.old) }
-        requires some { 0 < most }
-        requires within { (most ≤ from) × (most ≤ to) }
-        requires from { IsTrue (has_all (kept_by self.old) (from - most) most) }
-        requires to { IsTrue (has_all (kept_by self.old) (to - most) most) }
-        ensures some { 0 < result }
-        ensures most { result ≤ most }
-        ensures copied { kept_by self.new
-            ≡ put (kept_by self.old) (to - result) (bytes_at (kept_by self.old) (from - result) result) }
-    {
-        match self {
-            Pages::Own(table) => {
-                let in_page = begin_of_page(from).min(begin_of_page(to));
-                let part = at_once(from, to, most.min(in_page));
-                table.copy_part(from - part as u64, to - part as u64, part);
-                part
-            }
-            Pages::Lent(lent) => {
-                let part = at_once(from, to, most);
-                lent.copy_part(from - part as u64, to - part as u64, part);
-                part
-            }
-            Pages::Segments(segments) => segments.copy_before(from, to, most),
+            Pages::Own(table) => move_range(table, source, target, len),
+            Pages::Lent(lent) => move_range(lent, source, target, len),
+            Pages::Segments(segments) => move_range(segments, source, target, len),
         }
     }
 

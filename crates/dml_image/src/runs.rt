@@ -24,16 +24,16 @@ pub fn present_upwards(image: &Image, addr: u64, len: u32) -> u32
     ensures within { result ≤ len }
     ensures value { result ≡ present_toward Direction.Forward image.now addr len }
 {
+    let all = u64::from(len);
     let mut done = 0;
-    while done < len {
-        let place = addr + done as u64;
+    while done < all {
+        let place = addr + done;
         if !image.has(place) {
-            return done;
+            return done as u32;
         }
-        let of_page = PAGE_SIZE as u32 - (place % PAGE_SIZE as u64) as u32;
-        done += of_page.min(len - done);
+        done += PAGE_SIZE as u64 - place % PAGE_SIZE as u64;
     }
-    done
+    len
 }
 
 /// How many of `len` bytes come before the first absent one downwards, from the last byte on.
@@ -44,14 +44,14 @@ pub fn present_downwards(image: &Image, addr: u64, len: u32) -> u32
     ensures within { result ≤ len }
     ensures value { result ≡ present_toward Direction.Backward image.now addr len }
 {
+    let all = u64::from(len);
     let mut done = 0;
-    while done < len {
-        let place = addr + (len - 1 - done) as u64;
+    while done < all {
+        let place = addr + (all - 1 - done);
         if !image.has(place) {
-            return done;
+            return done as u32;
         }
-        let of_page = (place % PAGE_SIZE as u64) as u32 + 1;
-        done += of_page.min(len - done);
+        done += place % PAGE_SIZE as u64 + 1;
     }
-    done
+    len
 }

@@ -37,9 +37,7 @@ impl Table {
         ensures { IfOk result (λ table. table ≡ all_absent pages) }
     {
         let mut table = Vec::with_capacity(alloc, pages)?;
-        for _ in 0..pages {
-            table.push(None)?;
-        }
+        table.resize_with(pages, || None)?;
         Ok(Table {
             alloc,
             pages: table,

@@ -1,6 +1,6 @@
 //! How the scan of a chunk of a compare ends, part of a page by part of a page.
 
-ghost use Rattle.std.specs.Prelude.{◌≡◌, ◌<◌, ◌≤◌, Some, false, length, MatchOption};
+ghost use Rattle.std.specs.Prelude.{◌≡◌, ◌<◌, ◌≤◌, Some, false, length, IsTrue, MatchOption};
 ghost use Rattle.dml_types.specs.declared.operations.Op.TheVariants.{Compare, ComparePattern};
 ghost use Rattle.dml_types.specs.Job.{op_of};
 ghost use Rattle.dml_types.specs.Memory.{has};
@@ -14,6 +14,10 @@ use crate::reach::read_fault;
 use dml_desc::Checked;
 use dml_image::Image;
 use dml_types::Found;
+
+/// How many bytes at the begin of a long chunk are compared with a pattern step by step, where those behind them go by
+/// blocks: pages that are looked through for zeros mostly differ in these.
+const NEAR: u32 = 1024;
 
 /// The next present bytes from an address on: what is left there of a part of a page that was begun, or else what the
 /// page has from there on, at most `len` bytes. `None` where the byte there is absent.
@@ -65,6 +69,24 @@ pub fn compare_found(image: &Image, job: &Checked, from: u32, to: u32) -> Found
     Found::All
 }
 
+/// How many of the bytes left of a chunk are compared with a pattern next: [`NEAR`] at its begin, where at least as many
+/// lie behind them, else all.
+#[inline(always)]
+fn looked_at(left: u32, is_first: bool) -> u32
+    requires { 0 < left }
+    ensures some { 0 < result }
+    ensures within { result ≤ left }
+    ensures near { IsTrue is_first → 2048 ≤ left → result ≡ 1024 }
+    ensures short { left < 2048 → result ≡ left }
+    ensures later { is_first ≡ false → result ≡ left }
+{
+    if is_first && left >= 2 * NEAR {
+        NEAR
+    } else {
+        left
+    }
+}
+
 /// The first place at which a part of a chunk differs from a pattern; its length where there is none. A first part
 /// often differs near its beginning, one behind it seldom.
 #[inline(always)]
@@ -91,10 +113,11 @@ pub fn compare_pattern_found(image: &Image, job: &Checked, from: u32, to: u32) -
     let mut at = from;
     while at < to {
         let place = job.source + u64::from(at);
-        let Some(part) = next_part(image, &[], place, to - at) else {
+        let is_first = at == from;
+        let Some(part) = next_part(image, &[], place, looked_at(to - at, is_first)) else {
             return read_fault(at - from, place);
         };
-        let same = unlike_in_part(part, job.target, at, at == from);
+        let same = unlike_in_part(part, job.target, at, is_first);
         at += same as u32;
         if same < part.len() {
             return Found::Differs { done: at - from };

@@ -116,6 +116,34 @@ fn compares_of_blocks(rt: HostRuntime) -> Result<(), Fail> {
     Ok(())
 }
 
+/// A difference before, at and behind the place from which on a long chunk is compared with a pattern in blocks, 1,024
+/// bytes from its begin: where the page ends far behind it, there, and a byte beside.
+#[test]
+fn pattern_compares_behind_a_kibibyte(rt: HostRuntime) -> Result<(), Fail> {
+    let mut arena = Arena::new(rt.alloc(), STAGING)?;
+    for source in [0_u32, 5, 3071, 3072, 3073] {
+        for place in [1022_u32, 1023, 1024, 1025, 1535, 1536, 2047, 2048] {
+            let unlike = u64::from(source) + u64::from(place);
+            let image = image_but(rt.alloc(), &[0, 1], 0x5a, &[unlike])?;
+            for len in [2047_u32, 2048, 2049, 4096] {
+                let job = Job::compare_pattern(source.into(), 0x5a5a_5a5a_5a5a_5a5a, len);
+                let want = if place < len {
+                    Found::Differs { done: place }
+                } else {
+                    Found::All
+                };
+                let found = found_of(&rt, &image, &mut arena, &job);
+                assert_eq!(rt;
+                    found,
+                    want,
+                    "{len} from {source} with another byte at {place}"
+                );
+            }
+        }
+    }
+    Ok(())
+}
+
 /// How a job ends that is cut in chunks of one size: the first stop of a chunk, counted from the job's start.
 fn stop_of_chunks(
     rt: &impl Abort,

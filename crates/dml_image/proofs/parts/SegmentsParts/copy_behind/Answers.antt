@@ -1,0 +1,8 @@
+use Rattle.dml_image.proofs.MoveLemmas.{first_present}
+use Rattle.dml_image.proofs.parts.SegmentsParts.copy_behind.Goals as goal
+
+pub copy_behind-requires-clause-present : goal.copy_behind-requires-clause-present
+copy_behind-requires-clause-present c = (
+  first_present c.args.self.now _ _ c.requires.from c.requires.some,
+  first_present c.args.self.now _ _ c.requires.to c.requires.some,
+)

@@ -15,8 +15,8 @@ use dml_desc::Checked;
 use dml_image::Image;
 use dml_types::Found;
 
-/// How many bytes at the begin of a long chunk are compared with a pattern step by step, where those behind them go by
-/// blocks: pages that are looked through for zeros mostly differ in these.
+/// How many bytes at the beginning of a long chunk are compared with a pattern step by step, where those behind them go
+/// by blocks: pages that are looked through for zeros mostly differ in these.
 const NEAR: u32 = 1024;
 
 /// The next present bytes from an address on: what is left there of a part of a page that was begun, or else what the
@@ -69,8 +69,8 @@ pub fn compare_found(image: &Image, job: &Checked, from: u32, to: u32) -> Found
     Found::All
 }
 
-/// How many of the bytes left of a chunk are compared with a pattern next: [`NEAR`] at its begin, where at least as many
-/// lie behind them, else all.
+/// How many of the bytes left of a chunk are compared with a pattern next: [`NEAR`] at its beginning, where at least as
+/// many lie behind them, else all.
 #[inline(always)]
 fn looked_at(left: u32, is_first: bool) -> u32
     requires { 0 < left }

@@ -117,7 +117,7 @@ fn compares_of_blocks(rt: HostRuntime) -> Result<(), Fail> {
 }
 
 /// A difference before, at and behind the place from which on a long chunk is compared with a pattern in blocks, 1,024
-/// bytes from its begin: where the page ends far behind it, there, and a byte beside.
+/// bytes from its beginning: where the page ends far behind it, there, and a byte beside.
 #[test]
 fn pattern_compares_behind_a_kibibyte(rt: HostRuntime) -> Result<(), Fail> {
     let mut arena = Arena::new(rt.alloc(), STAGING)?;

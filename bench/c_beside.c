@@ -107,6 +107,12 @@ static void print_rows(uint32_t size)
               (kazovuni_job){.opcode = KAZOVUNI_OP_MOVE, .source = from, .target = from + 8, .size = size});
     print_row("move_down_8",
               (kazovuni_job){.opcode = KAZOVUNI_OP_MOVE, .source = from + 8, .target = from, .size = size});
+    if (size > MEBIBYTE / 32) {
+        print_row("move_up_4096",
+                  (kazovuni_job){.opcode = KAZOVUNI_OP_MOVE, .source = from, .target = from + 4096, .size = size});
+        print_row("move_down_4096",
+                  (kazovuni_job){.opcode = KAZOVUNI_OP_MOVE, .source = from + 4096, .target = from, .size = size});
+    }
     print_row("fill", (kazovuni_job){.opcode = KAZOVUNI_OP_FILL, .source = pattern, .target = to, .size = size});
     print_row("compare", (kazovuni_job){.opcode = KAZOVUNI_OP_COMPARE, .source = from, .target = to, .size = size});
     print_row("compare_pattern",
